@@ -386,8 +386,8 @@ def begins(programs):
     with open(f"{folder}/crew.sbi", "w", encoding="utf-8") as file:
         file.write("board 4 1 1\nformat\non fresh\n" + "".join(f"turn {k % 4} 40\n" for k in range(200)))
     turns, crew = f"{DATA}/turns.sbi", f"{folder}/crew.sbi"
-    wanted = [(turns, "--schedule 4"), (turns, "--schedule 7 --seed 2"), (turns, "--preemptions 1 --order 33"), (crew, "--sweep --row 40"),
-              (crew, "--sweep --row 50"), (crew, "--faults --row 10")]
+    wanted = [(turns, "--schedule 4"), (turns, "--schedule 7 --seed 2"), (crew, "--sweep --row 40"), (crew, "--sweep --row 50"),
+              (crew, "--faults --row 10")]
     wrong = 0
     for script, options in wanted:
         words = [script, "--p0", f"{DATA}/crew.bin", "--quantum", "20", *options.split()]

@@ -6,12 +6,11 @@ use Rattle.board_model.specs.declared.refusal.Refusal.TheVariants.{Memory}
 use Rattle.machine.specs.declared.line.MachineLine.TheVariants as shown
 use Rattle.script_lang.specs.declared.line.Line.{Line}
 use Rattle.script_lang.specs.declared.line.Line.TheVariants as lines
-use Rattle.simdisk.specs.declared.SimDisk.{SimDisk}
 use Rattle.simdisk.specs.declared.fill.Fill.{Fill}
 use Rattle.sbi.specs.Words.{life_goes_on}
 use Rattle.sbi.specs.declared.words.Word.{Word}
 use Rattle.sbi.specs.declared.words.Word.TheVariants as words
-use Rattle.bench_report.specs.Agree.{Agrees, ArmedAlike, ArmsIts, CountsNone, CutsIts, EndsBy, HadEnough, HasDisk, InspectsOrLost, IsBench, Matches, MovesEnough, PokesIts}
+use Rattle.bench_report.specs.Agree.{Agrees, ArmsIts, CountsNone, CutsIts, EndsBy, HadEnough, InspectsOrLost, IsBench, Matches, MovesEnough, PokesIts}
 use Rattle.bench_report.specs.Bench.{Bench}
 use Rattle.bench_report.specs.Deeds.{IsNoRow, deed_of}
 use Rattle.bench_report.specs.Happens.{SaysEnough, shows, unpowered}
@@ -50,22 +49,6 @@ well_on size line fill start power after given old new r is same other had says_
     by line (Ok answer) other says_so enough reported = λ b was.
         let did = reported b was in (did.0, did.1, did.3, said_counts answer.line b did.0 says_so (moves_grow size line b answer did.0 was.2 other did.1))
     by line (Err e) other says_so enough reported = tt
-
--- ---- a board that is copied or compared
-pub shows_on : (size : Size) (b : Bench) (start : Option Power) (before after : Power) (old new : List (List ℕ)) → start ≡ Some before → (Agrees size b before → Agrees size b after) → new ≡ old → PowerShows size b start old → PowerShows size b (Some after) new
-shows_on size b start before after old new is goes same shows =
-    let P : Option Power → Type 0 = λ p. PowerShows size b p old in let was = subst P is shows in (goes was.0, same ∙ was.1, was.2)
-
-pub disk_on : (start : Option Power) (before : Power) (d : SimDisk) → start ≡ Some before → (power : Power) × (start ≡ Some power) × HasDisk power d → HasDisk before d
-disk_on start before d is (power, at, has) = let same : power ≡ before = cc in let P : Power → Type 0 = λ p. HasDisk p d in subst P same has
-
-pub alike_on : (start others : Option Power) (power theirs : Power) (old its : List (List ℕ)) → start ≡ Some power → others ≡ Some theirs → its ≡ old → ((size : Size) (b c : Bench) → Agrees size b power → Agrees size c theirs → ArmedAlike b c → Agrees size b theirs)
-    → (size : Size) (b c : Bench) → PowerShows size b start old → PowerShows size c others its → ArmedAlike b c → PowerShows size b others its
-alike_on start others power theirs old its is at same goes size b c shows shown armed =
-    let P : Option Power → Type 0 = λ p. PowerShows size b p old in
-    let Q : Option Power → Type 0 = λ p. PowerShows size c p its in
-    let was = subst P is shows in
-    rw at (goes size b c was.0 (subst Q at shown).0 armed, same ∙ was.1, was.2)
 
 -- what it did beside
 pub did_on : (size : Size) (line : Line) (fill : Fill) (start : Option Power) (power after : Power) (given old new : List (List ℕ)) (r : Result Answer Refusal) → start ≡ Some power → given ≡ old

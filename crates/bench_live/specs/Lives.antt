@@ -5,13 +5,12 @@ use Rattle.sbi.specs.declared.words.Word.{Word}
 use Rattle.bench_report.specs.declared.power.Power.{Power}
 use Rattle.bench_report.specs.declared.power.Power.TheVariants.{Off, On}
 use Rattle.bench_report.specs.Bench.{Bench, BenchLife}
-use Rattle.bench_report.specs.Agree.{Agrees, ArmedAlike, ArmsIts, BoardAfter, CountsNone, CutsIts, EndsBy, HasDisk, InspectsOrLost, IsBench, IsCutBy, IsUnstruck, PokesIts}
+use Rattle.bench_report.specs.Agree.{Agrees, ArmsIts, BoardAfter, CountsNone, CutsIts, EndsBy, HasDisk, InspectsOrLost, IsBench, IsCutBy, IsUnstruck, PokesIts}
 use Rattle.bench_report.specs.Happens.{unpowered}
 use Rattle.report_lines.specs.declared.printed.Answer.{Answer}
 use Rattle.script_lang.specs.declared.line.Line.{Line}
 use Rattle.simdisk.specs.declared.SimDisk.{SimDisk}
 use Rattle.simdisk.specs.declared.fill.Fill.{Fill}
-use Rattle.bench_report.specs.Steps.{Run}
 use Rattle.bench_report.specs.Turns.{GuestTurns}
 use Rattle.machine.specs.Shows.{HasHart}
 use Rattle.bench_live.specs.declared.live.LiveBench.{LiveBench}
@@ -32,20 +31,6 @@ IsReady (Some power) = IsUnstruck power
 
 abbrev pub IsSound : LiveBench → Type 0
 IsSound live = IsReady live.power
-
--- What lines may follow one of them may follow the other: what bench the first stands for, the second stands for it too, where the same
--- was ever armed on both.
-abbrev pub IsAlike : LiveBench → LiveBench → Type 0
-IsAlike live other = (size : Size) (b c : Bench) → Shows size b live → Shows size c other → ArmedAlike b c → Shows size b other
-
--- These lines, answered so, may bring each bench that the first stands for to one that the other stands for.
-abbrev pub RanOn : Size → LiveBench → List Line → List Answer → LiveBench → Type 0
-RanOn size live lines answers other =
-    (c : Bench) → Shows size c live → (new : Bench) × Run size c lines answers new × Shows size new other
-
--- the disk of a bench between two lines
-abbrev pub HasLiveDisk : LiveBench → SimDisk → Type 0
-HasLiveDisk live d = (power : Power) × (live.power ≡ Some power) × HasDisk power d
 
 -- the board is on
 abbrev pub IsOn : Power → Type 0

@@ -13,7 +13,7 @@ mod past;
 mod places;
 mod rows;
 
-pub use laws::{alike_benches_run_alike, idle_turns_change_nothing, rows_join, turns_arm_nothing};
+pub use laws::{idle_turns_change_nothing, rows_join};
 pub use live::LiveBench;
 pub use notes::note;
 pub use past::LineHistory;

@@ -1,16 +1,15 @@
 //! The bench between two lines.
 
-ghost use Rattle.std.specs.Prelude.{◌≡◌, ◌≤◌, ◌↔◌, true, false, Some, IfOk, IfErr, OnOk};
-ghost use Rattle.disk.specs.declared.device.ArmedFault.{ArmedFault};
+ghost use Rattle.std.specs.Prelude.{◌≡◌, ◌≤◌, true, false, Some, IfOk, IfErr, OnOk};
 ghost use Rattle.simdisk.specs.declared.SimDisk.{SimDisk};
 ghost use Rattle.board_model.specs.Shapes.{Size};
 ghost use Rattle.board_model.specs.declared.refusal.Refusal.TheVariants.{Memory};
-ghost use Rattle.bench_report.specs.Agree.{IsCopyOf, OffIs, fill_after};
+ghost use Rattle.bench_report.specs.Agree.{OffIs, fill_after};
 ghost use Rattle.bench_report.specs.Bench.{Bench, bench_with};
 ghost use Rattle.bench_report.specs.Happens.{off};
 ghost use Rattle.bench_report.specs.Steps.{Moves};
-ghost use Rattle.bench_report.specs.Views.{arms, facts};
-ghost use Rattle.bench_live.specs.Lives.{HasLiveDisk, IsAlike, IsSettled, IsSound, IsThere, LineDid, Shows};
+ghost use Rattle.bench_report.specs.Views.{facts};
+ghost use Rattle.bench_live.specs.Lives.{IsSettled, IsSound, IsThere, LineDid, Shows};
 ghost use Rattle.bench_report.specs.declared.power.Power.{Power};
 ghost use Rattle.bench_live.specs.Rows.{IsWithin, RowMoves, row_answer};
 ghost use Rattle.script_lang.specs.Lines.{IsLineInRange};
@@ -23,8 +22,7 @@ use crate::in_place::{in_place, is_still_on};
 use crate::memory::was_refused;
 use crate::rows::TurnRow;
 use bench_report::{
-    Answer, BenchBoard, OffDisk, Power, Setting, copy_power, disk_left, is_power_as,
-    line_with_cuts, refused_suspension,
+    Answer, BenchBoard, OffDisk, Power, Setting, disk_left, line_with_cuts, refused_suspension,
 };
 use board::Payloads;
 use board_model::{HartId, Refusal, Shape};
@@ -154,71 +152,6 @@ impl LiveBench {
         let (left, lost) = settled(power, word, self.fill);
         self.power = Some(left);
         lost
-    }
-
-    /// A bench that stands as this one, off or on, with a disk of its own that holds what this one's holds, has counted the same calls and
-    /// has the same armed. This one stays as it is. Refused `Memory` where memory is.
-    pub fn copy(&mut self, alloc: Global) -> Result<LiveBench, Refusal>
-        requires sound { IsSound self.old }
-        ensures stays { (size : Size) (b : Bench) → Shows size b self.old → Shows size b self.new }
-        ensures sound { IsSound self.new }
-        ensures rest { (self.new.fill ≡ self.old.fill) × (self.new.refused ≡ self.old.refused) }
-        ensures disk { (d : SimDisk) → HasLiveDisk self.old d → HasLiveDisk self.new d }
-        ensures copy { IfOk result (λ copy. (size : Size) (b : Bench) → Shows size b self.old → Shows size b copy) }
-        ensures copy_sound { IfOk result (λ copy. IsSound copy) }
-        ensures copy_rest { IfOk result (λ copy. (copy.fill ≡ self.old.fill) × (copy.refused ≡ self.old.refused)) }
-        ensures alike { IfOk result
-            (λ copy. (d e : SimDisk) → HasLiveDisk self.old d → HasLiveDisk copy e → IsCopyOf d e) }
-        ensures refused { IfErr result (λ e. e ≡ Memory) }
-    {
-        let payloads = self.payloads.copy()?;
-        let Some(power) = &mut self.power else {
-            return Err(Refusal::Memory);
-        };
-        let power = copy_power(alloc, power)?;
-        Ok(LiveBench {
-            power: Some(power),
-            payloads,
-            fill: self.fill,
-            refused: self.refused,
-        })
-    }
-
-    /// Whether another bench stands as this one, off or on, as far as any later line can tell: its board with memory, harts, tables and doze,
-    /// its disk with what a crash may leave, what is armed and how many calls are left to it, what an armed cut is to leave, and what the
-    /// slots boot. Both stay as they are. Where the answer is false they may stand alike all the same.
-    pub fn is_as(&mut self, other: &mut LiveBench) -> bool
-        requires sound { IsSound self.old × IsSound other.old }
-        ensures stays { (size : Size) (b : Bench) → Shows size b self.old → Shows size b self.new }
-        ensures other_stays { (size : Size) (b : Bench) → Shows size b other.old → Shows size b other.new }
-        ensures sound { IsSound self.new × IsSound other.new }
-        ensures rest { (self.new.fill ≡ self.old.fill) × (self.new.refused ≡ self.old.refused)
-            × (other.new.fill ≡ other.old.fill) × (other.new.refused ≡ other.old.refused) }
-        ensures same { result ≡ true → IsAlike self.old other.old }
-        ensures fill { result ≡ true → (other.old.fill ≡ self.old.fill) × (other.old.refused ≡ self.old.refused) }
-        ensures armed { result ≡ true → (d e : SimDisk) → HasLiveDisk self.old d → HasLiveDisk other.old e
-            → (fault : ArmedFault) → arms e fault ↔ arms d fault }
-    {
-        if !self.has_rest_of(other) {
-            return false;
-        }
-        let Some(power) = &mut self.power else {
-            return false;
-        };
-        let Some(theirs) = &mut other.power else {
-            return false;
-        };
-        is_power_as(power, theirs)
-    }
-
-    /// Whether the other bench boots the same, has an armed cut leave the same, and was refused memory as this one was.
-    fn has_rest_of(&self, other: &LiveBench) -> bool
-        ensures payloads { result ≡ true → other.now.payloads ≡ self.now.payloads }
-        ensures rest { result ≡ true → (other.now.fill ≡ self.now.fill) × (other.now.refused ≡ self.now.refused) }
-    {
-        self.fill == other.fill
-            && self.refused == other.refused
-            && self.payloads.is_as(&other.payloads)
     }
 
     /// The disk of a bench that goes no further, of a board whose power is off.

@@ -1,4 +1,3 @@
 pub mod Deals
 pub mod Orders
-pub mod Preempted
 pub mod Drawn

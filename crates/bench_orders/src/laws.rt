@@ -1,9 +1,8 @@
 //! Laws of orders, each the contract of a function that does nothing.
 
-ghost use Rattle.std.specs.Prelude.{◌≡◌, ◌≤◌, ◌+◌, ℕ, List, ◌++◌, All, length};
+ghost use Rattle.std.specs.Prelude.{◌≡◌, ℕ, List, ◌++◌, All};
 ghost use Rattle.script_lang.specs.declared.line.Line.{Line};
-ghost use Rattle.bench_orders.specs.Orders.{IsTurn, named, other_count, AreOrderOf, IsOrderFor};
-ghost use Rattle.bench_orders.specs.Preempted.{parted};
+ghost use Rattle.bench_orders.specs.Orders.{IsTurn, named, other_count, AreOrderOf};
 
 /// Where lines of turns take the place of others, and each hart has as many turns in them, the lines are an order of
 /// the others: whatever stands before and behind.
@@ -17,14 +16,4 @@ pub fn rows_may_change()
 #[tactic(auto, using(crate::proofs::SeenRows::others_stay))]
 pub fn orders_keep_lines()
     ensures { (old new : List Line) → AreOrderOf old new → other_count new ≡ other_count old }
-{}
-
-/// Lines of which a row is parted are an order of the lines, with only such lines as these have.
-pub fn preemptions_are_orders()
-    ensures { (place turns : ℕ) (lines : List Line) → IsOrderFor lines (parted place turns lines) }
-{}
-
-/// Lines of which a row is parted are at most one line more.
-pub fn preemptions_add_one_line()
-    ensures { (place turns : ℕ) (lines : List Line) → length (parted place turns lines) ≤ length lines + 1 }
 {}

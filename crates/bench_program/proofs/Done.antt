@@ -2,8 +2,8 @@
 use Rattle.std.proofs.Common.{◌≡◌, ◌⊎◌, ◌<◌, inl, ℕ, Bool, List, Option, Result, IfSome, OnOk, subst}
 use Rattle.std.proofs.lemmas.Result.{on_ok_weaker}
 use Rattle.board_files.specs.Named.{AreFilesOf}
-use Rattle.bench_program.specs.Usage.{payload_files, recovery_file}
-use Rattle.bench_program.specs.Written.{AreDone, IsFaultIn, IsFaultOf, IsReadOf, IsRecoveryOf, IsWritten, source_of}
+use Rattle.bench_program.specs.Usage.{payload_files}
+use Rattle.bench_program.specs.Written.{AreDone, IsFaultIn, IsFaultOf, IsReadOf, IsWritten, source_of}
 use Rattle.bench_program.specs.declared.fault.BenchFault.{BenchFault}
 use Rattle.bench_program.specs.declared.usage.BenchOptions.{BenchOptions}
 use Rattle.bench_program.proofs.Bounded.{read_says}
@@ -18,18 +18,15 @@ pub wrong_of : (D E : ℕ → Type 0) (F : Type 0) → ((n : ℕ) → D n → E 
     → (differ : ℕ) × (0 < differ) × (E differ × F)
 wrong_of D E F f (differ, some, (d, k)) = (differ, some, (f differ d, k))
 
--- the script and the recovery were read, and the work done over what these texts hold
-module _ (options : BenchOptions) (bytes_at : List ℕ → Option (List ℕ)) (input : Option (List ℕ)) (payloads : List (List ℕ)) (recovery script r s : List ℕ)
-    (is_script : s ≡ script) (is_recovery : r ≡ recovery) (files : AreFilesOf bytes_at (payload_files options) payloads)
-    (named : IsRecoveryOf bytes_at (recovery_file options) recovery) (bytes : IfSome (source_of options bytes_at input) (IsReadOf script)) where
-  pub over : (differ : ℕ) (a b : Option (List ℕ)) → IsWritten options payloads r s differ a b → AreDone options bytes_at input differ a b
+-- the script was read, and the work done over what its text holds
+module _ (options : BenchOptions) (bytes_at : List ℕ → Option (List ℕ)) (input : Option (List ℕ)) (payloads : List (List ℕ)) (script s : List ℕ)
+    (is_script : s ≡ script) (files : AreFilesOf bytes_at (payload_files options) payloads) (bytes : IfSome (source_of options bytes_at input) (IsReadOf script)) where
+  pub over : (differ : ℕ) (a b : Option (List ℕ)) → IsWritten options payloads s differ a b → AreDone options bytes_at input differ a b
   over differ a b is =
-      let P : List ℕ → Type 0 = λ x. IsWritten options payloads r x differ a b in
-      let Q : List ℕ → Type 0 = λ x. IsWritten options payloads x script differ a b in
-      (payloads, files, recovery, named, (script, read_says (source_of options bytes_at input) script bytes, bytes, subst Q is_recovery (subst P is_script is)))
+      let P : List ℕ → Type 0 = λ x. IsWritten options payloads x differ a b in
+      (payloads, files, (script, read_says (source_of options bytes_at input) script bytes, bytes, subst P is_script is))
 
-  pub fault_over : (gone : Bool) (fault : BenchFault) → IsFaultIn options.work payloads r s gone fault → IsFaultOf options bytes_at input gone fault
+  pub fault_over : (gone : Bool) (fault : BenchFault) → IsFaultIn options.work payloads s gone fault → IsFaultOf options bytes_at input gone fault
   fault_over gone fault is =
-      let P : List ℕ → Type 0 = λ x. IsFaultIn options.work payloads r x gone fault in
-      let Q : List ℕ → Type 0 = λ x. IsFaultIn options.work payloads x script gone fault in
-      (payloads, recovery, script, files, named, read_says (source_of options bytes_at input) script bytes, bytes, subst Q is_recovery (subst P is_script is))
+      let P : List ℕ → Type 0 = λ x. IsFaultIn options.work payloads x gone fault in
+      (payloads, script, files, read_says (source_of options bytes_at input) script bytes, bytes, subst P is_script is)

@@ -6,25 +6,17 @@ use Rattle.board_model.specs.declared.refusal.Refusal.{Refusal}
 use Rattle.board_model.specs.declared.refusal.Refusal.TheVariants.{Output}
 use Rattle.bench_sweep.specs.declared.judges.Sweep.{Sweep}
 use Rattle.bench_sweep.specs.declared.plan.SweepPlan.{SweepPlan}
-use Rattle.bench_sweep.specs.Swept.{IsBenchOf, IsRecoveredBenchOf}
-use Rattle.bench_sweep.specs.declared.sweeps.Recovered.{Recovered}
+use Rattle.bench_sweep.specs.Swept.{IsBenchOf}
 use Rattle.bench_sweep.specs.Shown.{IsRowOf}
 use Rattle.bench_sweep.specs.declared.points.BenchKind.{BenchKind}
-use Rattle.bench_sweep.specs.declared.recovery.RecoveryFile.{RecoveryFile}
 use Rattle.script_lang.specs.Scripts.{script_of, Script as Said}
-use Rattle.bench_sweep.specs.declared.shown.WantedRow.{WantedRow}
-use Rattle.bench_schedules.specs.Numbers.{numbers_of}
 use Rattle.bench_schedules.specs.declared.benches.SchedulePlan.{SchedulePlan}
-use Rattle.bench_schedules.specs.declared.preempted_benches.OrderBounds.{OrderBounds}
-use Rattle.bench_schedules.specs.Shown.{ShownOrder}
 use Rattle.bench_schedules.specs.Shrunk.{Shrunk}
-use Rattle.bench_schedules.specs.declared.shown.Wanted.{Wanted}
 use Rattle.bench_program.specs.declared.fault.BenchFault.{BenchFault}
-use Rattle.bench_program.specs.declared.usage.DrawnSchedule.{DrawnSchedule}
 use Rattle.bench_program.specs.declared.usage.Work.{Work}
-use Rattle.bench_program.specs.declared.usage.Work.TheVariants.{Report, Judge, Recover, ShowRow, ShowRecovered, Compare, Show, Shrink, Preempt, ShowOrder}
+use Rattle.bench_program.specs.declared.usage.Work.TheVariants.{Report, Judge, ShowRow, Compare, Show, Shrink}
 use Rattle.bench_program.specs.Faults.{IsEndOf}
-use Rattle.bench_program.specs.Written.{IsCompared, IsFaultIn, IsMade, IsOrderShown, IsPreempted, IsPut, IsRecovered, IsRefusedWith, IsReported, IsRowShown, IsShown, IsShrunk, MayTellWrong}
+use Rattle.bench_program.specs.Written.{IsCompared, IsFaultIn, IsMade, IsPut, IsRefusedWith, IsReported, IsShown, IsShrunk, MayTellWrong}
 use Rattle.bench_program.proofs.Told.{told}
 
 -- what is handed on stays written
@@ -41,12 +33,8 @@ wrote_on plan start script a b c sweep (said, is, w) keeps = (
   record {
     begin = w.begin;
     first = w.first;
-    format = w.format;
-    plain = w.plain;
     origin = w.origin;
-    stands = w.stands;
-    ended = w.ended;
-    took = w.took;
+    begins = w.begins;
     counts = w.counts;
     calls = w.calls;
     rows = w.rows;
@@ -59,49 +47,14 @@ wrote_on plan start script a b c sweep (said, is, w) keeps = (
   },
 )
 
-recovered_on : (plan : SweepPlan) (start : List (List ℕ)) (script recovery numbers : List ℕ) (a b c : Option (List ℕ)) (done : Recovered)
-    → IsRecoveredBenchOf plan start script recovery numbers a b done → Keeps b c → IsRecoveredBenchOf plan start script recovery numbers a c done
-recovered_on plan start script recovery numbers a b c done (said, after, is, says, plain, none, looks, (mid, rows, text)) keeps =
-    (said, after, is, says, plain, none, looks, (mid, rows, handed_on mid b c _ text keeps))
-
-preempted_on : (within : OrderBounds) (start : List (List ℕ)) (script : List ℕ) (a b c : Option (List ℕ)) (differ : ℕ) → IsPreempted within start script a b differ → Keeps b c
-    → IsPreempted within start script a c differ
-preempted_on within start script a b c differ (said, is, orders, w) keeps = (
-  said,
-  is,
-  orders,
-  record {
-    own = w.own;
-    ran = w.ran;
-    runs = w.runs;
-    last = w.last;
-    wrote = w.wrote;
-    count = w.count;
-    others = w.others;
-    all = w.all;
-    alike = w.alike;
-    ended = handed_on w.last b c _ w.ended keeps;
-  },
-)
-
-order_on : (wanted : Wanted) (start : List (List ℕ)) (script : List ℕ) (a b c : Option (List ℕ))
-    → ((said : Said) × (script_of script ≡ Ok said) × ShownOrder said start (numbers_of script) wanted.most wanted.number a b) → Keeps b c → IsOrderShown wanted start script a c
-order_on wanted start script a b c (said, is, (ones, nth, w)) keeps = (
-  said,
-  is,
-  (ones, nth, record { order = w.order; writable = w.writable; reads = w.reads; text = handed_on a b c _ w.text keeps }),
-)
-
-shrunk_on : (drawn : DrawnSchedule) (start : List (List ℕ)) (script : List ℕ) (a b c : Option (List ℕ)) → ((said : Said) × (script_of script ≡ Ok said) × Shrunk said start drawn.seed drawn.number a b) → Keeps b c → IsShrunk drawn start script a c
-shrunk_on drawn start script a b c (said, is, w) keeps = (
+shrunk_on : (start : List (List ℕ)) (script : List ℕ) (a b c : Option (List ℕ)) → ((said : Said) × (script_of script ≡ Ok said) × Shrunk said start a b) → Keeps b c → IsShrunk start script a c
+shrunk_on start script a b c (said, is, w) keeps = (
   said,
   is,
   record {
     own = w.own;
     ran_own = w.ran_own;
-    fronts = w.fronts;
     drawn = w.drawn;
-    drawn_as = w.drawn_as;
     drawn_order = w.drawn_order;
     schedule = w.schedule;
     order = w.order;
@@ -112,19 +65,15 @@ shrunk_on drawn start script a b c (said, is, w) keeps = (
   },
 )
 
-row_on : (bench : BenchKind) (number : ℕ) (start : List (List ℕ)) (script : List ℕ) (recovery : Option RecoveryFile) (a b c : Option (List ℕ)) → IsRowOf bench number start script recovery a b → Keeps b c
-    → IsRowOf bench number start script recovery a c
-row_on bench number start script recovery a b c (said, behind, is, after, row) keeps = (
+row_on : (bench : BenchKind) (number : ℕ) (start : List (List ℕ)) (script : List ℕ) (a b c : Option (List ℕ)) → IsRowOf bench number start script a b → Keeps b c → IsRowOf bench number start script a c
+row_on bench number start script a b c (said, is, row) keeps = (
   said,
-  behind,
   is,
-  after,
   record {
     begin = row.begin;
     first = row.first;
-    format = row.format;
     origin = row.origin;
-    stands = row.stands;
+    begins = row.begins;
     shows = record {
       run = row.shows.run;
       has = row.shows.has;
@@ -143,7 +92,6 @@ compared_on plan start script a b c differ (said, is, w) keeps = (
   record {
     own = w.own;
     ran = w.ran;
-    fronts = w.fronts;
     tight = w.tight;
     first = w.first;
     begun = w.begun;
@@ -153,14 +101,12 @@ compared_on plan start script a b c differ (said, is, w) keeps = (
   },
 )
 
-shown_on : (drawn : DrawnSchedule) (script : List ℕ) (a b c : Option (List ℕ)) → IsShown drawn script a b → Keeps b c → IsShown drawn script a c
-shown_on drawn script a b c (said, is, w) keeps = (
+shown_on : (script : List ℕ) (a b c : Option (List ℕ)) → IsShown script a b → Keeps b c → IsShown script a c
+shown_on script a b c (said, is, w) keeps = (
   said,
   is,
   record {
-    fronts = w.fronts;
     schedule = w.schedule;
-    drawn = w.drawn;
     order = w.order;
     writable = w.writable;
     reads = w.reads;
@@ -171,55 +117,35 @@ shown_on drawn script a b c (said, is, w) keeps = (
 reported_on : (start : List (List ℕ)) (script : List ℕ) (a b c : Option (List ℕ)) → IsReported start script a b → Keeps b c → IsReported start script a c
 reported_on start script a b c (said, answers, end, is, report, text, law) keeps = (said, answers, end, is, report, handed_on a b c _ text keeps, law)
 
-recovered_done : (plan : SweepPlan) (start : List (List ℕ)) (recovery script : List ℕ) (a b c : Option (List ℕ)) (differ : ℕ) → IsRecovered plan start recovery script a b differ → Keeps b c
-    → IsRecovered plan start recovery script a c differ
-recovered_done plan start recovery script a b c differ (done, w, count) keeps = (done, recovered_on plan start script recovery (numbers_of recovery) a b c done w keeps, count)
-
-row_shown : (row : WantedRow) (start : List (List ℕ)) (recovery script : List ℕ) (a b c : Option (List ℕ)) → IsRowShown row start recovery script a b → Keeps b c
-    → IsRowShown row start recovery script a c
-row_shown row start recovery script a b c (file, of, w) keeps = (file, of, row_on row.bench row.number start script (Some file) a b c w keeps)
-
-made_on : (work : Work) (start : List (List ℕ)) (recovery script : List ℕ) (differ : ℕ) (a b c : Option (List ℕ)) → IsMade work start recovery script differ a b → Keeps b c
-    → IsMade work start recovery script differ a c
-made_on (Report savers) start recovery script differ a b c w keeps = (w.0, reported_on start script a b c w.1 keeps)
-made_on (Judge plan) start recovery script differ a b c w keeps = (w.0, w.1, wrote_on plan start script a b c w.1 w.2 keeps)
-made_on (Recover plan) start recovery script differ a b c w keeps = recovered_done plan start recovery script a b c differ w keeps
-made_on (ShowRow row) start recovery script differ a b c w keeps = (w.0, row_on row.bench row.number start script None a b c w.1 keeps)
-made_on (ShowRecovered row) start recovery script differ a b c w keeps = (w.0, row_shown row start recovery script a b c w.1 keeps)
-made_on (Compare plan) start recovery script differ a b c w keeps = (w.0, compared_on plan start script a b c differ w.1 keeps)
-made_on (Show drawn) start recovery script differ a b c w keeps = (w.0, shown_on drawn script a b c w.1 keeps)
-made_on (Shrink drawn) start recovery script differ a b c w keeps = (w.0, shrunk_on drawn start script a b c w.1 keeps)
-made_on (Preempt within) start recovery script differ a b c w keeps = (w.0, preempted_on within start script a b c differ w.1 keeps)
-made_on (ShowOrder wanted) start recovery script differ a b c w keeps = (w.0, order_on wanted start script a b c w.1 keeps)
+made_on : (work : Work) (start : List (List ℕ)) (script : List ℕ) (differ : ℕ) (a b c : Option (List ℕ)) → IsMade work start script differ a b → Keeps b c
+    → IsMade work start script differ a c
+made_on (Report savers) start script differ a b c w keeps = (w.0, reported_on start script a b c w.1 keeps)
+made_on (Judge plan) start script differ a b c w keeps = (w.0, w.1, wrote_on plan start script a b c w.1 w.2 keeps)
+made_on (ShowRow row) start script differ a b c w keeps = (w.0, row_on row.bench row.number start script a b c w.1 keeps)
+made_on (Compare plan) start script differ a b c w keeps = (w.0, compared_on plan start script a b c differ w.1 keeps)
+made_on (Show drawn) start script differ a b c w keeps = (w.0, shown_on script a b c w.1 keeps)
+made_on (Shrink drawn) start script differ a b c w keeps = (w.0, shrunk_on start script a b c w.1 keeps)
 
 none_tells : {A : Type 0} (differ : ℕ) → 0 < differ → differ ≡ 0 → A
 none_tells differ some none = absurd (omega (arith, some, none))
 
 -- a work of which some runs tell that something is wrong may tell that
-may_tell : (work : Work) (start : List (List ℕ)) (recovery script : List ℕ) (differ : ℕ) (a b : Option (List ℕ)) → 0 < differ → IsMade work start recovery script differ a b → MayTellWrong work
-may_tell (Report savers) start recovery script differ a b some w = none_tells differ some w.0
-may_tell (Judge plan) start recovery script differ a b some w = none_tells differ some w.0
-may_tell (Recover plan) start recovery script differ a b some w = tt
-may_tell (ShowRow row) start recovery script differ a b some w = none_tells differ some w.0
-may_tell (ShowRecovered row) start recovery script differ a b some w = none_tells differ some w.0
-may_tell (Compare plan) start recovery script differ a b some w = tt
-may_tell (Show drawn) start recovery script differ a b some w = none_tells differ some w.0
-may_tell (Shrink drawn) start recovery script differ a b some w = none_tells differ some w.0
-may_tell (Preempt within) start recovery script differ a b some w = tt
-may_tell (ShowOrder wanted) start recovery script differ a b some w = none_tells differ some w.0
+may_tell : (work : Work) (start : List (List ℕ)) (script : List ℕ) (differ : ℕ) (a b : Option (List ℕ)) → 0 < differ → IsMade work start script differ a b → MayTellWrong work
+may_tell (Report savers) start script differ a b some w = none_tells differ some w.0
+may_tell (Judge plan) start script differ a b some w = none_tells differ some w.0
+may_tell (ShowRow row) start script differ a b some w = none_tells differ some w.0
+may_tell (Compare plan) start script differ a b some w = tt
+may_tell (Show drawn) start script differ a b some w = none_tells differ some w.0
+may_tell (Shrink drawn) start script differ a b some w = none_tells differ some w.0
 
 -- any work is refused where its output fails
-output_fails : (work : Work) (start : List (List ℕ)) (recovery script : List ℕ) (e : Refusal) → e ≡ Output → IsRefusedWith work start recovery script e
-output_fails (Report savers) start recovery script e is = inr (inl is)
-output_fails (Judge plan) start recovery script e is = inr (inl is)
-output_fails (Recover plan) start recovery script e is = inr (inl is)
-output_fails (ShowRow row) start recovery script e is = inr (inl is)
-output_fails (ShowRecovered row) start recovery script e is = inr (inl is)
-output_fails (Compare plan) start recovery script e is = inr (inl is)
-output_fails (Show drawn) start recovery script e is = inr (inl is)
-output_fails (Shrink drawn) start recovery script e is = inr (inl is)
-output_fails (Preempt within) start recovery script e is = inr (inl is)
-output_fails (ShowOrder wanted) start recovery script e is = inr (inl is)
+output_fails : (work : Work) (start : List (List ℕ)) (script : List ℕ) (e : Refusal) → e ≡ Output → IsRefusedWith work start script e
+output_fails (Report savers) start script e is = inr (inl is)
+output_fails (Judge plan) start script e is = inr (inl is)
+output_fails (ShowRow row) start script e is = inr (inl is)
+output_fails (Compare plan) start script e is = inr (inl is)
+output_fails (Show drawn) start script e is = inr (inl is)
+output_fails (Shrink drawn) start script e is = inr (inl is)
 
 if_made : (made : Result ℕ Refusal) (P : ℕ → Type 0) (n : ℕ) → made ≡ Ok n → IfOk made P → P n
 if_made made P n is all = subst (λ (r : Result ℕ Refusal). IfOk r P) is all
@@ -228,21 +154,21 @@ if_refused : (made : Result ℕ Refusal) (P : Refusal → Type 0) (e : Refusal) 
 if_refused made P e is all = subst (λ (r : Result ℕ Refusal). IfErr r P) is all
 
 -- ---- how a work ended, whether its text was made whole first or not
-module _ (kept : Bool) (Comes : ℕ → List ℕ → List ℕ) (work : Work) (start : List (List ℕ)) (recovery script : List ℕ) (a b c : Option (List ℕ)) (made : Result ℕ Refusal) (result : Result (Unit {0}) BenchFault)
-    (all : IfOk made (λ differ. IsPut kept Comes (IsMade work start recovery script) differ a b)) where
+module _ (kept : Bool) (Comes : ℕ → List ℕ → List ℕ) (work : Work) (start : List (List ℕ)) (script : List ℕ) (a b c : Option (List ℕ)) (made : Result ℕ Refusal) (result : Result (Unit {0}) BenchFault)
+    (all : IfOk made (λ differ. IsPut kept Comes (IsMade work start script) differ a b)) where
   abbrev Put : ℕ → Option (List ℕ) → Type 0
-  Put differ now = IsPut kept Comes (IsMade work start recovery script) differ a now
+  Put differ now = IsPut kept Comes (IsMade work start script) differ a now
 
-  put_on : (t : Bool) (differ : ℕ) → IsPut t Comes (IsMade work start recovery script) differ a b → Keeps b c → IsPut t Comes (IsMade work start recovery script) differ a c
+  put_on : (t : Bool) (differ : ℕ) → IsPut t Comes (IsMade work start script) differ a b → Keeps b c → IsPut t Comes (IsMade work start script) differ a c
   put_on true differ (text, is, wrote) keeps = (text, is, handed_on a b c _ wrote keeps)
-  put_on false differ is keeps = made_on work start recovery script differ a b c is keeps
+  put_on false differ is keeps = made_on work start script differ a b c is keeps
 
-  may_put : (t : Bool) (differ : ℕ) → 0 < differ → IsPut t Comes (IsMade work start recovery script) differ a b → MayTellWrong work
-  may_put true differ some (text, is, wrote) = may_tell work start recovery script differ _ _ some is
-  may_put false differ some is = may_tell work start recovery script differ a b some is
+  may_put : (t : Bool) (differ : ℕ) → 0 < differ → IsPut t Comes (IsMade work start script) differ a b → MayTellWrong work
+  may_put true differ some (text, is, wrote) = may_tell work start script differ _ _ some is
+  may_put false differ some is = may_tell work start script differ a b some is
 
-  put : (differ : ℕ) → made ≡ Ok differ → IsPut kept Comes (IsMade work start recovery script) differ a b
-  put differ is = if_made made (λ n. IsPut kept Comes (IsMade work start recovery script) n a b) differ is all
+  put : (differ : ℕ) → made ≡ Ok differ → IsPut kept Comes (IsMade work start script) differ a b
+  put differ is = if_made made (λ n. IsPut kept Comes (IsMade work start script) n a b) differ is all
 
   pub did : (F : Type 0) → OnOk result ((made ≡ Ok 0) × (Keeps b c × F)) → OnOk result (Put 0 c × F)
   did F ended = on_ok_weaker result (λ w. (put_on kept 0 (put 0 w.0) w.1.0, w.1.1)) ended
@@ -250,12 +176,12 @@ module _ (kept : Bool) (Comes : ℕ → List ℕ → List ℕ) (work : Work) (st
   pub told_wrong : (F : Type 0) → ((differ : ℕ) × (0 < differ) × (made ≡ Ok differ) × (Keeps b c × F)) → (differ : ℕ) × (0 < differ) × (Put differ c × F)
   told_wrong F (differ, some, is, (keeps, f)) = (differ, some, (put_on kept differ (put differ is) keeps, f))
 
-  fault_in : (gone : Bool) (fault : BenchFault) → IfErr made (IsRefusedWith work start recovery script) → IsEndOf made gone fault → IsFaultIn work start recovery script gone fault
+  fault_in : (gone : Bool) (fault : BenchFault) → IfErr made (IsRefusedWith work start script) → IsEndOf made gone fault → IsFaultIn work start script gone fault
   fault_in gone fault refused (inl (is, differ, some, ok)) =
-      let P : BenchFault → Type 0 = λ f. IsFaultIn work start recovery script gone f in
+      let P : BenchFault → Type 0 = λ f. IsFaultIn work start script gone f in
       subst P (sym is) (may_put kept differ some (put differ ok))
-  fault_in gone fault refused (inr (e, is, inl err)) = told work start recovery script gone e fault is (if_refused made _ e err refused)
-  fault_in gone fault refused (inr (e, is, inr out)) = told work start recovery script gone e fault is (output_fails work start recovery script e out)
+  fault_in gone fault refused (inr (e, is, inl err)) = told work start script gone e fault is (if_refused made _ e err refused)
+  fault_in gone fault refused (inr (e, is, inr out)) = told work start script gone e fault is (output_fails work start script e out)
 
-  pub faults : (gone : Bool) → IfErr made (IsRefusedWith work start recovery script) → IfErr result (IsEndOf made gone) → IfErr result (IsFaultIn work start recovery script gone)
-  faults gone refused ended = IfErr-weaker result (IsEndOf made gone) (IsFaultIn work start recovery script gone) (λ fault is. fault_in gone fault refused is) ended
+  pub faults : (gone : Bool) → IfErr made (IsRefusedWith work start script) → IfErr result (IsEndOf made gone) → IfErr result (IsFaultIn work start script gone)
+  faults gone refused ended = IfErr-weaker result (IsEndOf made gone) (IsFaultIn work start script gone) (λ fault is. fault_in gone fault refused is) ended

@@ -4,12 +4,11 @@ use Rattle.std.specs.Fmt.{decimal}
 use Rattle.board.specs.Boots.{payload_at}
 use Rattle.hex.specs.Hex.{encode_lower}
 use Rattle.sha2.specs.Sha256.{sha256}
-use Rattle.bench_sweep.specs.declared.plan.SweepPlan.{SweepPlan}
 use Rattle.bench_sweep.specs.declared.points.BenchKind.{BenchKind}
 use Rattle.bench_sweep.specs.declared.points.BenchKind.TheVariants.{Cuts, Fails}
 use Rattle.jobs.specs.declared.part.Part.{Part}
 use Rattle.bench_program.specs.declared.usage.Work.{Work}
-use Rattle.bench_program.specs.declared.usage.Work.TheVariants.{Judge, Recover, Compare}
+use Rattle.bench_program.specs.declared.usage.Work.TheVariants.{Judge, Compare}
 use lib.Chars.{codes}
 
 abbrev pub bench_text : BenchKind → Bool → List ℕ
@@ -24,7 +23,6 @@ schedules_text count seed = codes "schedules " ++ decimal count ++ codes " seed 
 -- the options by which a bench makes other runs, or tells of others
 abbrev pub options_text : Work → List ℕ
 options_text (Judge plan) = bench_text plan.bench plan.quiet
-options_text (Recover plan) = bench_text plan.bench plan.quiet ++ codes " recover"
 options_text (Compare plan) = schedules_text plan.count plan.seed
 options_text work = []
 
@@ -33,18 +31,17 @@ abbrev pub then_framed : List ℕ → List ℕ → List ℕ
 then_framed m text = (m ++ (decimal (length text) ++ codes ":")) ++ text
 
 -- of those options, with these payloads in the slots: what each part of one bench is of
-abbrev pub message : Work → List (List ℕ) → List ℕ → List ℕ → List ℕ
-message work payloads recovery script =
+abbrev pub message : Work → List (List ℕ) → List ℕ → List ℕ
+message work payloads script =
     then_framed
     (then_framed
     (then_framed
-    (then_framed
-    (then_framed (then_framed (then_framed [] (options_text work)) recovery) (payload_at payloads 0)) (payload_at payloads 1))
+    (then_framed (then_framed (then_framed [] (options_text work)) (payload_at payloads 0)) (payload_at payloads 1))
     (payload_at payloads 2)) (payload_at payloads 3)) script
 
 -- the first 8 bytes of its digest, in 16 digits
-abbrev pub digest_text : Work → List (List ℕ) → List ℕ → List ℕ → List ℕ
-digest_text work payloads recovery script = encode_lower (take 8 (sha256 (message work payloads recovery script)))
+abbrev pub digest_text : Work → List (List ℕ) → List ℕ → List ℕ
+digest_text work payloads script = encode_lower (take 8 (sha256 (message work payloads script)))
 
 -- the last line of a text, which is ended, ends with that word too
 abbrev pub with_tag : Option (List ℕ) → List ℕ → List ℕ
@@ -58,10 +55,9 @@ has_part (Some part) = true
 -- a part of a bench is made
 abbrev pub is_part : Work → Bool
 is_part (Judge plan) = has_part plan.part
-is_part (Recover plan) = has_part plan.part
 is_part (Compare plan) = has_part plan.part
 is_part work = false
 
 -- the digest where a part is made
-abbrev pub part_tag : Work → List (List ℕ) → List ℕ → List ℕ → Option (List ℕ)
-part_tag work payloads recovery script = if is_part work then Some (digest_text work payloads recovery script) else None
+abbrev pub part_tag : Work → List (List ℕ) → List ℕ → Option (List ℕ)
+part_tag work payloads script = if is_part work then Some (digest_text work payloads script) else None

@@ -1,5 +1,5 @@
 -- Which scripts have several orders, and which of them can show that one differs. Source: docs/SCRIPT.md, "Schedules".
-use Rattle.std.specs.Prelude.{ℕ, ◌==◌, Bool, true, false, List, [], ◌∷◌, Result, Ok, Err, if◌then◌else◌}
+use Rattle.std.specs.Prelude.{◌==◌, Bool, true, false, List, [], ◌∷◌, Result, Ok, Err, if◌then◌else◌}
 use Rattle.board_model.specs.declared.refusal.Refusal.{Refusal}
 use Rattle.script_lang.specs.Scripts.{Script}
 use Rattle.script_lang.specs.declared.line.Line.{Line}

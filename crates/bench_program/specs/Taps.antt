@@ -17,8 +17,7 @@ tells_apart line = has_word (codes " own ") line
 -- the line of the counts has no run
 abbrev pub is_untried : List ℕ → Bool
 is_untried line =
-    if has_word (codes " runs 0 ") line then true
-    else (if has_word (codes "schedules 0 ") line then true else has_word (codes " orders 0 ") line)
+    if has_word (codes " runs 0 ") line then true else has_word (codes "schedules 0 ") line
 
 -- how the test of that line ends then: nothing failed, and nothing was tried
 abbrev pub skip_text : List ℕ → List ℕ

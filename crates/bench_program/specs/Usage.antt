@@ -12,7 +12,7 @@ use Rattle.clap.specs.declared.builder.value_parser.ValueParser.TheVariants.{Non
 use Rattle.script_lang.specs.Words.{number_of, seed_of}
 use Rattle.command_line.specs.Flags.{flag_rule}
 use Rattle.command_line.specs.Kinds.{no_work}
-use Rattle.command_line.specs.Options.{option_rule, path_named, path_rule, payload_paths, value_rule, with_payloads}
+use Rattle.command_line.specs.Options.{option_rule, path_named, payload_paths, value_rule, with_payloads}
 use Rattle.command_line.specs.Parses.{AreParsed}
 use Rattle.command_line.specs.Programs.{named_app}
 use Rattle.command_line.specs.declared.NoWork.{NoWork}
@@ -22,7 +22,7 @@ use Rattle.bench_sweep.specs.declared.points.BenchKind.{BenchKind}
 use Rattle.bench_sweep.specs.declared.points.BenchKind.TheVariants.{Cuts, Fails}
 use Rattle.bench_program.specs.declared.usage.BenchOptions.{BenchOptions}
 use Rattle.bench_program.specs.declared.usage.Work.{Work}
-use Rattle.bench_program.specs.declared.usage.Work.TheVariants.{Report, Judge, Recover, ShowRow, ShowRecovered, Compare, Show, Shrink, Preempt, ShowOrder}
+use Rattle.bench_program.specs.declared.usage.Work.TheVariants.{Report, Judge, ShowRow, Compare, Show, Shrink}
 use Rattle.bench_program.specs.declared.usage.Savers.{Savers}
 use Rattle.bench_program.specs.declared.usage.Savers.TheVariants.{Turns, Threads}
 use lib.Chars.{codes}
@@ -56,9 +56,6 @@ with_schedules app =
     (with_rule (with_rule (with_rule app (count_rule (codes "schedules"))) (option_rule (codes "seed"))) (count_rule (codes "show")))
     (count_rule (codes "shrink"))
 
-abbrev pub with_preemptions : App → App
-with_preemptions app = with_rule (with_rule app (count_rule (codes "preemptions"))) (flag_rule (codes "first"))
-
 -- which of the runs of a bench are made and written, and how
 abbrev pub with_manners : App → App
 with_manners app = with_rule (with_rule (with_rule app (option_rule (codes "part"))) (flag_rule (codes "quiet"))) (flag_rule (codes "tap"))
@@ -67,14 +64,11 @@ abbrev pub sbibench : ValueParser → App
 sbibench crews =
     with_payloads
     (with_manners
-    (with_preemptions
     (with_schedules
-    (with_rule
     (with_rule
     (with_rule (with_rule (with_rule (with_rule (named_app (codes "sbibench")) script_rule) (crew_rule crews)) (flag_rule (codes "sweep")))
     (flag_rule (codes "faults")))
-    jobs_rule)
-    (path_rule (codes "recover"))))))
+    jobs_rule)))
 
 -- the payload files, by their paths
 abbrev pub payload_files : BenchOptions → List (Option (List ℕ))
@@ -83,10 +77,6 @@ payload_files options = map (option_map string_bytes) options.payloads
 -- the script's file, by its path
 abbrev pub script_file : BenchOptions → Option (List ℕ)
 script_file options = option_map string_bytes options.script
-
--- the file of an operator's recovery, by its path
-abbrev pub recovery_file : BenchOptions → Option (List ℕ)
-recovery_file options = option_map string_bytes options.recovery
 
 -- the crew of a word
 abbrev pub savers_of : Option (List ℕ) → Savers
@@ -103,12 +93,10 @@ pub record IsFlag (f : Found) (id : List ℕ) (b : Bool) : Type 0 where
 pub record Flags (f : Found) : Type 0 where
   pub sweep : Bool
   pub faults : Bool
-  pub first : Bool
   pub quiet : Bool
   pub tap : Bool
   pub is_sweep : IsFlag f (codes "sweep") sweep
   pub is_faults : IsFlag f (codes "faults") faults
-  pub is_first : IsFlag f (codes "first") first
   pub is_quiet : IsFlag f (codes "quiet") quiet
   pub is_tap : IsFlag f (codes "tap") tap
 
@@ -185,52 +173,6 @@ work_without f sweep faults =
     work_named sweep faults (first_value f (codes "schedules")) (first_value f (codes "seed")) (first_value f (codes "show"))
     (first_value f (codes "shrink")) (savers_of (first_value f (codes "crew")))
 
--- the order of that number is shown
-abbrev pub order_shown : ℕ → Option ℕ → Option Work
-order_shown most None = None
-order_shown most (Some k) = Some (ShowOrder (record { most = most; number = k }))
-
--- All orders with so many preemptions at most are run, or the one that a word names is shown. `--first` does not go with that.
-abbrev pub preempt_or_show : ℕ → Option (List ℕ) → Bool → Option Work
-preempt_or_show most None first = Some (Preempt (record { most = most; first = first }))
-preempt_or_show most (Some word) true = None
-preempt_or_show most (Some word) false = order_shown most (number_up_to 1000000 (number_of word))
-
-abbrev pub preemptions_by : Option ℕ → Option (List ℕ) → Bool → Option Work
-preemptions_by None show first = None
-preemptions_by (Some k) show first = preempt_or_show k show first
-
--- what is to be done with orders that have few preemptions, by the words of `--preemptions` and `--show` and by `--first`
-abbrev pub preemptions_named : List ℕ → Option (List ℕ) → Bool → Option Work
-preemptions_named word show first = preemptions_by (number_up_to 3 (number_of word)) show first
-
--- no schedules stand beside it, nor their seed, nor one to be shrunk
-abbrev pub without_options : Option (List ℕ) → Option (List ℕ) → Option (List ℕ) → Option Work → Option Work
-without_options None seed shrink work = without_schedules seed None shrink work
-without_options (Some runs) seed shrink work = None
-
--- what is to be done, by the word of `--preemptions`, and without it by the other words; `--first` goes with it alone
-abbrev pub work_by : Option (List ℕ) → Found → Bool → Bool → Bool → Option Work
-work_by None f sweep faults true = None
-work_by None f sweep faults false = work_without f sweep faults
-work_by (Some word) f sweep faults first =
-    without_benches sweep faults
-    (without_options (first_value f (codes "schedules")) (first_value f (codes "seed")) (first_value f (codes "shrink"))
-    (preemptions_named word (first_value f (codes "show")) first))
-
-abbrev pub work_unrecovered : (f : Found) → Flags f → Option Work
-work_unrecovered f flags = work_by (first_value f (codes "preemptions")) f flags.sweep flags.faults flags.first
-
--- a recovery goes with a bench, or with one of its rows
-abbrev pub recovered : Option Work → Option Work
-recovered (Some (Judge plan)) = Some (Recover plan)
-recovered (Some (ShowRow row)) = Some (ShowRecovered row)
-recovered work = None
-
-abbrev pub with_recovery : Option (List ℕ) → Option Work → Option Work
-with_recovery None work = work
-with_recovery (Some path) work = recovered work
-
 -- part k of so many, up to 4,096
 abbrev pub part_if : (k of : ℕ) → (k < 1) ⊎ (1 ≤ k) → (of < k) ⊎ (k ≤ of) → (4096 < of) ⊎ (of ≤ 4096) → Option Part
 part_if k of (inl none) within most = None
@@ -254,7 +196,6 @@ part_named word = part_at word (position (λ b. b == 47) word)
 -- a part goes with a bench or with schedules
 abbrev pub parted : Option Part → Option Work → Option Work
 parted (Some part) (Some (Judge plan)) = Some (Judge (record plan { part = Some part }))
-parted (Some part) (Some (Recover plan)) = Some (Recover (record plan { part = Some part }))
 parted (Some part) (Some (Compare plan)) = Some (Compare (record plan { part = Some part }))
 parted part work = None
 
@@ -265,7 +206,6 @@ with_part (Some word) work = parted (part_named word) work
 -- `--quiet` goes with a bench
 abbrev pub quietly : Option Work → Option Work
 quietly (Some (Judge plan)) = Some (Judge (record plan { quiet = true }))
-quietly (Some (Recover plan)) = Some (Recover (record plan { quiet = true }))
 quietly work = None
 
 abbrev pub with_quiet : Bool → Option Work → Option Work
@@ -275,9 +215,7 @@ with_quiet true work = quietly work
 -- `--tap` goes with what counts what is wrong or differs
 abbrev pub tested : Option Work → Option Work
 tested (Some (Judge plan)) = Some (Judge plan)
-tested (Some (Recover plan)) = Some (Recover plan)
 tested (Some (Compare plan)) = Some (Compare plan)
-tested (Some (Preempt within)) = Some (Preempt within)
 tested work = None
 
 abbrev pub with_tap : Bool → Option Work → Option Work
@@ -286,22 +224,17 @@ with_tap true work = tested work
 
 abbrev pub work_asked : (f : Found) → Flags f → Option Work
 work_asked f flags =
-    with_tap flags.tap
-    (with_quiet flags.quiet
-    (with_part (first_value f (codes "part")) (with_recovery (first_value f (codes "recover")) (work_unrecovered f flags))))
+    with_tap flags.tap (with_quiet flags.quiet (with_part (first_value f (codes "part")) (work_without f flags.sweep flags.faults)))
 
--- the bench of schedules runs at most so many, an order has at most so many preemptions, and orders have numbers from 1 on
+-- the bench of schedules runs at most so many
 abbrev pub IsBounded : Work → Type 0
 IsBounded (Compare plan) = plan.count ≤ 1000000
-IsBounded (Preempt within) = within.most ≤ 3
-IsBounded (ShowOrder wanted) = (wanted.most ≤ 3) × (1 ≤ wanted.number)
 IsBounded work = ⊤
 
 -- the options of what the parser found: they name one work
 abbrev pub AreOptions : Found → BenchOptions → Type 0
 AreOptions f options = (flags : Flags f) × (work_asked f flags ≡ Some options.work) × (flags.tap ≡ options.tap)
     × (payload_files options ≡ payload_paths f) × (script_file options ≡ path_named (first_value f (codes "SCRIPT")))
-    × (recovery_file options ≡ path_named (first_value f (codes "recover")))
 
 -- what the parser found names no one work: two, or an option without the one that it goes with, or out of its range
 abbrev pub AreApart : Found → Type 0

@@ -11,17 +11,9 @@ use Rattle.bench_report.specs.Prefix.{KeepsPrefixLaw}
 use Rattle.report_lines.specs.Texts.{report_text}
 use Rattle.bench_report.specs.Reports.{AreByFirmware, IsReportWith}
 use Rattle.report_lines.specs.declared.printed.Answer.{Answer}
-use Rattle.bench_sweep.specs.Shown.{IsRowOf, NoneBehindOf, NoRowOf}
-use Rattle.bench_sweep.specs.Swept.{IsBenchOf, IsRecoveredBenchOf, NoBenchRuns, NoRecoveryRuns}
-use Rattle.bench_sweep.specs.declared.plan.SweepPlan.{SweepPlan}
-use Rattle.bench_sweep.specs.declared.recovery.RecoveryFile.{RecoveryFile}
-use Rattle.bench_sweep.specs.declared.shown.WantedRow.{WantedRow}
-use Rattle.bench_sweep.specs.declared.sweeps.Recovered.{Recovered}
-use Rattle.bench_schedules.specs.Preemptions.{WrotePreemptions}
-use Rattle.bench_schedules.specs.Shown.{HasNoOrder, ShownOrder}
-use Rattle.bench_schedules.specs.declared.preempted_benches.OrderBounds.{OrderBounds}
-use Rattle.bench_schedules.specs.declared.shown.Wanted.{Wanted}
-use Rattle.bench_schedules.specs.Numbers.{number_of_other, numbers_of}
+use Rattle.bench_sweep.specs.Shown.{IsRowOf, NoRowOf}
+use Rattle.bench_sweep.specs.Swept.{IsBenchOf, NoBenchRuns}
+use Rattle.bench_schedules.specs.Numbers.{number_of_other}
 use Rattle.bench_schedules.specs.Schedules.{Shown, WroteSchedules}
 use Rattle.bench_schedules.specs.Shrunk.{Shrunk}
 use Rattle.bench_sweep.specs.declared.judges.Sweep.{Sweep as Counts}
@@ -32,14 +24,13 @@ use Rattle.command_line.specs.Pipes.{pipe_contents}
 use Rattle.command_line.specs.declared.pipe.Pipe.{Pipe}
 use Rattle.command_line.specs.declared.NoWork.TheVariants as whys
 use Rattle.board_files.specs.Named.{AreFilesOf}
-use Rattle.bench_program.specs.Usage.{payload_files, recovery_file, script_file, IsNamedBy, NamesNoWork, NamesConflict}
+use Rattle.bench_program.specs.Usage.{payload_files, script_file, IsNamedBy, NamesNoWork, NamesConflict}
 use Rattle.bench_program.specs.declared.fault.BenchFault.{BenchFault}
 use Rattle.bench_program.specs.declared.fault.BenchFault.TheVariants.{Usage, Input, File, Refused, Closed, Wrong}
 use Rattle.bench_program.specs.declared.usage.BenchOptions.{BenchOptions}
 use Rattle.bench_program.specs.declared.usage.Work.{Work}
 use Rattle.bench_schedules.specs.declared.benches.SchedulePlan.{SchedulePlan}
-use Rattle.bench_program.specs.declared.usage.DrawnSchedule.{DrawnSchedule}
-use Rattle.bench_program.specs.declared.usage.Work.TheVariants.{Report, Judge, Recover, ShowRow, ShowRecovered, Compare, Show, Shrink, Preempt, ShowOrder}
+use Rattle.bench_program.specs.declared.usage.Work.TheVariants.{Report, Judge, ShowRow, Compare, Show, Shrink}
 
 -- what was written is a report of the script that begins with these payloads, and nothing else; where no line is a poke,
 -- it keeps the prefix law
@@ -51,61 +42,31 @@ IsReported payloads script old now = (said : Said) × (answers : List Answer) ×
 -- the schedules of that plan, of the script that begins with these payloads, were compared with its own run, and told; so many differ
 abbrev pub IsCompared : SchedulePlan → List (List ℕ) → List ℕ → Option (List ℕ) → Option (List ℕ) → ℕ → Type 0
 IsCompared plan payloads script old now differ = (said : Said) × (script_of script ≡ Ok said)
-    × WroteSchedules said payloads plan.seed (number_of_other script said.lines) plan.part plan.count old now differ
+    × WroteSchedules said payloads (number_of_other script said.lines) plan.part plan.count old now differ
 
--- the script that begins with these payloads was run, and its orders with so many preemptions at most; so many differ
-abbrev pub IsPreempted : OrderBounds → List (List ℕ) → List ℕ → Option (List ℕ) → Option (List ℕ) → ℕ → Type 0
-IsPreempted within payloads script old now differ = (said : Said) × (script_of script ≡ Ok said) × (orders : ℕ)
-    × WrotePreemptions said payloads (numbers_of script) within.most within.first old now orders differ
+-- a schedule of the script was written
+abbrev pub IsShown : List ℕ → Option (List ℕ) → Option (List ℕ) → Type 0
+IsShown script old now = (said : Said) × (script_of script ≡ Ok said) × Shown said old now
 
--- a bench ran by that plan over the script that begins with these payloads, with that recovery behind each run; so many differ
-abbrev pub IsRecovered : SweepPlan → List (List ℕ) → List ℕ → List ℕ → Option (List ℕ) → Option (List ℕ) → ℕ → Type 0
-IsRecovered plan payloads recovery script old now differ = (done : Recovered)
-    × IsRecoveredBenchOf plan payloads script recovery (numbers_of recovery) old now done × (done.differ ≡ differ)
-
--- the schedule of that seed and number was written
-abbrev pub IsShown : DrawnSchedule → List ℕ → Option (List ℕ) → Option (List ℕ) → Type 0
-IsShown drawn script old now = (said : Said) × (script_of script ≡ Ok said) × Shown said drawn.seed drawn.number old now
-
--- a schedule of the script was written that differs where the schedule of that seed and number does
-abbrev pub IsShrunk : DrawnSchedule → List (List ℕ) → List ℕ → Option (List ℕ) → Option (List ℕ) → Type 0
-IsShrunk drawn payloads script old now =
-    (said : Said) × (script_of script ≡ Ok said) × Shrunk said payloads drawn.seed drawn.number old now
-
--- these are the bytes of a recovery, with the numbers of its lines
-abbrev pub IsFileOf : List ℕ → RecoveryFile → Type 0
-IsFileOf recovery file = (file.bytes.now ≡ recovery) × (file.numbers.now ≡ numbers_of recovery)
-
--- the order of that number was written, of those with so many preemptions at most that differ
-abbrev pub IsOrderShown : Wanted → List (List ℕ) → List ℕ → Option (List ℕ) → Option (List ℕ) → Type 0
-IsOrderShown wanted payloads script old now = (said : Said) × (script_of script ≡ Ok said)
-    × ShownOrder said payloads (numbers_of script) wanted.most wanted.number old now
-
--- the run of that number of a bench was written as a script, with that recovery's lines at its end
-abbrev pub IsRowShown : WantedRow → List (List ℕ) → List ℕ → List ℕ → Option (List ℕ) → Option (List ℕ) → Type 0
-IsRowShown row payloads recovery script old now = (file : RecoveryFile) × IsFileOf recovery file
-    × IsRowOf row.bench row.number payloads script (Some file) old now
+-- a schedule of the script was written that differs where the one does that was drawn
+abbrev pub IsShrunk : List (List ℕ) → List ℕ → Option (List ℕ) → Option (List ℕ) → Type 0
+IsShrunk payloads script old now = (said : Said) × (script_of script ≡ Ok said) × Shrunk said payloads old now
 
 -- a script without a fault has several orders: a stretch of its rows is of two harts
 abbrev pub HasOrders : List ℕ → Type 0
 HasOrders script = (said : Said) × (script_of script ≡ Ok said) × (has_orders said.lines ≡ true)
 
 -- What was written is what the work makes of the script, and so many of its runs tell that something is wrong. It is the report; the lines
--- of a bench, or of schedules, or of orders with few preemptions, of which so many differ; or one of these as a script. None of the runs
--- of a bench is wrong, and one with a recovery differs where a look of that says something else.
-abbrev pub IsMade : Work → List (List ℕ) → List ℕ → List ℕ → ℕ → Option (List ℕ) → Option (List ℕ) → Type 0
-IsMade (Report savers) payloads recovery script differ old now = (differ ≡ 0) × IsReported payloads script old now
-IsMade (Judge plan) payloads recovery script differ old now =
+-- of a bench, or of schedules, of which so many differ; or one of these as a script. None of the runs of a bench is wrong.
+abbrev pub IsMade : Work → List (List ℕ) → List ℕ → ℕ → Option (List ℕ) → Option (List ℕ) → Type 0
+IsMade (Report savers) payloads script differ old now = (differ ≡ 0) × IsReported payloads script old now
+IsMade (Judge plan) payloads script differ old now =
     (differ ≡ 0) × (counts : Counts) × IsBenchOf plan payloads script old now counts
-IsMade (Recover plan) payloads recovery script differ old now = IsRecovered plan payloads recovery script old now differ
-IsMade (ShowRow row) payloads recovery script differ old now =
-    (differ ≡ 0) × IsRowOf row.bench row.number payloads script None old now
-IsMade (ShowRecovered row) payloads recovery script differ old now = (differ ≡ 0) × IsRowShown row payloads recovery script old now
-IsMade (Compare plan) payloads recovery script differ old now = HasOrders script × IsCompared plan payloads script old now differ
-IsMade (Show drawn) payloads recovery script differ old now = (differ ≡ 0) × IsShown drawn script old now
-IsMade (Shrink drawn) payloads recovery script differ old now = (differ ≡ 0) × IsShrunk drawn payloads script old now
-IsMade (Preempt within) payloads recovery script differ old now = HasOrders script × IsPreempted within payloads script old now differ
-IsMade (ShowOrder wanted) payloads recovery script differ old now = (differ ≡ 0) × IsOrderShown wanted payloads script old now
+IsMade (ShowRow row) payloads script differ old now =
+    (differ ≡ 0) × IsRowOf row.bench row.number payloads script old now
+IsMade (Compare plan) payloads script differ old now = HasOrders script × IsCompared plan payloads script old now differ
+IsMade (Show drawn) payloads script differ old now = (differ ≡ 0) × IsShown script old now
+IsMade (Shrink drawn) payloads script differ old now = (differ ≡ 0) × IsShrunk payloads script old now
 
 -- what is read of a source of these bytes: all of them, but for what is more than any script has
 abbrev pub IsReadOf : List ℕ → List ℕ → Type 0
@@ -115,7 +76,6 @@ IsReadOf script bytes = script ≡ take 268500993 bytes
 -- a line of the script can show that an order differs; another work compares none
 abbrev pub shown_by : Work → List ℕ → Bool
 shown_by (Compare plan) script = shown_in (script_of script)
-shown_by (Preempt within) script = shown_in (script_of script)
 shown_by work script = true
 
 -- with `--tap` it is what the protocol has of a text
@@ -125,9 +85,9 @@ tested_text true well shown text = tap_text well shown text
 
 -- what is written of a text that a work made, of which so many runs tell that something is wrong: a part ends with the digest of what it
 -- is of
-abbrev pub put_text : Bool → Work → List (List ℕ) → List ℕ → List ℕ → ℕ → List ℕ → List ℕ
-put_text tap work payloads recovery script differ text =
-    tested_text tap (differ == 0) (shown_by work script) (with_tag (part_tag work payloads recovery script) text)
+abbrev pub put_text : Bool → Work → List (List ℕ) → List ℕ → ℕ → List ℕ → List ℕ
+put_text tap work payloads script differ text =
+    tested_text tap (differ == 0) (shown_by work script) (with_tag (part_tag work payloads script) text)
 
 -- the text is made whole before any of it is written
 abbrev pub is_kept : BenchOptions → Bool
@@ -140,10 +100,9 @@ IsPut true Comes That differ old now =
     (text : List ℕ) × That differ (Some []) (Some text) × Appends old now (Comes differ text)
 
 -- what the options' work makes of the script was written
-abbrev pub IsWritten : BenchOptions → List (List ℕ) → List ℕ → List ℕ → ℕ → Option (List ℕ) → Option (List ℕ) → Type 0
-IsWritten options payloads recovery script differ old now =
-    IsPut (is_kept options) (put_text options.tap options.work payloads recovery script) (IsMade options.work payloads recovery script)
-    differ old now
+abbrev pub IsWritten : BenchOptions → List (List ℕ) → List ℕ → ℕ → Option (List ℕ) → Option (List ℕ) → Type 0
+IsWritten options payloads script differ old now =
+    IsPut (is_kept options) (put_text options.tap options.work payloads script) (IsMade options.work payloads script) differ old now
 
 -- what a writer has written now is that, and nothing of it is held back
 abbrev pub IsHandedOn : {W A : Type 0} → (W → Option (List ℕ)) → (Option (List ℕ) → Option (List ℕ) → Type 0) → BufWriter (Pipe W) A
@@ -152,9 +111,9 @@ IsHandedOn contents That old now =
     That (writer_contents (pipe_contents contents) old) (writer_contents (pipe_contents contents) now) × (writer_buffer now ≡ [])
 
 -- the work was done over a source of which these bytes are known, and so many of its runs tell that something is wrong
-abbrev pub IsWorked : BenchOptions → List (List ℕ) → List ℕ → Option (List ℕ) → ℕ → Option (List ℕ) → Option (List ℕ) → Type 0
-IsWorked options payloads recovery source differ old now = (script : List ℕ) × IfSome source (λ bytes. script_of script ≡ script_of bytes)
-    × IfSome source (IsReadOf script) × IsWritten options payloads recovery script differ old now
+abbrev pub IsWorked : BenchOptions → List (List ℕ) → Option (List ℕ) → ℕ → Option (List ℕ) → Option (List ℕ) → Type 0
+IsWorked options payloads source differ old now = (script : List ℕ) × IfSome source (λ bytes. script_of script ≡ script_of bytes)
+    × IfSome source (IsReadOf script) × IsWritten options payloads script differ old now
 
 -- the bytes that the script is read from: those of the file that is named, or else the input's
 abbrev pub source_at : Option (List ℕ) → (List ℕ → Option (List ℕ)) → Option (List ℕ) → Option (List ℕ)
@@ -164,18 +123,11 @@ source_at (Some path) bytes_at input = bytes_at path
 abbrev pub source_of : BenchOptions → (List ℕ → Option (List ℕ)) → Option (List ℕ) → Option (List ℕ)
 source_of options bytes_at input = source_at (script_file options) bytes_at input
 
--- the lines of a recovery, where its file is named: the bytes there, as far as they are known, but for what is more than any
--- script has
-abbrev pub IsRecoveryOf : (List ℕ → Option (List ℕ)) → Option (List ℕ) → List ℕ → Type 0
-IsRecoveryOf bytes_at None recovery = recovery ≡ []
-IsRecoveryOf bytes_at (Some path) recovery = IfSome (bytes_at path) (IsReadOf recovery)
-
 -- The options were done over it and over files of which these bytes are known: each slot begins with the file that is
--- named for it, and the recovery is the one that is named. So many runs tell that something is wrong.
+-- named for it. So many runs tell that something is wrong.
 abbrev pub AreDone : BenchOptions → (List ℕ → Option (List ℕ)) → Option (List ℕ) → ℕ → Option (List ℕ) → Option (List ℕ) → Type 0
 AreDone options bytes_at input differ old now = (payloads : List (List ℕ)) × AreFilesOf bytes_at (payload_files options) payloads
-    × (recovery : List ℕ) × IsRecoveryOf bytes_at (recovery_file options) recovery
-    × IsWorked options payloads recovery (source_of options bytes_at input) differ old now
+    × IsWorked options payloads (source_of options bytes_at input) differ old now
 
 -- the work that the words name was done over both
 abbrev pub IsDone : List (List ℕ) → (List ℕ → Option (List ℕ)) → Option (List ℕ) → ℕ → Option (List ℕ) → Option (List ℕ) → Type 0
@@ -183,11 +135,6 @@ IsDone words bytes_at input differ old now =
     (options : BenchOptions) × IsNamedBy words options × AreDone options bytes_at input differ old now
 
 -- ---- faults
--- no bench runs that recovery, or there is no run of that number to show with it
-abbrev pub IsNoRow : WantedRow → List (List ℕ) → List ℕ → List ℕ → Refusal → Type 0
-IsNoRow row payloads recovery script e = (file : RecoveryFile) × IsFileOf recovery file
-    × (NoneBehindOf script (Some file) e ⊎ ((e ≡ BadShape) × NoRowOf row.bench row.number payloads script (Some file)))
-
 -- memory was refused, the output failed, or the script has that fault
 abbrev pub IsAnyRefusal : List ℕ → Refusal → Type 0
 IsAnyRefusal script e = (e ≡ Memory) ⊎ (e ≡ Output) ⊎ (script_of script ≡ Err e)
@@ -200,60 +147,47 @@ IsNoBench script e = (e ≡ NotPlain) × NoBenchRuns script
 abbrev pub HasOneOrder : List ℕ → Refusal → Type 0
 HasOneOrder script e = (e ≡ NotPlain) × (said : Said) × (script_of script ≡ Ok said) × (has_orders said.lines ≡ false)
 
--- A work over that script, which begins with these payloads, with that recovery where it has one, is refused so: by what may befall any; or
--- it is a bench or shows a run of one, and no bench runs the script, or the recovery; or it compares orders, and there is one alone; or it
--- shows a run or an order, and there is none of that number to show.
-abbrev pub IsRefusedWith : Work → List (List ℕ) → List ℕ → List ℕ → Refusal → Type 0
-IsRefusedWith (Report savers) payloads recovery script e = IsAnyRefusal script e
-IsRefusedWith (Judge plan) payloads recovery script e = (e ≡ Memory) ⊎ (e ≡ Output) ⊎ (script_of script ≡ Err e) ⊎ IsNoBench script e
-IsRefusedWith (Recover plan) payloads recovery script e =
-    (e ≡ Memory) ⊎ (e ≡ Output) ⊎ (script_of script ≡ Err e) ⊎ IsNoBench script e ⊎ NoRecoveryRuns script recovery e
-IsRefusedWith (ShowRow row) payloads recovery script e =
+-- A work over that script, which begins with these payloads, is refused so: by what may befall any; or it is a bench or shows a run of
+-- one, and no bench runs the script; or it compares orders, and there is one alone; or it shows a run, and there is none of that number to
+-- show.
+abbrev pub IsRefusedWith : Work → List (List ℕ) → List ℕ → Refusal → Type 0
+IsRefusedWith (Report savers) payloads script e = IsAnyRefusal script e
+IsRefusedWith (Judge plan) payloads script e = (e ≡ Memory) ⊎ (e ≡ Output) ⊎ (script_of script ≡ Err e) ⊎ IsNoBench script e
+IsRefusedWith (ShowRow row) payloads script e =
     (e ≡ Memory) ⊎ (e ≡ Output) ⊎ (script_of script ≡ Err e) ⊎ IsNoBench script e
-    ⊎ ((e ≡ BadShape) × NoRowOf row.bench row.number payloads script None)
-IsRefusedWith (ShowRecovered row) payloads recovery script e =
-    (e ≡ Memory) ⊎ (e ≡ Output) ⊎ (script_of script ≡ Err e) ⊎ IsNoBench script e ⊎ IsNoRow row payloads recovery script e
-IsRefusedWith (Compare plan) payloads recovery script e =
+    ⊎ ((e ≡ BadShape) × NoRowOf row.bench row.number payloads script)
+IsRefusedWith (Compare plan) payloads script e =
     (e ≡ Memory) ⊎ (e ≡ Output) ⊎ (script_of script ≡ Err e) ⊎ HasOneOrder script e
-IsRefusedWith (Show drawn) payloads recovery script e = IsAnyRefusal script e
-IsRefusedWith (Shrink drawn) payloads recovery script e = IsAnyRefusal script e
-IsRefusedWith (Preempt within) payloads recovery script e =
-    (e ≡ Memory) ⊎ (e ≡ Output) ⊎ (script_of script ≡ Err e) ⊎ HasOneOrder script e
-IsRefusedWith (ShowOrder wanted) payloads recovery script e =
-    (e ≡ Memory) ⊎ (e ≡ Output) ⊎ (script_of script ≡ Err e)
-    ⊎ ((e ≡ BadShape) × (said : Said) × (script_of script ≡ Ok said)
-    × HasNoOrder said payloads (numbers_of script) wanted.most wanted.number)
+IsRefusedWith (Show drawn) payloads script e = IsAnyRefusal script e
+IsRefusedWith (Shrink drawn) payloads script e = IsAnyRefusal script e
 
--- a work may tell that something is wrong: the benches of power cuts and failures never do without a recovery
+-- a work may tell that something is wrong: the benches of power cuts and failures never do
 abbrev pub MayTellWrong : Work → Type 0
 MayTellWrong (Compare plan) = ⊤
-MayTellWrong (Preempt within) = ⊤
-MayTellWrong (Recover plan) = ⊤
 MayTellWrong work = ⊥
 
--- A fault of a work over that script, which begins with these payloads, with that recovery where it has one, by whether the output's
--- reader is gone. Only where it is gone nothing is told; else the work was refused, or it told that something is wrong. The command line
--- has none, and neither has a file.
-abbrev pub IsFaultIn : Work → List (List ℕ) → List ℕ → List ℕ → Bool → BenchFault → Type 0
-IsFaultIn work payloads recovery script gone (Refused e) = (gone ≡ false) × IsRefusedWith work payloads recovery script e
-IsFaultIn work payloads recovery script gone Closed = gone ≡ true
-IsFaultIn work payloads recovery script gone Input = ⊥
-IsFaultIn work payloads recovery script gone File = ⊥
-IsFaultIn work payloads recovery script gone Usage = ⊥
-IsFaultIn work payloads recovery script gone Wrong = MayTellWrong work
+-- A fault of a work over that script, which begins with these payloads, by whether the output's reader is gone. Only where it is gone
+-- nothing is told; else the work was refused, or it told that something is wrong. The command line has none, and neither has a file.
+abbrev pub IsFaultIn : Work → List (List ℕ) → List ℕ → Bool → BenchFault → Type 0
+IsFaultIn work payloads script gone (Refused e) = (gone ≡ false) × IsRefusedWith work payloads script e
+IsFaultIn work payloads script gone Closed = gone ≡ true
+IsFaultIn work payloads script gone Input = ⊥
+IsFaultIn work payloads script gone File = ⊥
+IsFaultIn work payloads script gone Usage = ⊥
+IsFaultIn work payloads script gone Wrong = MayTellWrong work
 
--- a fault of the options' work over a source and over files of which these bytes are known, the recovery's among them
+-- a fault of the options' work over a source and over files of which these bytes are known
 abbrev pub IsFaultOf : BenchOptions → (List ℕ → Option (List ℕ)) → Option (List ℕ) → Bool → BenchFault → Type 0
-IsFaultOf options bytes_at input gone fault = (payloads : List (List ℕ)) × (recovery : List ℕ) × (script : List ℕ)
-    × AreFilesOf bytes_at (payload_files options) payloads × IsRecoveryOf bytes_at (recovery_file options) recovery
+IsFaultOf options bytes_at input gone fault = (payloads : List (List ℕ)) × (script : List ℕ)
+    × AreFilesOf bytes_at (payload_files options) payloads
     × IfSome (source_of options bytes_at input) (λ bytes. script_of script ≡ script_of bytes)
     × IfSome (source_of options bytes_at input) (IsReadOf script)
-    × IsFaultIn options.work payloads recovery script gone fault
+    × IsFaultIn options.work payloads script gone fault
 
 -- a file could not be read, of those that are named; or the input failed, where none of them is the script's
 abbrev pub IsUnread : BenchOptions → BenchFault → Type 0
 IsUnread options fault =
-    ((fault ≡ File) × (((slot : ℕ) × IsSome (get_or options.payloads slot None)) ⊎ IsSome options.recovery ⊎ IsSome options.script))
+    ((fault ≡ File) × (((slot : ℕ) × IsSome (get_or options.payloads slot None)) ⊎ IsSome options.script))
     ⊎ ((fault ≡ Input) × (options.script ≡ None))
 
 -- a fault of the work that the words name, or of their files; or they name none, or no one work; or memory was refused

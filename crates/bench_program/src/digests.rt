@@ -6,7 +6,6 @@ ghost use Rattle.board.specs.Boots.{payload_at};
 ghost use Rattle.bench_program.specs.Digests.{bench_text, digest_text, is_part, message, options_text, part_tag, schedules_text, then_framed, with_tag};
 
 use crate::usage::Work;
-use crate::works::WorkTexts;
 use bench_sweep::{BenchKind, SweepPlan};
 use board::Payloads;
 use board_model::Slot;
@@ -18,7 +17,7 @@ pub fn is_part(work: Work) -> bool
     ensures { result ≡ is_part work }
 {
     match work {
-        Work::Judge(plan) | Work::Recover(plan) => plan.part.is_some(),
+        Work::Judge(plan) => plan.part.is_some(),
         Work::Compare(plan) => plan.part.is_some(),
         _ => false,
     }
@@ -52,10 +51,6 @@ fn options_text(alloc: Global, work: Work) -> Result<String, AllocError>
             let bench = bench_text(plan);
             format!(in alloc; "{bench}")
         }
-        Work::Recover(plan) => {
-            let bench = bench_text(plan);
-            format!(in alloc; "{bench} recover")
-        }
         Work::Compare(plan) => schedules_text(alloc, plan.count, plan.seed),
         _ => Ok(String::new(alloc)),
     }
@@ -86,24 +81,23 @@ fn feed_slot<D: Digest>(
     feed(alloc, hasher, payloads.get(slot))
 }
 
-/// The digest of what each part of one bench is of: the options, the recovery, the payloads and the script.
+/// The digest of what each part of one bench is of: the options, the payloads and the script.
 fn digest<D: Digest>(
     alloc: Global,
     work: Work,
     payloads: &Payloads,
-    texts: WorkTexts<'_>,
+    script: &[u8],
 ) -> Result<D::Output, AllocError>
-    ensures { IfOk result (D.digest_of (message work payloads.now texts.entry.recovery.now texts.entry.script.now)) }
+    ensures { IfOk result (D.digest_of (message work payloads.now script.now)) }
 {
     let mut hasher = D::new();
     let options = options_text(alloc, work)?;
     feed(alloc, &mut hasher, options.as_bytes())?;
-    feed(alloc, &mut hasher, texts.recovery)?;
     feed_slot(alloc, &mut hasher, payloads, 0)?;
     feed_slot(alloc, &mut hasher, payloads, 1)?;
     feed_slot(alloc, &mut hasher, payloads, 2)?;
     feed_slot(alloc, &mut hasher, payloads, 3)?;
-    feed(alloc, &mut hasher, texts.script)?;
+    feed(alloc, &mut hasher, script)?;
     Ok(hasher.finalize())
 }
 
@@ -112,11 +106,11 @@ fn digest_text(
     alloc: Global,
     work: Work,
     payloads: &Payloads,
-    texts: WorkTexts<'_>,
+    script: &[u8],
 ) -> Result<String, AllocError>
-    ensures { IfOk result (λ text. string_bytes text ≡ digest_text work payloads.now texts.entry.recovery.now texts.entry.script.now) }
+    ensures { IfOk result (λ text. string_bytes text ≡ digest_text work payloads.now script.now) }
 {
-    let digest = digest::<Sha256>(alloc, work, payloads, texts)?;
+    let digest = digest::<Sha256>(alloc, work, payloads, script)?;
     hex::encode(alloc, &digest[..8])
 }
 
@@ -125,13 +119,13 @@ pub fn part_tag(
     alloc: Global,
     work: Work,
     payloads: &Payloads,
-    texts: WorkTexts<'_>,
+    script: &[u8],
 ) -> Result<Option<String>, AllocError>
     ensures { IfOk result (λ tag. option_map string_bytes tag
-        ≡ part_tag work payloads.now texts.entry.recovery.now texts.entry.script.now) }
+        ≡ part_tag work payloads.now script.now) }
 {
     if is_part(work) {
-        let tag = digest_text(alloc, work, payloads, texts)?;
+        let tag = digest_text(alloc, work, payloads, script)?;
         return Ok(Some(tag));
     }
     Ok(None)

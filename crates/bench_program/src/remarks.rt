@@ -3,9 +3,8 @@
 use crate::fault::BenchFault;
 use crate::orders::is_shown;
 use crate::usage::Work;
-use crate::works::WorkTexts;
 use bench_schedules::line_numbers;
-use board_model::{Refusal, Shape};
+use board_model::Refusal;
 use command_line::{FileFault, explain_fault};
 use script_lang::{Line, Script, parse_script};
 use std::alloc::Global;
@@ -21,11 +20,6 @@ fn first_unplain(lines: &[Line]) -> Option<usize> {
     lines.iter().position(|line| !is_plain(line))
 }
 
-/// The place of the first line that formats the disk.
-fn first_format(lines: &[Line]) -> Option<usize> {
-    lines.iter().position(|line| matches!(line, Line::Format))
-}
-
 /// The number of the line at that place, counted from 1; the board line stands before all. 0 where memory is refused.
 fn number_of(alloc: Global, script: &[u8], place: usize) -> u64 {
     match line_numbers(alloc, script) {
@@ -37,56 +31,15 @@ fn number_of(alloc: Global, script: &[u8], place: usize) -> u64 {
     }
 }
 
-/// A recovery as a script for a board of that shape: its lines stand behind a board line.
-fn recovery_script(alloc: Global, shape: &Shape, recovery: &[u8]) -> Option<Vec<u8>> {
-    let (harts, pages, lanes) = (shape.harts(), shape.pages(), shape.lanes());
-    let board = format!(in alloc; "board {harts} {pages} {lanes}\n").ok()?;
-    let mut bytes = board.into_bytes();
-    bytes.extend_from_slice(recovery).ok()?;
-    Some(bytes)
-}
-
-/// Tells why no bench runs a recovery of a script for a board of that shape.
-fn tell_no_recovery<F: Write>(alloc: Global, shape: &Shape, recovery: &[u8], faults: &mut F) {
-    let Some(bytes) = recovery_script(alloc, shape, recovery) else {
-        return;
-    };
-    let Ok(script) = parse_script(alloc, &bytes) else {
-        return;
-    };
-    let unplain = first_unplain(&script.lines).or(first_format(&script.lines));
-    let _told = match unplain {
-        Some(place) => {
-            let number = number_of(alloc, &bytes, place).saturating_sub(1);
-            writeln!(
-                faults,
-                "sbibench: line {number} of the recovery: it is none of a recovery"
-            )
-        }
-        None if !script.lines.iter().any(|line| is_look(line)) => {
-            writeln!(faults, "sbibench: no line of the recovery looks")
-        }
-        None => writeln!(
-            faults,
-            "sbibench: each look of the recovery says off or busy after the script's own end"
-        ),
-    };
-}
-
-/// Whether the line looks.
-fn is_look(line: &Line) -> bool {
-    matches!(line, Line::Show(_) | Line::Inspect)
-}
-
-/// Tells why no bench runs a script without a fault, or its recovery: it is refused 17.
+/// Tells why no bench runs a script without a fault: it is refused 17.
 fn tell_no_bench<F: Write>(
     alloc: Global,
     work: Work,
     script: &Script,
-    texts: WorkTexts<'_>,
+    bytes: &[u8],
     faults: &mut F,
 ) {
-    if let Work::Compare(_) | Work::Preempt(_) = work {
+    if let Work::Compare(_) = work {
         let _told = writeln!(
             faults,
             "sbibench: no stretch of `turn` lines is of two harts, so there is one order alone"
@@ -94,27 +47,19 @@ fn tell_no_bench<F: Write>(
         return;
     }
     if let Some(place) = first_unplain(&script.lines) {
-        let number = number_of(alloc, texts.script, place);
+        let number = number_of(alloc, bytes, place);
         let _told = writeln!(
             faults,
             "sbibench: line {number}: a bench runs no script that cuts power, arms a fault or pokes"
         );
-    } else if first_format(&script.lines).is_none() {
-        let _told = writeln!(faults, "sbibench: no line formats the disk");
     } else {
-        tell_no_recovery(alloc, &script.shape, texts.recovery, faults);
+        let _told = writeln!(faults, "sbibench: no line formats the disk");
     }
 }
 
 /// Tells which cause a refusal of a work has, where it has several.
-fn tell_cause<F: Write>(
-    alloc: Global,
-    work: Work,
-    refusal: Refusal,
-    texts: WorkTexts<'_>,
-    faults: &mut F,
-) {
-    match (refusal, parse_script(alloc, texts.script)) {
+fn tell_cause<F: Write>(alloc: Global, work: Work, refusal: Refusal, bytes: &[u8], faults: &mut F) {
+    match (refusal, parse_script(alloc, bytes)) {
         (Refusal::BadShape, Ok(_)) => {
             let _told = writeln!(faults, "sbibench: there is none of that number to show");
         }
@@ -124,23 +69,20 @@ fn tell_cause<F: Write>(
                 "sbibench: a number of the board line is out of its range"
             );
         }
-        (Refusal::NotPlain, Ok(script)) => tell_no_bench(alloc, work, &script, texts, faults),
+        (Refusal::NotPlain, Ok(script)) => tell_no_bench(alloc, work, &script, bytes, faults),
         _ => {}
     }
 }
 
 /// Whether the work is a bench, which may have nothing to try.
 fn is_bench(work: Work) -> bool {
-    matches!(
-        work,
-        Work::Judge(_) | Work::Recover(_) | Work::Compare(_) | Work::Preempt(_)
-    )
+    matches!(work, Work::Judge(_) | Work::Compare(_))
 }
 
 /// Whether no line of the script can show that an order differs, of a work that compares orders.
 fn shows_nothing(alloc: Global, work: Work, script: &[u8]) -> bool {
     match (work, parse_script(alloc, script)) {
-        (Work::Compare(_) | Work::Preempt(_), Ok(script)) => !is_shown(&script.lines),
+        (Work::Compare(_), Ok(script)) => !is_shown(&script.lines),
         _ => false,
     }
 }
@@ -160,7 +102,7 @@ fn is_specified(work: Work, refusal: Refusal) -> bool {
 pub fn tell_work<F: Write + IsTerminal>(
     alloc: Global,
     work: Work,
-    texts: WorkTexts<'_>,
+    script: &[u8],
     done: &Result<(), BenchFault>,
     is_tried: bool,
     faults: &mut F,
@@ -171,7 +113,7 @@ pub fn tell_work<F: Write + IsTerminal>(
             let _told = write!(faults, "{fault}");
             let on_terminal = faults.is_terminal();
             if on_terminal || !is_specified(work, *refusal) {
-                tell_cause(alloc, work, *refusal, texts, faults);
+                tell_cause(alloc, work, *refusal, script, faults);
             }
             if is_explained(work, *refusal) && on_terminal {
                 explain_fault(faults, "sbibench", &FileFault::refused(*refusal));
@@ -181,7 +123,7 @@ pub fn tell_work<F: Write + IsTerminal>(
             if is_bench(work) && !is_tried {
                 let _told = writeln!(faults, "sbibench: nothing was tried");
             }
-            if shows_nothing(alloc, work, texts.script) {
+            if shows_nothing(alloc, work, script) {
                 let _told = writeln!(faults, "sbibench: nothing is shown");
             }
         }

@@ -7,8 +7,8 @@ ghost use Rattle.std.specs.Io.KnownBytes.{Keeps};
 ghost use Rattle.bench_program.specs.Faults.{fault_by, status_after, unread_by, without_work, IsEndOf};
 ghost use Rattle.command_line.specs.Pipes.{is_closed_pipe};
 ghost use Rattle.board_files.specs.Named.{AreFilesOf};
-ghost use Rattle.bench_program.specs.Usage.{payload_files, recovery_file, IsBounded, NamesNoWork};
-ghost use Rattle.bench_program.specs.Written.{AreDone, IsDone, IsFault, IsFaultIn, IsFaultOf, IsHandedOn, IsReadOf, IsRecoveryOf, IsUnread, IsWritten, source_of};
+ghost use Rattle.bench_program.specs.Usage.{payload_files, IsBounded, NamesNoWork};
+ghost use Rattle.bench_program.specs.Written.{AreDone, IsDone, IsFault, IsFaultIn, IsFaultOf, IsHandedOn, IsReadOf, IsUnread, IsWritten, source_of};
 ghost use Rattle.bench_program.specs.declared.fault.BenchFault.{BenchFault};
 ghost use Rattle.bench_program.specs.declared.fault.BenchFault.TheVariants.{Closed, Input, Refused, Wrong};
 ghost use Rattle.script_lang.specs.Scripts.{script_of};
@@ -18,7 +18,7 @@ use crate::remarks::tell_work;
 use crate::traps::tell_traps;
 use crate::usage::{BenchOptions, Work, options_of};
 use crate::watched::{Telling, Watched};
-use crate::works::{WorkTexts, is_kept, make, make_kept};
+use crate::works::{is_kept, make, make_kept};
 use crate::{READ_AT_MOST, read_script};
 use board::Payloads;
 use board_files::{PayloadFiles, read_payloads};
@@ -151,73 +151,29 @@ fn named_script<P: PayloadFiles, I: Read + Drop, F: Write>(
     }
 }
 
-/// The lines of the operator's recovery, from the file that the command line names; none without one. One that cannot be read is
-/// told.
-fn named_recovery<P: PayloadFiles, F: Write>(
-    alloc: Global,
-    files: &P,
-    options: &BenchOptions,
-    faults: &mut F,
-) -> Result<Vec<u8>, BenchFault>
-    ensures read { IfOk result (λ lines. IsRecoveryOf (P.bytes_at files.now) (recovery_file options.now) lines.items) }
-    ensures failed { IfErr result (λ fault. IsUnread options.now fault ⊎ (fault ≡ Refused Memory)) }
-{
-    match &options.recovery {
-        None => Ok(Vec::new(alloc)),
-        Some(path) => match file_text(alloc, files, path) {
-            Ok(lines) => Ok(lines),
-            Err(error) => Err(unread(&FileFault::new(alloc, path, error), faults)),
-        },
-    }
-}
-
-/// What stands in the files that the command line names.
-#[derive(Drop)]
-struct Given {
-    payloads: Payloads,
-    /// The lines of the operator's recovery.
-    recovery: Vec<u8>,
-}
-
-/// What stands in the files that the command line names. The first that cannot be read is told.
-fn named_files<P: PayloadFiles, F: Write>(
-    alloc: Global,
-    files: &P,
-    options: &BenchOptions,
-    faults: &mut F,
-) -> Result<Given, BenchFault>
-    ensures payloads { IfOk result (λ given. AreFilesOf (P.bytes_at files.now) (payload_files options.now) given.payloads) }
-    ensures recovery { IfOk result (λ given. IsRecoveryOf (P.bytes_at files.now) (recovery_file options.now) given.recovery.items) }
-    ensures failed { IfErr result (λ fault. IsUnread options.now fault ⊎ (fault ≡ Refused Memory)) }
-{
-    let payloads = named_payloads(alloc, files, options, faults)?;
-    let recovery = named_recovery(alloc, files, options, faults)?;
-    Ok(Given { payloads, recovery })
-}
-
 /// Does the work of the options, and writes what it makes, or what comes of that, to the end.
 fn run_work<R: Threads + Sync, P: Progress + Copy + Drop, O: Write + Drop>(
     alloc: Global,
     threads: &R,
     options: &BenchOptions,
     payloads: Payloads,
-    texts: WorkTexts<'_>,
+    script: &[u8],
     out: &mut BufWriter<Pipe<O>>,
     progress: P,
 ) -> Result<(), BenchFault>
     requires most { IsBounded options.now.work }
     ensures worked { OnOk result (IsHandedOn O.contents
-        (IsWritten options.now payloads texts.entry.recovery.now texts.entry.script.now 0) out.old out.new) }
+        (IsWritten options.now payloads script.now 0) out.old out.new) }
     ensures wrong { result ≡ Err Wrong → (differ : ℕ) × (0 < differ) × IsHandedOn O.contents
-        (IsWritten options.now payloads texts.entry.recovery.now texts.entry.script.now differ) out.old out.new }
-    ensures faults { IfErr result (IsFaultIn options.now.work payloads texts.entry.recovery.now texts.entry.script.now
+        (IsWritten options.now payloads script.now differ) out.old out.new }
+    ensures faults { IfErr result (IsFaultIn options.now.work payloads script.now
         (is_closed_pipe (writer_inner out.new))) }
 {
     if is_kept(options) {
-        let made = make_kept(alloc, threads, options, payloads, texts, out, progress);
+        let made = make_kept(alloc, threads, options, payloads, script, out, progress);
         return ended(made, out);
     }
-    let made = make(alloc, threads, options, payloads, texts, out, progress);
+    let made = make(alloc, threads, options, payloads, script, out, progress);
     ended(made, out)
 }
 
@@ -225,16 +181,16 @@ fn run_work<R: Threads + Sync, P: Progress + Copy + Drop, O: Write + Drop>(
 fn tell_traps_of<R: Threads + Sync, F: Write>(
     alloc: Global,
     work: Work,
-    texts: WorkTexts<'_>,
+    script: &[u8],
     payloads: &Payloads,
     faults: &mut F,
 ) {
     if let Work::Report(_) = work {
-        let _told = tell_traps::<R, F>(alloc, texts.script, payloads, faults);
+        let _told = tell_traps::<R, F>(alloc, script, payloads, faults);
     }
 }
 
-/// Does what the options ask for. The files of payloads and of a recovery are read before the script. How the work ended is told, and
+/// Does what the options ask for. The files of payloads are read before the script. How the work ended is told, and
 /// of a report first which harts only trap.
 fn run_options<
     R: Threads + Sync,
@@ -260,23 +216,25 @@ fn run_options<
         ⊎ IsFaultOf options.now (P.bytes_at files.now) (I.remaining input)
         (is_closed_pipe (writer_inner out.new)) fault) }
 {
-    let given = named_files(alloc, files, options, telling.faults)?;
+    let payloads = named_payloads(alloc, files, options, telling.faults)?;
     let script = named_script(alloc, files, options, input, telling.faults)?;
-    let Given { payloads, recovery } = given;
-    let texts = WorkTexts {
-        script: &script,
-        recovery: &recovery,
-    };
-    tell_traps_of::<R, F>(alloc, options.work, texts, &payloads, telling.faults);
+    tell_traps_of::<R, F>(alloc, options.work, &script, &payloads, telling.faults);
     let watched = Watched::new(
         telling.faults,
         telling.clock,
         telling.is_shared,
         options.work,
     );
-    let done = run_work(alloc, threads, options, payloads, texts, out, &watched);
+    let done = run_work(alloc, threads, options, payloads, &script, out, &watched);
     let is_tried = watched.end().went_on();
-    tell_work(alloc, options.work, texts, &done, is_tried, telling.faults);
+    tell_work(
+        alloc,
+        options.work,
+        &script,
+        &done,
+        is_tried,
+        telling.faults,
+    );
     telling.is_told = true;
     done
 }

@@ -36,10 +36,7 @@ fn tells_apart(line: &[u8]) -> bool
 fn skip_text(line: &[u8]) -> &'static [u8]
     ensures { result.now ≡ skip_text line.now }
 {
-    if has_word(b" runs 0 ", line)
-        || has_word(b"schedules 0 ", line)
-        || has_word(b" orders 0 ", line)
-    {
+    if has_word(b" runs 0 ", line) || has_word(b"schedules 0 ", line) {
         b" # SKIP nothing was tried"
     } else {
         b""

@@ -8,16 +8,16 @@ ghost use Rattle.clap.specs.declared.builder.value_parser.ValueParser.{ValuePars
 ghost use Rattle.command_line.specs.Kinds.{no_work};
 ghost use Rattle.command_line.specs.Parses.{AreParsed};
 ghost use Rattle.bench_sweep.specs.Swept.{whole};
-ghost use Rattle.bench_program.specs.Usage.{bench_or_row, number_up_to, count_rule, crew_rule, jobs_rule, part_between, part_named, parted, work_of_flags, schedules_named, preempt_or_show, preemptions_named, without_options, savers_of, sbibench, script_rule, Flags, IsBounded, compare_or_show, quietly, tested, without_benches, with_manners, with_part, with_preemptions, with_quiet, with_schedules, with_recovery, with_tap, work_asked, work_by, work_without, AreApart, AreOptions, IsFlag, IsNamedBy, NamesConflict, NamesNoWork};
+ghost use Rattle.bench_program.specs.Usage.{bench_or_row, number_up_to, count_rule, crew_rule, jobs_rule, part_between, part_named, parted, work_of_flags, schedules_named, savers_of, sbibench, script_rule, Flags, IsBounded, compare_or_show, quietly, tested, without_benches, with_manners, with_part, with_quiet, with_schedules, with_tap, work_asked, work_without, AreApart, AreOptions, IsFlag, IsNamedBy, NamesConflict, NamesNoWork};
 
-use bench_schedules::{OrderBounds, SchedulePlan, Wanted};
+use bench_schedules::SchedulePlan;
 use bench_sweep::{BenchKind, SweepPlan, WantedRow};
 use board_model::refusal_lines;
 use clap::builder::ValueParser;
 use clap::error::ErrorKind;
 use clap::{Arg, ArgAction, ArgMatches, Command, Error};
 use command_line::{
-    flag, option, parse, path, path_given, payload_paths, program, release, with_payloads,
+    flag, option, parse, path_given, payload_paths, program, release, with_payloads,
 };
 use jobs::Part;
 use script_lang::{number, seed_of};
@@ -25,8 +25,7 @@ use std::alloc::{AllocError, Global};
 use std::convert::AsStr;
 
 /// How the program is called.
-pub const USAGE: &str =
-    "sbibench [--sweep | --faults | --schedules N | --preemptions K] [--recover PATH] [OPTIONS] [SCRIPT]";
+pub const USAGE: &str = "sbibench [--sweep | --faults | --schedules N] [OPTIONS] [SCRIPT]";
 
 const ABOUT: &str = "\
 Runs a script of programs, commands and power cuts on a modelled RISC-V board.
@@ -35,28 +34,18 @@ The script is the file SCRIPT, or comes on standard input where none is named,
 and its report goes to standard output.
 With --sweep or --faults a bench runs in place of the report: the script again
 and again, with a power cut or a failure at each call of the disk, and after
-each run a power-on that must find what the disk was told to keep.
-
-With --recover FILE the lines of FILE run behind each of these runs, over what
-it left, with power off before them: `on resume`, turns, looks. FILE has no
-`board` and no `format`, and what else a bench refuses. What its looks (mem,
-reg, csr, pc, pending, inspect) say behind the whole script, with power cut at
-its end, they must say behind each run. Where one does not, the line of the run
-is followed by `.. recover M TEXT own TEXT`, M being the line in FILE, and the
-last line ends `differ D`: so many runs, each of another call or fill.
+each run a power-on that must find what the disk was told to keep. With --show R
+the run of line R is written as a script.
 
 With --schedules the script runs N times more, each time with the turns of its
 harts in another order, and the first line that each run reports otherwise is
 told. --show writes the script of one of those orders, to be run again, and
---shrink that of a shorter one that differs in the same line.
-With --preemptions it runs in every order in which up to K rows of turns are
-parted, each before a turn that does something, and the rest is put off. There
---show writes one of the orders that report otherwise. With --sweep or --faults
---show R writes the run of line R as a script, that of a recovery with its lines.
+--shrink that of a shorter one that differs in the same line. The program
+sbicheck tries every order of a kernel, with every power cut.
 
 With --part K/N a bench makes part K of N of its runs alone, so that N machines
-make all of them; their counts add up. With --quiet the lines of runs in which
-nothing differs are left out. With --tap the end of a bench is written in the
+make all of them; their counts add up. With --quiet the lines of runs are left
+out that find what they must. With --tap the end of a bench is written in the
 Test Anything Protocol.
 
 A payload too long for a line of the script comes from a file, by --p0 to --p3:
@@ -75,8 +64,8 @@ Status:
      for failed input 'sbibench: input', for a file that could not be read
      'sbibench: file', and nothing where no one reads the report
   2  a fault of the command line
-  3  a bench found something wrong, or a schedule or an order another report:
-     its last line counts how often
+  3  a bench found something wrong, or a schedule another report: its last line
+     counts how often
 
 Refusals, on standard error and in reports:
 ",
@@ -131,25 +120,13 @@ const SHOW: &str = "show";
 /// The option that shrinks one of them.
 const SHRINK: &str = "shrink";
 
-/// The option that says how many preemptions an order has at most.
-const PREEMPTIONS: &str = "preemptions";
-
-/// The flag by which the first order that differs is the last.
-const FIRST: &str = "first";
-
-/// The most preemptions of an order.
-const MOST_PREEMPTIONS: u64 = 3;
-
 /// The option that says how many threads make the runs of a bench.
 const JOBS: &str = "jobs";
-
-/// The option with the file of an operator's recovery.
-const RECOVER: &str = "recover";
 
 /// The option with the part of the runs that are made.
 const PART: &str = "part";
 
-/// The flag by which only the runs that differ are written.
+/// The flag by which only runs that are wrong are written.
 const QUIET: &str = "quiet";
 
 /// The flag by which tests are written.
@@ -168,23 +145,14 @@ pub enum Work {
     Report(Savers),
     /// A bench over the script, whose lanes are written one after another.
     Judge(SweepPlan),
-    /// A bench over the script with an operator's recovery behind each run.
-    Recover(SweepPlan),
     /// One run of a bench, written as a script that ends with a power-on.
     ShowRow(WantedRow),
-    /// One run of a bench, written as a script that ends with an operator's recovery.
-    ShowRecovered(WantedRow),
     /// Schedules of the script, from number 1 on, each compared with the script's own run.
     Compare(SchedulePlan),
     /// One schedule, written as a script. `number` is which.
     Show(DrawnSchedule),
     /// A shorter one that differs where that one does, written as a script.
     Shrink(DrawnSchedule),
-    /// All orders of the script with few preemptions, each compared with the script's own run; or as many as there are up to the
-    /// first that differs.
-    Preempt(OrderBounds),
-    /// One of those that differ, written as a script.
-    ShowOrder(Wanted),
 }
 
 /// Schedules are drawn from a seed, and have numbers from 1 on.
@@ -204,8 +172,6 @@ pub struct BenchOptions {
     pub jobs: Option<usize>,
     /// The script's file. Where none is named, the script is the input.
     pub script: Option<String>,
-    /// The file of the operator's recovery that runs behind each run of a bench, where one is named.
-    pub recovery: Option<String>,
     /// The file of each boot slot's payload, where one is named. The others are empty.
     pub payloads: [Option<String>; 4],
 }
@@ -258,8 +224,7 @@ fn with_schedules<'a>(alloc: Global, command: Command<'a>) -> Result<Command<'a>
 {
     let schedules = "Runs N schedules of the script, and tells which report otherwise";
     let seed = "What the schedules are drawn from, 1 if not said";
-    let show =
-        "Writes schedule K, run K of --sweep or --faults, or with --preemptions the K-th order that reports otherwise";
+    let show = "Writes schedule K, or run K of --sweep or --faults, as a script";
     let shrink =
         "Writes an order with fewer rows that reports otherwise in the line in which schedule K does";
     command
@@ -267,18 +232,6 @@ fn with_schedules<'a>(alloc: Global, command: Command<'a>) -> Result<Command<'a>
         .arg(option(alloc, SEED, "S", seed))?
         .arg(count(alloc, SHOW, "K", show))?
         .arg(count(alloc, SHRINK, "K", shrink))
-}
-
-/// The command with the options of orders that have few preemptions.
-fn with_preemptions<'a>(alloc: Global, command: Command<'a>) -> Result<Command<'a>, AllocError>
-    ensures { IfOk result (λ c. app_of c ≡ with_preemptions (app_of command.entry)) }
-{
-    let preemptions =
-        "Runs all orders with at most K preemptions, 1 to 3, and tells which report otherwise";
-    let first = "Ends at the first order that reports otherwise";
-    command
-        .arg(count(alloc, PREEMPTIONS, "K", preemptions))?
-        .arg(flag(alloc, FIRST, first))
 }
 
 /// The option with the number of threads.
@@ -296,7 +249,7 @@ fn with_manners<'a>(alloc: Global, command: Command<'a>) -> Result<Command<'a>, 
     ensures { IfOk result (λ c. app_of c ≡ with_manners (app_of command.entry)) }
 {
     let part = "Makes part K of N of the runs of --sweep, --faults or --schedules alone";
-    let quiet = "Leaves out the lines of runs of --sweep or --faults in which nothing differs";
+    let quiet = "Leaves out the lines of runs of --sweep or --faults that are not wrong";
     let tap = "Writes the end of a bench in the Test Anything Protocol";
     command
         .arg(option(alloc, PART, "K/N", part))?
@@ -314,14 +267,8 @@ fn command<'a>(alloc: Global) -> Result<Command<'a>, AllocError>
         .arg(crew(alloc))?
         .arg(flag(alloc, SWEEP, sweep))?
         .arg(flag(alloc, FAULTS, faults))?
-        .arg(jobs(alloc))?
-        .arg(path(
-            alloc,
-            RECOVER,
-            "Lines that run behind each run of --sweep or --faults",
-        ))?;
+        .arg(jobs(alloc))?;
     let command = with_schedules(alloc, command)?;
-    let command = with_preemptions(alloc, command)?;
     let command = with_manners(alloc, command)?;
     with_payloads(alloc, command)
 }
@@ -453,55 +400,7 @@ fn schedules_alone(
     schedules_named(runs, seed, show, shrink)
 }
 
-/// The work over orders with that many preemptions at most: to run them all, or to show the one that a word names. None where the
-/// word names none, or where `--first` stands beside it.
-fn preempt_or_show(most: u64, word: Option<&str>, first: bool) -> Option<Work>
-    requires { most ≤ 3 }
-    ensures value { result ≡ preempt_or_show most (option_map (λ s. s.now) word.entry) first }
-    ensures most { IfSome result (λ work. IsBounded work) }
-{
-    match word {
-        None => Some(Work::Preempt(OrderBounds { most, first })),
-        Some(word) => {
-            if first {
-                return None;
-            }
-            let number = number_up_to(MOST_SCHEDULES, word)?;
-            Some(Work::ShowOrder(Wanted { most, number }))
-        }
-    }
-}
-
-/// The work over orders with few preemptions, by the word that says how many. None where a word is out of its range.
-fn preemptions_named(word: &str, show: Option<&str>, first: bool) -> Option<Work>
-    ensures value { result ≡ preemptions_named word.now (option_map (λ s. s.now) show.entry) first }
-    ensures most { IfSome result (λ work. IsBounded work) }
-{
-    let most = number_up_to(MOST_PREEMPTIONS, word)?;
-    preempt_or_show(most, show, first)
-}
-
-/// That work, beside which neither schedules may stand, nor their seed, nor one to be shrunk. None where one does.
-fn without_options(
-    runs: Option<&str>,
-    seed: Option<&str>,
-    shrink: Option<&str>,
-    show: Option<&str>,
-    word: &str,
-    first: bool,
-) -> Option<Work>
-    ensures value { result ≡ without_options (option_map (λ s. s.now) runs.entry) (option_map (λ s. s.now) seed.entry)
-        (option_map (λ s. s.now) shrink.entry) (preemptions_named word.now (option_map (λ s. s.now) show.entry) first) }
-    ensures most { IfSome result (λ work. IsBounded work) }
-{
-    if runs.is_some() || seed.is_some() || shrink.is_some() {
-        return None;
-    }
-    preemptions_named(word, show, first)
-}
-
-/// The one work that is asked for without preemptions. None where there are two, or where an option of schedules stands without
-/// them.
+/// The one work that is asked for, whole. None where there are two, or where an option of schedules stands without them.
 fn work_without(matches: &ArgMatches<'_>, sweep: bool, faults: bool) -> Option<Work>
     ensures value { result ≡ work_without (found_of matches.now) sweep faults }
     ensures most { IfSome result (λ work. IsBounded work) }
@@ -517,69 +416,6 @@ fn work_without(matches: &ArgMatches<'_>, sweep: bool, faults: bool) -> Option<W
             }
             bench_or_row(show, work_of_flags(sweep, faults, savers_of(matches)))
         }
-    }
-}
-
-/// That work, without `--preemptions`. None where `--first` stands, which goes with that alone.
-fn without_first(matches: &ArgMatches<'_>, sweep: bool, faults: bool, first: bool) -> Option<Work>
-    ensures value { result ≡ work_by None (found_of matches.now) sweep faults first }
-    ensures most { IfSome result (λ work. IsBounded work) }
-{
-    if first {
-        return None;
-    }
-    work_without(matches, sweep, faults)
-}
-
-/// A work that goes with no bench. None where one stands beside it.
-fn without_benches(sweep: bool, faults: bool, work: Option<Work>) -> Option<Work>
-    requires most { IfSome work (λ w. IsBounded w) }
-    ensures value { result ≡ without_benches sweep faults work }
-    ensures most { IfSome result (λ w. IsBounded w) }
-{
-    if sweep || faults {
-        return None;
-    }
-    work
-}
-
-/// The one work that is asked for without a recovery. None where there are two, or where an option stands without the one that
-/// it goes with.
-fn work_unrecovered(
-    matches: &ArgMatches<'_>,
-    sweep: bool,
-    faults: bool,
-    first: bool,
-) -> Option<Work>
-    ensures value { result ≡ work_by (first_value (found_of matches.now) (codes "preemptions")) (found_of matches.now) sweep faults first }
-    ensures most { IfSome result (λ work. IsBounded work) }
-{
-    let runs = matches.get_str(SCHEDULES);
-    let seed = matches.get_str(SEED);
-    let shrink = matches.get_str(SHRINK);
-    let show = matches.get_str(SHOW);
-    match matches.get_str(PREEMPTIONS) {
-        None => without_first(matches, sweep, faults, first),
-        Some(word) => {
-            let work = without_options(runs, seed, shrink, show, word, first);
-            without_benches(sweep, faults, work)
-        }
-    }
-}
-
-/// That work with a recovery, where one is named. None where it is no bench, and no row of one.
-fn with_recovery(path: Option<&str>, work: Option<Work>) -> Option<Work>
-    requires most { IfSome work (λ w. IsBounded w) }
-    ensures value { result ≡ with_recovery (option_map (λ s. s.now) path.entry) work }
-    ensures most { IfSome result (λ w. IsBounded w) }
-{
-    match path {
-        None => work,
-        Some(_) => match work {
-            Some(Work::Judge(plan)) => Some(Work::Recover(plan)),
-            Some(Work::ShowRow(row)) => Some(Work::ShowRecovered(row)),
-            _ => None,
-        },
     }
 }
 
@@ -627,7 +463,6 @@ fn parted(part: Part, work: Option<Work>) -> Option<Work>
     let part = Some(part);
     match work {
         Some(Work::Judge(plan)) => Some(Work::Judge(SweepPlan { part, ..plan })),
-        Some(Work::Recover(plan)) => Some(Work::Recover(SweepPlan { part, ..plan })),
         Some(Work::Compare(plan)) => Some(Work::Compare(SchedulePlan { part, ..plan })),
         _ => None,
     }
@@ -648,7 +483,7 @@ fn with_part(word: Option<&str>, work: Option<Work>) -> Option<Work>
     }
 }
 
-/// That work, of which only the runs that differ are written. None where it is no bench.
+/// That work, of which only runs that are wrong are written. None where it is no bench.
 fn quietly(work: Option<Work>) -> Option<Work>
     requires most { IfSome work (λ w. IsBounded w) }
     ensures value { result ≡ quietly work }
@@ -659,15 +494,11 @@ fn quietly(work: Option<Work>) -> Option<Work>
             quiet: true,
             ..plan
         })),
-        Some(Work::Recover(plan)) => Some(Work::Recover(SweepPlan {
-            quiet: true,
-            ..plan
-        })),
         _ => None,
     }
 }
 
-/// That work, or with `--quiet` that of which only the runs that differ are written.
+/// That work, or with `--quiet` that of which only runs that are wrong are written.
 fn with_quiet(quiet: bool, work: Option<Work>) -> Option<Work>
     requires most { IfSome work (λ w. IsBounded w) }
     ensures value { result ≡ with_quiet quiet work }
@@ -684,9 +515,7 @@ fn tested(work: Option<Work>) -> Option<Work>
 {
     match work {
         Some(Work::Judge(plan)) => Some(Work::Judge(plan)),
-        Some(Work::Recover(plan)) => Some(Work::Recover(plan)),
         Some(Work::Compare(plan)) => Some(Work::Compare(plan)),
-        Some(Work::Preempt(within)) => Some(Work::Preempt(within)),
         _ => None,
     }
 }
@@ -709,10 +538,8 @@ fn work_asked(matches: &ArgMatches<'_>, tap: bool) -> Option<Work>
 {
     let sweep = matches.get_flag(SWEEP);
     let faults = matches.get_flag(FAULTS);
-    let first = matches.get_flag(FIRST);
     let quiet = matches.get_flag(QUIET);
-    let work = work_unrecovered(matches, sweep, faults, first);
-    let work = with_recovery(matches.get_str(RECOVER), work);
+    let work = work_without(matches, sweep, faults);
     let work = with_part(matches.get_str(PART), work);
     with_tap(tap, with_quiet(quiet, work))
 }
@@ -747,9 +574,8 @@ fn misplaced(matches: &ArgMatches<'_>) -> Option<&'static str> {
     if matches.get_flag(QUIET) && (shows || !judges) {
         return Some("--quiet goes with --sweep or --faults alone");
     }
-    let counts = judges || compares || matches.get_str(PREEMPTIONS).is_some();
-    if matches.get_flag(TAP) && (shows || !counts) {
-        return Some("--tap goes with --sweep, --faults, --schedules or --preemptions alone");
+    if matches.get_flag(TAP) && (shows || !judges && !compares) {
+        return Some("--tap goes with --sweep, --faults or --schedules alone");
     }
     None
 }
@@ -759,15 +585,6 @@ fn conflict(matches: &ArgMatches<'_>) -> &'static str {
     if let Some(text) = misplaced(matches) {
         return text;
     }
-    if matches.get_str(RECOVER).is_some() && !matches.get_flag(SWEEP) && !matches.get_flag(FAULTS) {
-        return "--recover goes with --sweep or --faults";
-    }
-    if matches.get_str(PREEMPTIONS).is_some() {
-        return "--preemptions takes 1 to 3, and goes with --first or --show alone";
-    }
-    if matches.get_flag(FIRST) {
-        return "--first goes with --preemptions";
-    }
     if matches.get_str(SCHEDULES).is_none() {
         if matches.get_str(SHRINK).is_some() {
             return "--shrink goes with --schedules";
@@ -775,7 +592,7 @@ fn conflict(matches: &ArgMatches<'_>) -> &'static str {
         if matches.get_str(SEED).is_none() && matches.get_str(SHOW).is_none() {
             return "--sweep cannot be used with --faults";
         }
-        return "--seed goes with --schedules, and --show with that or with --preemptions";
+        return "--seed goes with --schedules, and --show with that, --sweep or --faults";
     }
     if matches.get_flag(SWEEP) || matches.get_flag(FAULTS) {
         return "--schedules cannot be used with --sweep or --faults";
@@ -828,14 +645,12 @@ fn options_in(alloc: Global, matches: &ArgMatches<'_>) -> Result<BenchOptions, E
     };
     let jobs = jobs_asked(matches);
     let script = path_given(alloc, matches, SCRIPT)?;
-    let recovery = path_given(alloc, matches, RECOVER)?;
     let payloads = payload_paths(alloc, matches)?;
     Ok(BenchOptions {
         work,
         tap,
         jobs,
         script,
-        recovery,
         payloads,
     })
 }

@@ -34,7 +34,7 @@ pub struct Watched<'a, F, C> {
 /// What the rows of that work are.
 fn noun_of(work: Work) -> &'static str {
     match work {
-        Work::Compare(_) | Work::Preempt(_) => "orders",
+        Work::Compare(_) => "orders",
         _ => "points",
     }
 }

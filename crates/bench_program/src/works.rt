@@ -5,8 +5,7 @@ ghost use Rattle.board_model.specs.declared.refusal.Refusal.TheVariants.{Memory,
 ghost use Rattle.script_lang.specs.Scripts.{script_of};
 ghost use Rattle.bench_program.specs.Usage.{IsBounded};
 ghost use Rattle.std.specs.Io.KnownBytes.{Appends};
-ghost use Rattle.bench_program.specs.Written.{HasOneOrder, HasOrders, IsCompared, IsMade, IsPreempted, IsPut, IsRecovered, IsRefusedWith, IsReported, IsRowShown, is_kept, put_text, shown_by, tested_text};
-ghost use Rattle.bench_program.specs.declared.usage.Work.TheVariants.{Recover, ShowRecovered};
+ghost use Rattle.bench_program.specs.Written.{HasOneOrder, HasOrders, IsCompared, IsMade, IsPut, IsRefusedWith, IsReported, is_kept, put_text, shown_by, tested_text};
 
 use crate::digests::{is_part, part_tag, with_tag};
 use crate::orders::{has_orders, is_shown};
@@ -14,10 +13,8 @@ use crate::taps::write_tap;
 use crate::usage::{BenchOptions, MOST_JOBS, Savers, Work};
 use crate::watched::Unpaused;
 use bench_report::run_with;
-use bench_schedules::{
-    OrderBounds, SchedulePlan, line_numbers, preemptions, schedules, show, show_order, shrink,
-};
-use bench_sweep::{RecoveryFile, SweepPlan, WantedRow, run_bench, run_bench_recovered, show_row};
+use bench_schedules::{SchedulePlan, schedules, show, shrink};
+use bench_sweep::{run_bench, show_row};
 use board::Payloads;
 use board_model::{Refusal, unwritten};
 use crew::Sequential;
@@ -26,14 +23,6 @@ use script_lang::parse_script;
 use std::alloc::Global;
 use std::io::Write;
 use std::thread::{self, Threads};
-
-/// What a work is done over.
-#[derive(Clone, Copy, Drop)]
-pub struct WorkTexts<'a> {
-    pub script: &'a [u8],
-    /// The lines of the operator's recovery.
-    pub recovery: &'a [u8],
-}
 
 /// How many threads make the runs of a bench, at most: as many as were asked for, or as there are processors.
 fn jobs_of<R: Threads>(threads: &R, asked: Option<usize>) -> usize
@@ -73,49 +62,6 @@ fn report<R: Threads + Sync, W: Write>(
     }
 }
 
-/// Runs a bench over the script with that recovery behind each run, and writes its lines.
-fn recover<R: Threads + Sync, P: Progress, W: Write>(
-    jobs: &Jobs<'_, R, P>,
-    alloc: Global,
-    plan: SweepPlan,
-    texts: WorkTexts<'_>,
-    payloads: Payloads,
-    out: &mut W,
-) -> Result<u64, Refusal>
-    ensures made { IfOk result (λ differ. IsRecovered plan payloads texts.entry.recovery.now texts.entry.script.now
-        (W.contents out.old) (W.contents out.new) differ) }
-    ensures refused { IfErr result (IsRefusedWith (Recover plan) payloads texts.entry.recovery.now texts.entry.script.now) }
-{
-    let numbers = line_numbers(alloc, texts.recovery)?;
-    let recovery = RecoveryFile {
-        bytes: texts.recovery,
-        numbers: &numbers,
-    };
-    let done = run_bench_recovered(jobs, alloc, plan, texts.script, recovery, payloads, out)?;
-    Ok(done.differ)
-}
-
-/// Writes a run of a bench over the script as a script that ends with that recovery.
-fn show_recovered<R: Threads + Sync, W: Write>(
-    alloc: Global,
-    row: WantedRow,
-    texts: WorkTexts<'_>,
-    payloads: Payloads,
-    out: &mut W,
-) -> Result<u64, Refusal>
-    ensures made { IfOk result (λ differ. (differ ≡ 0) × IsRowShown row payloads texts.entry.recovery.now texts.entry.script.now
-        (W.contents out.old) (W.contents out.new)) }
-    ensures refused { IfErr result (IsRefusedWith (ShowRecovered row) payloads texts.entry.recovery.now texts.entry.script.now) }
-{
-    let numbers = line_numbers(alloc, texts.recovery)?;
-    let file = RecoveryFile {
-        bytes: texts.recovery,
-        numbers: &numbers,
-    };
-    show_row::<R, W>(alloc, row, texts.script, Some(file), payloads, out)?;
-    Ok(0)
-}
-
 /// Refused `NotPlain` exactly where the script has no fault, and no stretch of rows of two harts: it has one order alone.
 fn check_orders(alloc: Global, script: &[u8]) -> Result<(), Refusal>
     ensures several { OnOk result (HasOrders script.now) }
@@ -148,51 +94,29 @@ fn compare<R: Threads + Sync, P: Progress, W: Write>(
     Ok(compared.differ)
 }
 
-/// Compares the orders of the script that have few preemptions with its own run. Refused `NotPlain` where it has one order alone.
-fn preempt<R: Threads + Sync, P: Progress, W: Write>(
-    jobs: &Jobs<'_, R, P>,
-    alloc: Global,
-    within: OrderBounds,
-    script: &[u8],
-    payloads: &Payloads,
-    out: &mut W,
-) -> Result<u64, Refusal>
-    requires most { within.most ≤ 3 }
-    ensures made { IfOk result (λ differ. HasOrders script.now
-        × IsPreempted within payloads.now script.now (W.contents out.old) (W.contents out.new) differ) }
-    ensures refused { IfErr result (λ e. (e ≡ Memory) ⊎ (e ≡ Output) ⊎ (script_of script.now ≡ Err e) ⊎ HasOneOrder script.now e) }
-{
-    check_orders(alloc, script)?;
-    let done = preemptions(jobs, alloc, script, payloads, within, out)?;
-    Ok(done.differ)
-}
-
 /// Makes what the work makes of the script, with these payloads in the slots. Of a long run it is told how far that is.
 pub fn make<R: Threads + Sync, P: Progress + Drop, W: Write>(
     alloc: Global,
     threads: &R,
     options: &BenchOptions,
     payloads: Payloads,
-    texts: WorkTexts<'_>,
+    script: &[u8],
     out: &mut W,
     progress: P,
 ) -> Result<u64, Refusal>
     requires most { IsBounded options.now.work }
-    ensures made { IfOk result (λ differ. IsMade options.now.work payloads texts.entry.recovery.now texts.entry.script.now differ
+    ensures made { IfOk result (λ differ. IsMade options.now.work payloads script.now differ
         (W.contents out.old) (W.contents out.new)) }
-    ensures refused { IfErr result (IsRefusedWith options.now.work payloads texts.entry.recovery.now texts.entry.script.now) }
+    ensures refused { IfErr result (IsRefusedWith options.now.work payloads script.now) }
 {
-    let script = texts.script;
     let jobs = Jobs::telling(threads, jobs_of(threads, options.jobs), progress);
     match options.work {
         Work::Report(savers) => report(alloc, threads, savers, script, payloads, out),
         Work::Judge(plan) => Ok(run_bench(&jobs, alloc, plan, script, payloads, out)?.wrong),
-        Work::Recover(plan) => recover(&jobs, alloc, plan, texts, payloads, out),
         Work::ShowRow(row) => {
-            show_row::<R, W>(alloc, row, script, None, payloads, out)?;
+            show_row::<R, W>(alloc, row, script, payloads, out)?;
             Ok(0)
         }
-        Work::ShowRecovered(row) => show_recovered::<R, W>(alloc, row, texts, payloads, out),
         Work::Compare(plan) => compare(&jobs, alloc, plan, script, &payloads, out),
         Work::Show(drawn) => {
             show::<R, W>(alloc, script, &payloads, drawn.seed, drawn.number, out)?;
@@ -200,11 +124,6 @@ pub fn make<R: Threads + Sync, P: Progress + Drop, W: Write>(
         }
         Work::Shrink(drawn) => {
             shrink::<R, W>(alloc, script, &payloads, drawn.seed, drawn.number, out)?;
-            Ok(0)
-        }
-        Work::Preempt(within) => preempt(&jobs, alloc, within, script, &payloads, out),
-        Work::ShowOrder(wanted) => {
-            show_order(&jobs, alloc, script, &payloads, wanted, out)?;
             Ok(0)
         }
     }
@@ -223,7 +142,7 @@ fn shown_by(alloc: Global, work: Work, script: &[u8]) -> Result<bool, Refusal>
     ensures refused { IfErr result (λ e. e ≡ Memory) }
 {
     match work {
-        Work::Compare(_) | Work::Preempt(_) => match parse_script(alloc, script) {
+        Work::Compare(_) => match parse_script(alloc, script) {
             Ok(script) => Ok(is_shown(&script.lines)),
             Err(Refusal::Memory) => Err(Refusal::Memory),
             Err(_) => Ok(true),
@@ -256,25 +175,25 @@ pub fn make_kept<R: Threads + Sync, P: Progress + Copy + Drop, W: Write>(
     threads: &R,
     options: &BenchOptions,
     payloads: Payloads,
-    texts: WorkTexts<'_>,
+    script: &[u8],
     out: &mut W,
     progress: P,
 ) -> Result<u64, Refusal>
     requires most { IsBounded options.now.work }
     ensures made { IfOk result (λ differ. IsPut true
-        (put_text options.now.tap options.now.work payloads texts.entry.recovery.now texts.entry.script.now)
-        (IsMade options.now.work payloads texts.entry.recovery.now texts.entry.script.now) differ (W.contents out.old) (W.contents out.new)) }
-    ensures refused { IfErr result (IsRefusedWith options.now.work payloads texts.entry.recovery.now texts.entry.script.now) }
+        (put_text options.now.tap options.now.work payloads script.now)
+        (IsMade options.now.work payloads script.now) differ (W.contents out.old) (W.contents out.new)) }
+    ensures refused { IfErr result (IsRefusedWith options.now.work payloads script.now) }
 {
-    let tag = part_tag(alloc, options.work, &payloads, texts)?;
-    let shown = shown_by(alloc, options.work, texts.script)?;
+    let tag = part_tag(alloc, options.work, &payloads, script)?;
+    let shown = shown_by(alloc, options.work, script)?;
     let mut text = Vec::new(alloc);
     let made = make::<R, Unpaused<P>, Vec<u8>>(
         alloc,
         threads,
         options,
         payloads,
-        texts,
+        script,
         &mut text,
         Unpaused(progress),
     );

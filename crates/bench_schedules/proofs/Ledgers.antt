@@ -1,14 +1,14 @@
 -- Schedules that were run and told, one after another.
 use Rattle.std.proofs.Common.{◌≡◌, ◌∙◌, ℕ, suc, ◌+◌, List, [], ◌∷◌, ◌++◌, ◌≤◌, Option, Some, None, length, refl, sym, ap, subst, arith, append_assoc, length-append}
 use Rattle.std.proofs.lemmas.List.{append-nil}
-use Rattle.jobs.specs.Handed.{AreRows}
+use Rattle.std.proofs.lemmas.List.Elements.{All-append, All-cons, All-nil}
 use Rattle.std.specs.Fmt.{decimal}
 use Rattle.std.specs.Io.KnownBytes.{Appends}
 use Rattle.script_lang.specs.Scripts.{Script}
 use Rattle.board_model.proofs.Written.{appended, unwritten}
 use Rattle.report_lines.specs.declared.printed.Answer.{Answer}
 use Rattle.bench_schedules.specs.declared.runs.Difference.{Difference}
-use Rattle.bench_schedules.specs.Schedules.{Ran, RunText, RunsText, Source, Wrote, differing, tight_text}
+use Rattle.bench_schedules.specs.Schedules.{Ran, RunText, RunsText, Wrote, differing, tight_text}
 use lib.Chars.{codes}
 
 texts_more : (number : ℕ → ℕ) (k : ℕ) (runs : List (Option Difference)) (text : List ℕ) (run : Option Difference) (more : List ℕ) → RunsText number k runs text
@@ -36,32 +36,27 @@ differing_more [] run = omega arith
 differing_more (None ∷ runs) run = differing_more runs run
 differing_more (Some d ∷ runs) run = omega (arith, differing_more runs run)
 
--- one more row behind others
-rows_more : {Row : Type 0} (is : ℕ → Row → Type 0) (first : ℕ) (rows : List Row) (row : Row) → AreRows is first rows → is (first + length rows) row → AreRows is first (rows ++ row ∷ [])
-rows_more is first [] row each more = (subst (λ (k : ℕ). is k row) (let e : first + 0 ≡ first = omega arith in e) more, tt)
-rows_more is first (x ∷ rows) row each more = (each.0, rows_more is (first + 1) rows row each.1 (subst (λ (k : ℕ). is k row) (let e : first + suc (length rows) ≡ first + 1 + length rows = omega arith in e) more))
-
-pub wrote_none : (said : Script) (start : List (List ℕ)) (source : Source) (number : ℕ → ℕ) (own : List Answer) (k : ℕ) (now : Option (List ℕ)) → Wrote said start source number own k 0 now now 0
-wrote_none said start source number own k now = record {
+pub wrote_none : (said : Script) (start : List (List ℕ)) (number : ℕ → ℕ) (own : List Answer) (k : ℕ) (now : Option (List ℕ)) → Wrote said start number own k 0 now now 0
+wrote_none said start number own k now = record {
   runs = [];
   all = refl;
-  each = tt;
+  each = All-nil (Ran said start own);
   count = refl;
   text = [];
   tells = refl;
   written = unwritten now;
 }
 
-pub wrote_more : (said : Script) (start : List (List ℕ)) (source : Source) (number : ℕ → ℕ) (own : List Answer) (k n differ m : ℕ) (old mid new : Option (List ℕ)) (run : Option Difference)
-    → Wrote said start source number own k n old mid differ → Ran said start source own (k + n) run
+pub wrote_more : (said : Script) (start : List (List ℕ)) (number : ℕ → ℕ) (own : List Answer) (k n differ m : ℕ) (old mid new : Option (List ℕ)) (run : Option Difference)
+    → Wrote said start number own k n old mid differ → Ran said start own run
     → ((text : List ℕ) × RunText number (k + n) run text × Appends mid new text × (m ≡ differing (run ∷ [])))
-    → Wrote said start source number own k (n + 1) old new (differ + m)
-wrote_more said start source number own k n differ m old mid new run so_far ran told =
+    → Wrote said start number own k (n + 1) old new (differ + m)
+wrote_more said start number own k n differ m old mid new run so_far ran told =
     let P : ℕ → Type 0 = λ i. RunText number (k + i) run told.0 in
     record {
       runs = so_far.runs ++ run ∷ [];
       all = length-append so_far.runs (run ∷ []) ∙ ap (λ k. k + 1) so_far.all;
-      each = rows_more (Ran said start source own) k so_far.runs run so_far.each (subst (λ (i : ℕ). Ran said start source own (k + i) run) (sym so_far.all) ran);
+      each = All-append (Ran said start own) so_far.runs (run ∷ []) so_far.each (All-cons (Ran said start own) run [] ran (All-nil (Ran said start own)));
       count = (let more = differing_more so_far.runs run in omega (arith, more, so_far.count, told.3));
       text = so_far.text ++ told.0;
       tells = texts_more number k so_far.runs so_far.text run told.0 so_far.tells (subst P (sym so_far.all) told.1);

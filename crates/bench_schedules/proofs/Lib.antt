@@ -1,16 +1,7 @@
-pub mod Steps
-pub mod PointNumbers
-pub mod OrderRows
-pub mod RanOrders
-pub mod MadeOrders
-pub mod Handing
-pub mod KeptOrders
 pub mod Shortened
 pub mod Aparts
 pub mod Ledgers
 pub mod Lines
-pub mod CutOrders
 pub mod Places
 pub mod Texts
 pub mod DrawnRuns
-pub mod Numbered

@@ -15,11 +15,14 @@ use Rattle.bench_live.specs.Lives.{Shows}
 use Rattle.bench_live.specs.declared.live.LiveBench.{LiveBench}
 use Rattle.bench_schedules.specs.declared.runs.Difference.{Difference}
 use Rattle.bench_schedules.specs.declared.runs.RunUnderWay.{RunUnderWay}
-use Rattle.bench_schedules.specs.Schedules.{other_answer, other_answers, Ran, RanLike, RanOwn, IsNumbered, Source}
+use Rattle.bench_schedules.specs.Schedules.{other_answer, other_answers, Ran, RanLike, RanOwn}
 use Rattle.bench_schedules.specs.Compared.{IsDifference, IsNextPlace}
 use Rattle.bench_schedules.specs.GoingOn.{CameTo, EndsSo, GoesAlike, GoesApart, WentSo}
 use Rattle.bench_schedules.specs.RunSoFar.{LineRan, RunSoFar}
-use Rattle.bench_schedules.proofs.OrderRows.{here_is}
+
+-- a line, and those after it
+here_is : (ls : List Line) (i : ℕ) (line : Line) → i < length ls → line ≡ get_or ls i line → drop i ls ≡ line ∷ drop (i + 1) ls
+here_is ls i line less is = drop_more ls i line less ∙ ap (λ l. l ∷ drop (i + 1) ls) (sym is)
 
 pub told_snoc : (size : Size) (ls : List Line) (b : Bench) (answers : List Answer) (mid : Bench) (line : Line) (a : Answer)
     → Run size b ls answers mid → other_answers (ls ++ line ∷ []) (answers ++ a ∷ []) ≡ other_answers ls answers ++ other_answer (is_other line) a
@@ -189,11 +192,10 @@ ran_own size start ls own going goes disk = (
 )
 
 -- what ran was a schedule
-pub ran_of : (size : Size) (start : List (List ℕ)) (from : Source) (those new : List Line) (own : List Answer) (k : ℕ) (differs : Option Difference) → IsSize size → IsNumbered from k those new → IsOrderFor those new → length new ≤ 65535
-    → All (IsLineInRange size) those → All FitsLine those → RanLike size start new own differs → Ran (record { size = size; lines = those }) start from own k differs
-ran_of size start from those new own k differs sized drawn order few ranges fits ran = record {
+pub ran_of : (size : Size) (start : List (List ℕ)) (those new : List Line) (own : List Answer) (differs : Option Difference) → IsSize size → IsOrderFor those new → length new ≤ 65535
+    → All (IsLineInRange size) those → All FitsLine those → RanLike size start new own differs → Ran (record { size = size; lines = those }) start own differs
+ran_of size start those new own differs sized order few ranges fits ran = record {
   schedule = record { size = size; lines = new };
-  drawn = drawn;
   order = record { board = refl; lines = order.order };
   writable = record { size = sized; few = few; ranges = order.ranges size ranges; fits = order.fits fits };
   ran = ran;

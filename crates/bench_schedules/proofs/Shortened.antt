@@ -8,7 +8,7 @@ use Rattle.script_lang.specs.Spellings.{script_text, IsWritable}
 use Rattle.script_lang.specs.declared.line.Line.{Line}
 use Rattle.report_lines.specs.declared.printed.Answer.{Answer}
 use Rattle.bench_orders.specs.Orders.{IsOrderFor}
-use Rattle.bench_schedules.specs.Schedules.{IsNumbered, RanLike, RanOwn, Source}
+use Rattle.bench_schedules.specs.Schedules.{RanLike, RanOwn}
 use Rattle.bench_schedules.specs.declared.runs.Difference.{Difference}
 use Rattle.bench_schedules.specs.Shrunk.{IsFound, IsShortened, Shrunk}
 
@@ -48,19 +48,17 @@ module _ (size : Size) (start : List (List ℕ)) (those : List Line) (own : List
   }
 
   -- the lines that were found, as they were written
-  pub shrunk_of : (from : Source) (k : ℕ) (drawn new xs : List Line) (old now : Option (List ℕ)) → IsSize size → RanOwn size start those own → IsNumbered from k those drawn → IsOrderFor those drawn → IsShortened size start those own drawn new
+  pub shrunk_of : (drawn new xs : List Line) (old now : Option (List ℕ)) → IsSize size → RanOwn size start those own → IsOrderFor those drawn → IsShortened size start those own drawn new
       → All (IsLineInRange size) those → All FitsLine those → xs ≡ new → ((s : Script) → IsWritable s → script_of (script_text s) ≡ Ok s)
-      → Appends old now (script_text (record { size = size; lines = xs }) ++ 10 ∷ []) → Shrunk (record { size = size; lines = those }) start from.seed k old now
-  shrunk_of from k drawn new xs old now sized ran_own drawn_as order short ranges fits is reads text =
+      → Appends old now (script_text (record { size = size; lines = xs }) ++ 10 ∷ []) → Shrunk (record { size = size; lines = those }) start old now
+  shrunk_of drawn new xs old now sized ran_own order short ranges fits is reads text =
       let s : Script = record { size = size; lines = new } in
       let w : IsWritable s = record { size = sized; few = short.few; ranges = short.order.ranges size ranges; fits = short.order.fits fits } in
       let P : List Line → Type 0 = λ z. Appends old now (script_text (record { size = size; lines = z }) ++ 10 ∷ []) in
       record {
         own = own;
         ran_own = ran_own;
-        fronts = from.fronts;
         drawn = record { size = size; lines = drawn };
-        drawn_as = drawn_as;
         drawn_order = record { board = refl; lines = order.order };
         schedule = s;
         order = record { board = refl; lines = short.order.order };

@@ -5,14 +5,14 @@ use Rattle.disk.specs.Facts.{counted}
 use Rattle.script_lang.specs.Scripts.{Script}
 use Rattle.report_lines.specs.declared.printed.Answer.{Answer}
 use Rattle.bench_schedules.specs.Numbers.{place_of_other}
-use Rattle.bench_schedules.specs.Schedules.{Ran, RunText, Source, differing}
+use Rattle.bench_schedules.specs.Schedules.{Ran, RunText, differing}
 use Rattle.bench_schedules.specs.declared.benches.DrawnRun.{DrawnRun}
 use Rattle.bench_schedules.specs.declared.benches.DrawnReport.{DrawnReport}
 
--- The schedule of that number was run.
-pub record IsDrawn (said : Script) (start : List (List ℕ)) (from : Source) (own : List Answer) (k : ℕ) (drawn : DrawnRun) : Type 0 where
+-- A schedule was run under that number.
+pub record IsDrawn (said : Script) (start : List (List ℕ)) (own : List Answer) (k : ℕ) (drawn : DrawnRun) : Type 0 where
   pub number : drawn.number ≡ k
-  pub ran : Ran said start from own k drawn.differs
+  pub ran : Ran said start own drawn.differs
 
 -- What is to be said of that schedule was written, and it was counted where it differs.
 pub record TellsDrawn {C W : Type 0} (contents : W → Option (List ℕ)) (old : DrawnReport C W) (drawn : DrawnRun) (new : DrawnReport C W) : Type 0 where

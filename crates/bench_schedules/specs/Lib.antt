@@ -1,17 +1,8 @@
-pub mod Stepped
-pub mod Points
-pub mod Orders
-pub mod Preemptions
-pub mod SoFar
-pub mod Handing
-pub mod Shown
 pub mod Shrunk
 pub mod Told
 pub mod Compared
 pub mod RunSoFar
 pub mod GoingOn
-pub mod Aheads
-pub mod Boards
 pub mod Numbers
 pub mod Schedules
 pub mod Drawable

@@ -1,5 +1,5 @@
 -- The runs of the schedule bench. Source: docs/SCRIPT.md, "Schedules".
-use Rattle.std.specs.Prelude.{Ok, Bool, true, ◌≡◌, ◌≢◌, ◌+◌, ◌-◌, ◌==◌, ℕ, suc, List, [], ◌∷◌, ◌++◌, Option, None, Some, length, take, if◌then◌else◌}
+use Rattle.std.specs.Prelude.{Ok, Bool, true, ◌≡◌, ◌≢◌, ◌+◌, ◌-◌, ◌==◌, ℕ, suc, List, [], ◌∷◌, ◌++◌, Option, None, Some, All, length, take, if◌then◌else◌}
 use Rattle.std.specs.Fmt.{decimal}
 use Rattle.std.specs.List.{flat_map}
 use Rattle.std.specs.Io.KnownBytes.{Appends}
@@ -12,10 +12,7 @@ use Rattle.script_lang.specs.declared.line.Line.{Line}
 use Rattle.bench_report.specs.Bench.{Bench, bench_with}
 use Rattle.bench_report.specs.Steps.{Run}
 use Rattle.report_lines.specs.declared.printed.Answer.{Answer}
-use Rattle.jobs.specs.Handed.{AreRows}
-use Rattle.bench_orders.specs.Drawn.{answers_from, generator_of, IsDrawnFrom}
 use Rattle.bench_orders.specs.Orders.{IsScheduleOf, is_other}
-use Rattle.bench_orders.specs.declared.quotas.Front.{Front}
 use Rattle.bench_schedules.specs.Told.{IsFirstApart, told_lines}
 use Rattle.bench_schedules.specs.declared.runs.Difference.{Difference}
 use lib.Chars.{codes}
@@ -52,19 +49,9 @@ pub record RanLike (size : Size) (start : List (List ℕ)) (those : List Line) (
   pub ran : RanWell size start (take n those) answers end
   pub like : ToldLike own (other_answers (take n those) answers) differs
 
--- What schedules are drawn from: a seed and, of each stretch of the script, the part in which its own run did something.
-pub record Source : Type 0 where
-  pub seed : ℕ
-  pub fronts : List Front
-
--- these lines are the ones that are drawn from those as schedule k
-abbrev pub IsNumbered : Source → ℕ → List Line → List Line → Type 0
-IsNumbered from k old new = IsDrawnFrom (answers_from (generator_of from.seed k)) from.fronts old new
-
--- schedule k of the script was run, which began with these payloads as the script did
-pub record Ran (said : Script) (start : List (List ℕ)) (from : Source) (own : List Answer) (k : ℕ) (differs : Option Difference) : Type 0 where
+-- a schedule of the script was run, which began with these payloads as the script did
+pub record Ran (said : Script) (start : List (List ℕ)) (own : List Answer) (differs : Option Difference) : Type 0 where
   pub schedule : Script
-  pub drawn : IsNumbered from k said.lines schedule.lines
   pub order : IsScheduleOf said schedule
   pub writable : IsWritable schedule
   pub ran : RanLike said.size start schedule.lines own differs
@@ -104,11 +91,11 @@ abbrev pub count_text : Option Part → ℕ → ℕ → List ℕ
 count_text part n differ = part_text part ++ codes "schedules " ++ decimal n ++ codes " differ " ++ decimal differ ++ 10 ∷ []
 
 -- These runs were made, of the n schedules from number k on: what was written of them, and how many differ.
-pub record Wrote (said : Script) (start : List (List ℕ)) (from : Source) (number : ℕ → ℕ) (own : List Answer) (k n : ℕ)
+pub record Wrote (said : Script) (start : List (List ℕ)) (number : ℕ → ℕ) (own : List Answer) (k n : ℕ)
     (old new : Option (List ℕ)) (differ : ℕ) : Type 0 where
   pub runs : List (Option Difference)
   pub all : length runs ≡ n
-  pub each : AreRows (Ran said start from own) k runs
+  pub each : All (Ran said start own) runs
   pub count : differ ≡ differing runs
   pub text : List ℕ
   pub tells : RunsText number k runs text
@@ -126,25 +113,22 @@ own_tight part tight = if has_tight part then tight else []
 abbrev pub own_count : Option Part → ℕ → ℕ
 own_count part n = end_of part n - begin_of part n
 
--- All n schedules of the seed were run, or those of the part, under their own numbers, each was compared with the script's own run and
--- counted, and this was written of them.
-pub record WroteSchedules (said : Script) (start : List (List ℕ)) (seed : ℕ) (number : ℕ → ℕ) (part : Option Part) (n : ℕ)
+-- All n schedules were run, or those of the part, under their own numbers, each was compared with the script's own run and counted, and
+-- this was written of them.
+pub record WroteSchedules (said : Script) (start : List (List ℕ)) (number : ℕ → ℕ) (part : Option Part) (n : ℕ)
     (old new : Option (List ℕ)) (differ : ℕ) : Type 0 where
   pub own : List Answer
   pub ran : RanOwn said.size start said.lines own
-  pub fronts : List Front
   pub tight : List ℕ
   pub first : Option (List ℕ)
   pub begun : Appends old first (tight_text (own_tight part tight))
   pub last : Option (List ℕ)
-  pub wrote : Wrote said start (record { seed = seed; fronts = fronts }) number own (1 + begin_of part n) (own_count part n) first last differ
+  pub wrote : Wrote said start number own (1 + begin_of part n) (own_count part n) first last differ
   pub ended : Appends last new (count_text part (own_count part n) differ)
 
--- `--show`: schedule k of the seed, as a text that is read back as it. A line feed ends its last line too.
-pub record Shown (said : Script) (seed k : ℕ) (old new : Option (List ℕ)) : Type 0 where
-  pub fronts : List Front
+-- `--show`: a schedule, as a text that is read back as it. A line feed ends its last line too.
+pub record Shown (said : Script) (old new : Option (List ℕ)) : Type 0 where
   pub schedule : Script
-  pub drawn : IsNumbered (record { seed = seed; fronts = fronts }) k said.lines schedule.lines
   pub order : IsScheduleOf said schedule
   pub writable : IsWritable schedule
   pub reads : script_of (script_text schedule) ≡ Ok schedule

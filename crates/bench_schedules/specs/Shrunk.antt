@@ -8,8 +8,7 @@ use Rattle.script_lang.specs.Spellings.{script_text, IsWritable}
 use Rattle.script_lang.specs.declared.line.Line.{Line}
 use Rattle.report_lines.specs.declared.printed.Answer.{Answer}
 use Rattle.bench_orders.specs.Orders.{IsOrderFor, IsScheduleOf, other_count}
-use Rattle.bench_orders.specs.declared.quotas.Front.{Front}
-use Rattle.bench_schedules.specs.Schedules.{IsNumbered, RanLike, RanOwn}
+use Rattle.bench_schedules.specs.Schedules.{RanLike, RanOwn}
 use Rattle.bench_schedules.specs.declared.runs.Difference.{Difference}
 
 -- Schedules of these lines can be run beside the script's own run.
@@ -44,13 +43,11 @@ pub record IsShortened (size : Size) (start : List (List ℕ)) (those : List Lin
   pub unchanged : differs ≡ None → new ≡ drawn
 
 -- `--shrink`: a schedule of the script, as a text that is read back as it; a line feed ends its last line too. Its report first differs
--- from that of the script's own run in the same line as the report of schedule k of the seed, or as little as that one.
-pub record Shrunk (said : Script) (start : List (List ℕ)) (seed k : ℕ) (old new : Option (List ℕ)) : Type 0 where
+-- from that of the script's own run in the same line as the report of the schedule that was drawn, or as little as that one.
+pub record Shrunk (said : Script) (start : List (List ℕ)) (old new : Option (List ℕ)) : Type 0 where
   pub own : List Answer
   pub ran_own : RanOwn said.size start said.lines own
-  pub fronts : List Front
   pub drawn : Script
-  pub drawn_as : IsNumbered (record { seed = seed; fronts = fronts }) k said.lines drawn.lines
   pub drawn_order : IsScheduleOf said drawn
   pub schedule : Script
   pub order : IsScheduleOf said schedule

@@ -69,7 +69,7 @@ fn run_schedule<C: Crew>(
     requires drawable { AreDrawable runner.now.setting.shape.now runner.now.lines.now own.now.answers.items }
     ensures ran { IfOk result (λ differs.
         Ran (record { size = runner.now.setting.shape.now; lines = runner.now.lines.now }) runner.now.payloads.now
-        (record { seed = runner.now.seed; fronts = own.now.stretches.fronts.items }) own.now.answers.items k differs) }
+        own.now.answers.items differs) }
     ensures refused { IfErr result (λ e. e ≡ Memory) }
 {
     orders_keep_lines();
@@ -124,8 +124,7 @@ impl<'a, 'b, 'c, C: Crew + Sync> Task for DrawnRuns<'a, 'b, 'c, C> {
         × IsSync C.Handle.row };
 
     ghost is_row = { λ runs k drawn. IsDrawn (record { size = runs.runner.now.setting.shape.now; lines = runs.runner.now.lines.now })
-        runs.runner.now.payloads.now (record { seed = runs.runner.now.seed; fronts = runs.own.now.stretches.fronts.items })
-        runs.own.now.answers.items k drawn };
+        runs.runner.now.payloads.now runs.own.now.answers.items k drawn };
 
     /// Runs the schedule of that number.
     fn row(&self, number: u64) -> Result<DrawnRun, Refusal> {
@@ -172,7 +171,7 @@ fn run_schedules<R: Threads + Sync, P: Progress, C: Crew + Sync, W: Write>(
     requires drawable { AreDrawable runner.now.setting.shape.now runner.now.lines.now own.now.answers.items }
     requires most { within.to ≤ 1000000 }
     ensures wrote { IfOk result (λ differ. Wrote (record { size = runner.now.setting.shape.now; lines = runner.now.lines.now })
-        runner.now.payloads.now (record { seed = runner.now.seed; fronts = own.now.stretches.fronts.items })
+        runner.now.payloads.now
         (λ place. slice_index_or runner.now.numbers.now (1 + place_of_other place runner.now.lines.now) 0)
         own.now.answers.items (1 + within.from) (within.to - within.from) (W.contents out.old) (W.contents out.new) differ) }
     ensures err { IfErr result (λ e. (e ≡ Memory) ⊎ (e ≡ Output)) }
@@ -258,7 +257,7 @@ fn compare_own<R: Threads + Sync, P: Progress, C: Crew + Sync, W: Write>(
     requires own { RanOwn runner.now.setting.shape.now runner.now.payloads.now runner.now.lines.now own.now.answers.items }
     requires most { plan.count ≤ 1000000 }
     ensures wrote { IfOk result (λ count. (count.runs ≡ own_count plan.part plan.count) × WroteSchedules (record { size = runner.now.setting.shape.now; lines = runner.now.lines.now })
-        runner.now.payloads.now runner.now.seed
+        runner.now.payloads.now
         (λ place. slice_index_or runner.now.numbers.now (1 + place_of_other place runner.now.lines.now) 0)
         plan.part plan.count (W.contents out.old) (W.contents out.new) count.differ) }
     ensures err { IfErr result (λ e. (e ≡ Memory) ⊎ (e ≡ Output)) }
@@ -285,7 +284,7 @@ fn compare_all<R: Threads + Sync, P: Progress, C: Crew + Sync, W: Write>(
     requires fits { All FitsLine runner.now.lines.now }
     requires most { plan.count ≤ 1000000 }
     ensures wrote { IfOk result (λ count. (count.runs ≡ own_count plan.part plan.count) × WroteSchedules (record { size = runner.now.setting.shape.now; lines = runner.now.lines.now })
-        runner.now.payloads.now runner.now.seed
+        runner.now.payloads.now
         (λ place. slice_index_or runner.now.numbers.now (1 + place_of_other place runner.now.lines.now) 0)
         plan.part plan.count (W.contents out.old) (W.contents out.new) count.differ) }
     ensures err { IfErr result (λ e. (e ≡ Memory) ⊎ (e ≡ Output)) }
@@ -307,7 +306,7 @@ fn compare_script<'a, R: Threads + Sync, P: Progress, W: Write>(
     requires few { length script.now.lines.items ≤ 65535 }
     requires ranges { All (IsLineInRange script.now.shape) script.now.lines.items }
     requires most { plan.count ≤ 1000000 }
-    ensures wrote { IfOk result (λ count. (count.runs ≡ own_count plan.part plan.count) × WroteSchedules (view script.now) payloads.now plan.seed
+    ensures wrote { IfOk result (λ count. (count.runs ≡ own_count plan.part plan.count) × WroteSchedules (view script.now) payloads.now
         (λ place. slice_index_or numbers.now (1 + place_of_other place script.now.lines.items) 0)
         plan.part plan.count (W.contents out.old) (W.contents out.new) count.differ) }
     ensures err { IfErr result (λ e. (e ≡ Memory) ⊎ (e ≡ Output)) }
@@ -342,7 +341,7 @@ fn show_lines<C: Crew, W: Write>(
 ) -> Result<(), Refusal>
     requires few { length lines.now ≤ 65535 }
     requires ranges { All (IsLineInRange setting.now.shape.now) lines.now }
-    ensures shown { OnOk result (Shown (record { size = setting.now.shape.now; lines = lines.now }) seed k (W.contents out.old) (W.contents out.new)) }
+    ensures shown { OnOk result (Shown (record { size = setting.now.shape.now; lines = lines.now }) (W.contents out.old) (W.contents out.new)) }
     ensures err { IfErr result (λ e. (e ≡ Memory) ⊎ (e ≡ Output)) }
 {
     scripts_read_as_written();
@@ -364,7 +363,7 @@ fn show_script<R: Threads + Sync, W: Write>(
 ) -> Result<(), Refusal>
     requires few { length script.now.lines.items ≤ 65535 }
     requires ranges { All (IsLineInRange script.now.shape) script.now.lines.items }
-    ensures shown { OnOk result (Shown (view script.now) seed k (W.contents out.old) (W.contents out.new)) }
+    ensures shown { OnOk result (Shown (view script.now) (W.contents out.old) (W.contents out.new)) }
     ensures err { IfErr result (λ e. (e ≡ Memory) ⊎ (e ≡ Output)) }
 {
     let crew = Sequential::<R>::new([0, 1, 2, 3])?;
@@ -395,10 +394,10 @@ pub fn schedules<R: Threads + Sync, P: Progress, W: Write>(
     out: &mut W,
 ) -> Result<Compared, Refusal>
     requires most { plan.count ≤ 1000000 }
-    // All schedules of the seed, or those of the part, were run and compared with the script's own run, and those that differ were written and
+    // All schedules, or those of the part, were run and compared with the script's own run, and those that differ were written and
     // counted.
     ensures wrote { IfOk result (λ count. (count.runs ≡ own_count plan.part plan.count) × (said : Said) × (script_of script.now ≡ Ok said)
-        × WroteSchedules said payloads.now plan.seed (number_of_other script.now said.lines) plan.part plan.count
+        × WroteSchedules said payloads.now (number_of_other script.now said.lines) plan.part plan.count
         (W.contents out.old) (W.contents out.new) count.differ) }
     // A refusal is the script's fault, or want of memory, or the writer's.
     ensures refused { IfErr result (λ e. (e ≡ Memory) ⊎ (e ≡ Output) ⊎ (script_of script.now ≡ Err e)) }
@@ -423,9 +422,9 @@ pub fn show<R: Threads + Sync, W: Write>(
     k: u64,
     out: &mut W,
 ) -> Result<(), Refusal>
-    // What was written is schedule k of the script, and is read back as it.
+    // What was written is a schedule of the script, and is read back as it.
     ensures shown { OnOk result ((said : Said) × (script_of script.now ≡ Ok said)
-        × Shown said seed k (W.contents out.old) (W.contents out.new)) }
+        × Shown said (W.contents out.old) (W.contents out.new)) }
     // A refusal is the script's fault, or want of memory, or the writer's.
     ensures refused { IfErr result (λ e. (e ≡ Memory) ⊎ (e ≡ Output) ⊎ (script_of script.now ≡ Err e)) }
     // A script with a fault runs nothing.

@@ -8,7 +8,7 @@ ghost use Rattle.bench_orders.specs.Orders.{IsOrderFor, is_other, other_count};
 ghost use Rattle.bench_report.specs.Bench.{bench_with};
 ghost use Rattle.bench_live.specs.Lives.{IsSound, Shows};
 ghost use Rattle.bench_schedules.specs.RunSoFar.{RunSoFar};
-ghost use Rattle.bench_schedules.specs.Schedules.{IsNumbered, RanOwn, other_answer};
+ghost use Rattle.bench_schedules.specs.Schedules.{RanOwn, other_answer};
 
 use crate::line_runs::{end_run, is_other, release, run_line};
 use crate::stretches::Stretches;
@@ -96,7 +96,6 @@ pub fn drawn_schedule(
     k: u64,
 ) -> Result<Vec<Line>, AllocError>
     requires { length lines.now ≤ 65535 }
-    ensures drawn { IfOk result (λ new. IsNumbered (record { seed = seed; fronts = own.now.stretches.fronts.items }) k lines.now new.items) }
     ensures order { IfOk result (λ new. IsOrderFor lines.now new.items) }
     ensures few { IfOk result (λ new. length new.items ≤ 65535) }
 {

@@ -126,7 +126,7 @@ fn shrink_lines<C: Crew, W: Write>(
 ) -> Result<(), Refusal>
     requires few { length lines.now ≤ 65535 }
     requires ranges { All (IsLineInRange setting.shape.now) lines.now }
-    ensures shrunk { OnOk result (Shrunk (record { size = setting.entry.shape.now; lines = lines.now }) payloads.now seed k (W.contents out.old) (W.contents out.new)) }
+    ensures shrunk { OnOk result (Shrunk (record { size = setting.entry.shape.now; lines = lines.now }) payloads.now (W.contents out.old) (W.contents out.new)) }
     ensures err { IfErr result (λ e. (e ≡ Memory) ⊎ (e ≡ Output)) }
 {
     scripts_read_as_written();
@@ -150,7 +150,7 @@ fn shrink_script<R: Threads + Sync, W: Write>(
 ) -> Result<(), Refusal>
     requires few { length script.now.lines.items ≤ 65535 }
     requires ranges { All (IsLineInRange script.now.shape) script.now.lines.items }
-    ensures shrunk { OnOk result (Shrunk (view script.now) payloads.now seed k (W.contents out.old) (W.contents out.new)) }
+    ensures shrunk { OnOk result (Shrunk (view script.now) payloads.now (W.contents out.old) (W.contents out.new)) }
     ensures err { IfErr result (λ e. (e ≡ Memory) ⊎ (e ≡ Output)) }
 {
     let crew = Sequential::<R>::new([0, 1, 2, 3])?;
@@ -175,9 +175,9 @@ pub fn shrink<R: Threads + Sync, W: Write>(
     k: u64,
     out: &mut W,
 ) -> Result<(), Refusal>
-    // What was written is a schedule of the script, is read back as it, and first differs where schedule k does.
+    // What was written is a schedule of the script, is read back as it, and first differs where another one does, which was drawn.
     ensures shrunk { OnOk result ((said : Said) × (script_of script.now ≡ Ok said)
-        × Shrunk said payloads.now seed k (W.contents out.old) (W.contents out.new)) }
+        × Shrunk said payloads.now (W.contents out.old) (W.contents out.new)) }
     // A refusal is the script's fault, or want of memory, or the writer's.
     ensures refused { IfErr result (λ e. (e ≡ Memory) ⊎ (e ≡ Output) ⊎ (script_of script.now ≡ Err e)) }
     // A script with a fault runs nothing.

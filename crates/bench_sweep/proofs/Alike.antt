@@ -10,21 +10,19 @@ use Rattle.bench_report.specs.Bench.{Bench}
 use Rattle.bench_report.specs.Examined.{OpensOf}
 use Rattle.bench_report.specs.Views.{sim_log_of}
 use Rattle.bench_sweep.specs.Points.{cut_fill}
-use Rattle.bench_sweep.specs.Recovers.{Compared}
-use Rattle.bench_sweep.specs.Reports.{again, IsLeftBy, Keeps, ToldOver, cut_content}
+use Rattle.bench_sweep.specs.Made.{cut_content}
+use Rattle.bench_sweep.specs.Reports.{again, IsLeftBy, Keeps}
 use Rattle.bench_sweep.specs.Swept.{cell}
 use Rattle.bench_sweep.specs.declared.judging.PointRows.{PointRows}
 use Rattle.bench_sweep.specs.declared.points.Caller.{Caller}
 use Rattle.bench_sweep.specs.declared.rows.Row.{Row}
 
 -- what was found behind one of them is found behind another
-pub left_alike : (size : Size) (end : Bench) (disk : SimDisk) (rest : Compared) (row : Row) (caller : Caller) (number : ℕ) (fill : Fill) → ((other : Fill) → cut_content disk other ≡ synced (sim_log_of disk)) → IsLeftBy size end disk rest row
-    → IsLeftBy size end disk rest (again row caller number fill)
-left_alike size end disk rest row caller number fill same left =
+pub left_alike : (size : Size) (end : Bench) (disk : SimDisk) (row : Row) (caller : Caller) (number : ℕ) (fill : Fill) → ((other : Fill) → cut_content disk other ≡ synced (sim_log_of disk)) → IsLeftBy size end disk row → IsLeftBy size end disk (again row caller number fill)
+left_alike size end disk row caller number fill same left =
     let here : cut_content disk (cut_fill row.fill) ≡ cut_content disk fill = same (cut_fill row.fill) ∙ sym (same fill) in
     let O : Content → Type 0 = λ content. OpensOf content row.left in
-    let T : Content → Type 0 = λ content. ToldOver rest.own size content rest row.recovered in
-    record { is = left.is; opens = subst O here left.opens; over = subst T here left.over }
+    record { stands = left.stands; after = left.after; says = left.says; finds = left.finds; opens = subst O here left.opens }
 
 -- so the row of the first may be kept once more
 pub kept_again : (Is : Row → Type 0) (old new : PointRows) (once : List Row) (caller : Caller) (number : ℕ) (fill : Fill) (first : Row) (rest : List Row) → once ≡ first ∷ rest → new.rows.items ≡ old.rows.items ++ again first caller number fill ∷ []

@@ -18,8 +18,8 @@ use Rattle.bench_sweep.specs.declared.rows.Row.{Row}
 use Rattle.bench_sweep.specs.declared.site.Site.{Site}
 use Rattle.bench_sweep.specs.Along.{CameTold}
 use Rattle.bench_sweep.specs.Points.{MadeCalls}
-use Rattle.bench_sweep.specs.Recovers.{Compared}
-use Rattle.bench_sweep.specs.Reports.{RunsAlong, RunsRow}
+use Rattle.bench_sweep.specs.Made.{RunsWith}
+use Rattle.bench_sweep.specs.Reports.{RunsAlong}
 use Rattle.bench_sweep.specs.Resumes.{line_resumes, lines_resume, Resumes}
 use Rattle.bench_sweep.specs.Runs.{RanTo, RunsCalm}
 use Rattle.bench_sweep.specs.Took.{RunTook, disk_at}
@@ -92,12 +92,12 @@ came_again size b lines first old new told count ledger runs same =
     }
 
 -- ---- a row from there
-pub along : (size : Size) (kind : BenchKind) (site : Site) (before : ℕ) (b : Bench) (lines ls : List Line) (rest : Compared) (moment : Moment) (told : CameTold size b lines site moment) (d : SimDisk) (caller : Caller) (made : ℕ)
-    → HasDisk moment.going.power d → MadeCalls site.off.disk d caller made → ls ≡ drop moment.count lines → (row : Row) → row.caller ≡ caller → RunsRow size kind (before + made) told.came.at ls rest row → RunsAlong size kind caller site before b lines rest row
-along size kind site before b lines ls rest moment told d caller made has counts is row who runs =
+pub along : (size : Size) (kind : BenchKind) (site : Site) (before : ℕ) (b : Bench) (lines ls : List Line) (moment : Moment) (told : CameTold size b lines site moment) (d : SimDisk) (caller : Caller) (made : ℕ)
+    → HasDisk moment.going.power d → MadeCalls site.off.disk d caller made → ls ≡ drop moment.count lines → (row : Row) → row.caller ≡ caller → RunsWith size kind (before + made) told.came.at ls row → RunsAlong size kind caller site before b lines row
+along size kind site before b lines ls moment told d caller made has counts is row who runs =
     let c = told.came in
     let D : SimDisk → Type 0 = λ x. RunTook size (take moment.count lines) site.off.disk x in
-    let R : List Line → Type 0 = λ xs. RunsRow size kind (before + made) c.at xs rest row in record {
+    let R : List Line → Type 0 = λ xs. RunsWith size kind (before + made) c.at xs row in record {
       who = who;
       more = moment.count;
       answers = c.answers;

@@ -3,7 +3,7 @@ use Rattle.std.proofs.Common.{◌≡◌, ◌≤◌, ◌⊎◌, ℕ, inl, inr, tr
 use Rattle.std.specs.Prelude.{IfSome, MatchResult, is_some, if◌then◌else◌, length}
 use Rattle.board_model.proofs.Attempts.{attempt_image}
 use Rattle.board_model.specs.Durable.{DurableState, Image, Change, Attempt, IsWhole, after, refusal_of}
-use Rattle.board_model.specs.Kept.{Kept, MayKeep, TakesIn, found_of}
+use Rattle.board_model.specs.Kept.{Kept, MayKeep, found_of}
 use Rattle.board_model.specs.Plains.{HasMemory, state_in, IsPlainOf}
 use Rattle.board_model.specs.Shapes.{Size, IsSize, ram_bytes_of}
 use Rattle.board_model.specs.Views.{head_of, durable_of}
@@ -15,13 +15,10 @@ use Rattle.board_model.specs.declared.durable.Trial.{Trial}
 use Rattle.board_model.specs.declared.plain.Plain.{Plain}
 use Rattle.board_model.specs.declared.refusal.Refusal.{Refusal}
 use Rattle.board_model.specs.declared.refusal.Refusal.TheVariants.{Memory}
-use Rattle.disk.specs.Facts.{Content, IsLeft, Only}
+use Rattle.disk.specs.Facts.{IsLeft}
 use Rattle.disk.specs.FaultState.{Armed, Unarmed, FaultArmed, CutArmed, FaultState, Cause, fault_state_left}
 use Rattle.disk.specs.declared.device.ArmedFault.{ArmedFault}
 use Rattle.simdisk.specs.declared.SimDisk.{SimDisk}
-use Rattle.simdisk.specs.contracts.device.SimDiskDisk.TheImpl.Laws.{may_keep-law}
-use Rattle.store.specs.Leaves.{IsKept, Leaves}
-use Rattle.store.specs.Standing.{StandsFor}
 use Rattle.board_model.specs.declared.console_command.ConsoleCommand.{ConsoleCommand}
 use Rattle.board_model.specs.ConsoleCommands.{console_change}
 use Rattle.std.proofs.lemmas.List.{append-nil}
@@ -40,8 +37,7 @@ use Rattle.bench_report.specs.Happens.{FailsByFault, acknowledged, armed_with, i
 use Rattle.bench_report.specs.Commands.{Writes, Issued, IssuesAll}
 use Rattle.bench_report.specs.Steps.{ConsoleStep, OnStep, Step}
 use Rattle.bench_report.specs.PowerOns.{life_begun, IsBooted, Boots, Opens, ShowsFound, IsOpenRefusal, PowersOn, TellsNow}
-use Rattle.bench_report.specs.Agree.{BoardIs, DiskIs, OffIs, OnIs, Agrees, IsUnstruck, Matches, StepsTo}
-use Rattle.bench_report.specs.Sides.{SidesOf}
+use Rattle.bench_report.specs.Agree.{BoardIs, OffIs, OnIs, Agrees, IsUnstruck, Matches, StepsTo}
 use Rattle.bench_report.proofs.Determined.{found_as}
 use Rattle.bench_report.proofs.Ended.{left_on, cut_leaves}
 use Rattle.bench_report.proofs.KeptDisks.{GoesOn as KeepsOn, less}
@@ -52,11 +48,10 @@ use Rattle.script_lang.specs.declared.line.Line.TheVariants as lines
 use Rattle.bench_sweep.specs.declared.ledgers.RunLedger.{RunLedger}
 use Rattle.bench_sweep.specs.Ledgers.{Tells}
 use Rattle.bench_report.specs.Prefix.{AskedLine, Boot, asked_by}
-use Rattle.bench_sweep.specs.Lines.{LineMoves, LineSays}
+use Rattle.bench_sweep.specs.Lines.{LineMoves}
 use Rattle.bench_sweep.specs.Resumes.{asked_resumes, line_resumes, power_resumes, Resumes}
 use Rattle.bench_sweep.specs.Made.{shows}
-use Rattle.bench_sweep.specs.Runs.{TellsWhole, Runs, RunsCalm, LeftOff, LeftAt, SettlesAt, IsSpoilt, FindsState, Finds, PowerFinds}
-use Rattle.bench_sweep.specs.declared.site.Site.{Site}
+use Rattle.bench_sweep.specs.Runs.{TellsWhole, Runs, RunsCalm, LeftOff, IsSpoilt, FindsState, Finds, PowerFinds}
 use Rattle.bench_sweep.specs.Swept.{IsPlainLine}
 use Rattle.bench_sweep.specs.Told.{ShowsEnoughMemory, is_boot, moves_harts, powers_on, CommandTold, PowerTold, LineTold}
 use Rattle.bench_sweep.proofs.Followed.{whole_found}
@@ -84,73 +79,6 @@ left_by size b old new slots now was ledger r cut same tells = record {
   };
   left = refl;
 }
-
--- ---- a power-on settles the command in doubt
--- a content stands for one state
-abbrev pub OneStanding : Type 0
-OneStanding = (c : Content) (y z : Size) (s t : DurableState) → StandsFor c y s → StandsFor c z t → (y ≡ z) × (s ≡ t)
-
--- the content that is durable stands for the state that is found, which those commands make
-record Settled (size : Size) (b : Bench) (disk : SimDisk) (found : Durable) : Type 0 where
-  pub changes : List Change
-  pub may : MayKeep b.kept changes
-  pub is : found ≡ durable_of (found_of changes)
-  pub off : OffIs size (settled changes b) disk
-
--- of a clean bench none is in doubt
-settled_sides : (size : Size) (k : Kept) (changes : List Change) (c : Content) → MayKeep k changes → SidesOf Formatted k size c → SidesOf Formatted (record { changes = changes; doubt = None }) size c
-settled_sides size k changes c (inl same) was = let P : List Change → Type 0 = λ cs. SidesOf Formatted (record { changes = cs; doubt = None }) size c in subst P (sym same) (refl, was.1, was.2, was.3, was.4)
-settled_sides size k changes c (inr taken) was = let P : Option Change → Type 0 = λ d. TakesIn d k.changes changes in absurd (subst P was.0 taken)
-
-settled_off : (one : OneStanding) (size z : Size) (b : Bench) (disk : SimDisk) (found : Durable) (s : DurableState) → b.disk_state ≡ Formatted → OffIs size b disk → Only (facts disk).content (facts disk).may_leave → StandsFor (facts disk).content z s → found ≡ durable_of s → Settled size b disk found
-unfolding IsKept Leaves
-settled_off one size z b disk found s formatted off only stands is =
-    let content = (facts disk).content in
-    let D : DiskState → Type 0 = λ m. DiskIs size m b.kept (facts disk) in
-    let kept : DiskIs size Formatted b.kept (facts disk) = subst D formatted off.1 in
-    let t = kept.0 content (may_keep-law disk) in
-    let may = kept.1 t.0 (content, may_keep-law disk, t.1) in
-    let E : DiskState → Type 0 = λ m. DiskIs size m (record { changes = may.0; doubt = None }) (facts disk) in
-    let only_t : (u : DurableState) → Leaves (facts disk) size u → u ≡ found_of may.0 = λ u l.
-    (let S : Content → Type 0 = λ c. StandsFor c size u in (one content size size u t.0 (subst S (only l.0 l.1) l.2) t.1).1 ∙ may.2) in
-    let anew : DiskIs size Formatted (record { changes = may.0; doubt = None }) (facts disk) = (kept.0, λ u l. (may.0, inl refl, only_t u l)) in record {
-      changes = may.0;
-      may = may.1;
-      is = is ∙ ap durable_of ((one content z size s t.0 stands t.1).1 ∙ may.2);
-      off = (
-        off.0,
-        subst E (sym formatted) anew,
-        (
-          off.2.0,
-          off.2.1,
-          off.2.2,
-          λ clean c left. (let F : DiskState → Type 0 = λ m. SidesOf m b.kept size c in let G : DiskState → Type 0 = λ m. SidesOf m (record { changes = may.0; doubt = None }) size c in
-              subst G (sym formatted) (settled_sides size b.kept may.0 c may.1 (subst F formatted (off.2.3 clean c left)))),
-        ),
-      );
-    }
-
--- and the ledger follows it
-pub settles_at : (one : OneStanding) (size z : Size) (b : Bench) (old new : Site) (found : Durable) (s : DurableState) (content : Content) → LeftAt size b old → (facts old.off.disk).content ≡ content → Only (facts old.off.disk).content (facts old.off.disk).may_leave → StandsFor content z s
-    → found ≡ durable_of s → new.off ≡ old.off → new.payloads ≡ old.payloads → ((kept : Kept) (changes : List Change) → Tells old.ledger kept → MayKeep kept changes → found ≡ durable_of (found_of changes) → Tells new.ledger (record { changes = changes; doubt = None })) → SettlesAt size b found new
-settles_at one size z b old new found s content l same only stands is off slots tells =
-    let S : Content → Type 0 = λ c. StandsFor c z s in
-    let did = settled_off one size z b old.off.disk found s l.follows.formatted l.off only (subst S (sym same) stands) is in
-    let P : OffDisk → Type 0 = λ d. OffIs size (settled did.changes b) d.disk in record {
-      changes = did.changes;
-      may = did.may;
-      is = did.is;
-      left = record {
-        off = subst P (sym off) did.off;
-        same = slots ∙ l.same;
-        follows = record {
-          formatted = l.follows.formatted;
-          kept = record { tells = tells b.kept did.changes l.follows.kept.tells did.may did.is; whole = whole_found size old.ledger b.kept did.changes l.follows.kept did.may; doubt = λ c e. absurd (let no : ⊥ = cc in no) };
-          enough = l.follows.enough;
-        };
-        left = l.left;
-      };
-    }
 
 -- nothing has struck it
 pub calm_off : (size : Size) (b : Bench) (disk : OffDisk) (slots : List (List ℕ)) (ledger : RunLedger) → LeftOff size b disk slots ledger → RunsCalm size b (Off disk) slots ledger
@@ -208,25 +136,6 @@ sound_of size b power formatted agrees = (formatted, by power agrees)
     by (Off disk) is = let P : Option BenchLife → Type 0 = λ p. GoesOn b.kept p in subst P (sym is.0) tt
     by (On board) is = let M : DiskState → Type 0 = λ m. BoardIs size m b.kept b.power board in life b.power board (subst M formatted is.0)
 
-line_runs : (size : Size) (line : Line) (b : Bench) (old new : Power) (slots now : List (List ℕ)) (answer : Answer) (was ledger : RunLedger) → IsPlainLine line → moves_harts line ≡ false → powers_on line ≡ false → RunsCalm size b old slots was → ShowsEnoughMemory answer.line
-    → ((x : Bench) × Step size line b answer x × Matches size x new now)
-    → ((z : Size) (k n : Kept) → TellsWhole z was k → LineTold line answer k n → TellsWhole z ledger n) → LineSays size line b answer.line new now ledger
-line_runs size line b old new slots now answer was ledger plain none unasked r enough (x, step, matches) follows =
-    let told = line_tells size line b answer x plain none unasked (sound_of size b old r.follows.formatted r.agrees) step in record {
-      bench = x;
-      answer = answer;
-      does = step;
-      says = refl;
-      runs = record { agrees = matches.0; same = matches.1; follows = record { formatted = told.1 ∙ r.follows.formatted; kept = follows size b.kept x.kept r.follows.kept told.0; enough = line_grows size line b answer x (inr none) enough step ∙ r.follows.enough } };
-    }
-
-pub answered_says : (size : Size) (line : Line) (b : Bench) (old new : Power) (slots now : List (List ℕ)) (answer : Result Answer Refusal) (said : Printed) (was ledger : RunLedger) → IsPlainLine line → moves_harts line ≡ false → powers_on line ≡ false
-    → RunsCalm size b old slots was → MatchResult answer (λ a. (x : Bench) × Step size line b a x × Matches size x new now) (λ e. (e ≡ Memory) × Matches size b new now)
-    → MatchResult answer (λ a. (a.line ≡ said) × ShowsEnoughMemory a.line × ((z : Size) (k n : Kept) → TellsWhole z was k → LineTold line a k n → TellsWhole z ledger n)) (λ e. ⊥) → LineSays size line b said new now ledger
-answered_says size line b old new slots now (Ok a) said was ledger plain none unasked r did (same, enough, told) =
-    subst (λ (x : Printed). LineSays size line b x new now ledger) same (line_runs size line b old new slots now a was ledger plain none unasked r enough did told)
-answered_says size line b old new slots now (Err e) said was ledger plain none unasked r did told = absurd told
-
 -- a line that powers no board on resumes nothing
 still_resumes : (asked : AskedLine) (a : Answer) → is_boot asked ≡ false → asked_resumes asked a ≡ []
 still_resumes (Boot mode) a unasked = absurd (let no : ⊥ = cc in no)
@@ -239,9 +148,22 @@ pub no_serials : (line : Line) (a : Answer) (was ledger : RunLedger) → powers_
 no_serials line a was ledger unasked same =
     let P : List ℕ → Type 0 = λ xs. Resumes was ledger xs in subst P (sym (still_resumes (asked_by line) a unasked)) (same_serials was ledger same)
 
-pub says_moves : (size : Size) (line : Line) (b : Bench) (said : Printed) (power : Power) (slots : List (List ℕ)) (was ledger : RunLedger) → powers_on line ≡ false → ledger.resumed ≡ was.resumed → LineSays size line b said power slots ledger
-    → LineMoves size line b power slots was ledger
-says_moves size line b said power slots was ledger unasked same s = record { bench = s.bench; does = (s.answer, s.does); resumed = no_serials line s.answer was ledger unasked same; runs = s.runs }
+line_runs : (size : Size) (line : Line) (b : Bench) (old new : Power) (slots now : List (List ℕ)) (answer : Answer) (was ledger : RunLedger) → IsPlainLine line → moves_harts line ≡ false → powers_on line ≡ false → ledger.resumed ≡ was.resumed → RunsCalm size b old slots was
+    → ShowsEnoughMemory answer.line → ((x : Bench) × Step size line b answer x × Matches size x new now)
+    → ((z : Size) (k n : Kept) → TellsWhole z was k → LineTold line answer k n → TellsWhole z ledger n) → LineMoves size line b new now was ledger
+line_runs size line b old new slots now answer was ledger plain none unasked same r enough (x, step, matches) follows =
+    let told = line_tells size line b answer x plain none unasked (sound_of size b old r.follows.formatted r.agrees) step in record {
+      bench = x;
+      does = (answer, step);
+      resumed = no_serials line answer was ledger unasked same;
+      runs = record { agrees = matches.0; same = matches.1; follows = record { formatted = told.1 ∙ r.follows.formatted; kept = follows size b.kept x.kept r.follows.kept told.0; enough = line_grows size line b answer x (inr none) enough step ∙ r.follows.enough } };
+    }
+
+pub answered_runs : (size : Size) (line : Line) (b : Bench) (old new : Power) (slots now : List (List ℕ)) (answer : Result Answer Refusal) (was ledger : RunLedger) → IsPlainLine line → moves_harts line ≡ false → powers_on line ≡ false → ledger.resumed ≡ was.resumed
+    → RunsCalm size b old slots was → MatchResult answer (λ a. (x : Bench) × Step size line b a x × Matches size x new now) (λ e. (e ≡ Memory) × Matches size b new now)
+    → MatchResult answer (λ a. ShowsEnoughMemory a.line × ((z : Size) (k n : Kept) → TellsWhole z was k → LineTold line a k n → TellsWhole z ledger n)) (λ e. ⊥) → LineMoves size line b new now was ledger
+answered_runs size line b old new slots now (Ok a) was ledger plain none unasked same r did (enough, told) = line_runs size line b old new slots now a was ledger plain none unasked same r enough did told
+answered_runs size line b old new slots now (Err e) was ledger plain none unasked same r did told = absurd told
 
 -- a line that powers a board on, which was off
 pub power_runs : (size : Size) (mode : BootMode) (b : Bench) (old new : Power) (disk : OffDisk) (slots : List (List ℕ)) (answer : Answer) (now : Option Durable) (was ledger : RunLedger) → old ≡ Off disk → RunsCalm size b old slots was → ShowsEnoughMemory answer.line

@@ -19,8 +19,6 @@ pub mod Took
 pub mod Made
 pub mod Scripts
 pub mod Rowed
-pub mod Looked
-pub mod Compared
 pub mod Nth
 pub mod ShownRows
 pub mod Crews

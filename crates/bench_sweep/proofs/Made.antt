@@ -1,11 +1,11 @@
 -- Rows of runs that were made.
-use Rattle.std.proofs.Common.{◌≡◌, ◌≤◌, ◌<◌, ◌+◌, ◌-◌, ◌⊎◌, ◌++◌, ◌∷◌, [], ℕ, suc, List, None, true, false, inl, inr, length, take, drop, refl, sym, ◌∙◌, ap, subst, arith}
+use Rattle.std.proofs.Common.{◌≡◌, ◌≤◌, ◌<◌, ◌+◌, ◌-◌, ◌⊎◌, ◌++◌, ◌∷◌, [], ℕ, suc, List, None, inl, inr, length, take, drop, refl, sym, ◌∙◌, ap, subst, arith}
 use Rattle.std.proofs.lemmas.List.{take-append-drop, take-take, take_all, drop_all, drop-drop, drop-take, length-drop, length-take-le, append-nil}
 use Rattle.std.proofs.lemmas.Bool.{cases_lt}
 use Rattle.std.proofs.lemmas.Grind.{flat_map-append}
 use Rattle.std.specs.List.{flat_map, AllZip}
 use Rattle.board_model.specs.Shapes.{Size}
-use Rattle.disk.specs.FaultState.{FaultState, Unarmed}
+use Rattle.disk.specs.FaultState.{FaultState}
 use Rattle.script_lang.specs.declared.line.Line.{Line}
 use Rattle.bench_report.specs.declared.power.Power.{Power}
 use Rattle.report_lines.specs.declared.printed.Answer.{Answer}
@@ -20,70 +20,80 @@ use Rattle.bench_sweep.specs.declared.points.Caller.{Caller}
 use Rattle.bench_sweep.specs.declared.points.Point.{Point}
 use Rattle.bench_sweep.specs.declared.rows.Row.{Row}
 use Rattle.bench_sweep.specs.declared.site.Site.{Site}
-use Rattle.bench_sweep.specs.Made.{LooksAt, Lives, ComesTo, IsPlainRun, Recovers, IsUncut, IsToldOf, EndsAs, RunsWith}
-use Rattle.bench_sweep.specs.Recovers.{Compared}
-use Rattle.report_lines.specs.declared.printed.Printed.{Printed}
+use Rattle.bench_sweep.specs.Made.{Lives, ComesTo, IsEnded, IsPlainRun, IsRunOf, RunsArmed, RunsWith}
 use Rattle.bench_sweep.specs.Points.{fault_at, MadeCalls}
 use Rattle.simdisk.specs.declared.SimDisk.{SimDisk}
-use Rattle.bench_sweep.specs.Reports.{IsLeft, RunsAlong, RunsRow, IsRow}
+use Rattle.bench_sweep.specs.Reports.{IsLeftBy, RunsAlong}
 use Rattle.bench_sweep.specs.Runs.{RunsAt, RanTo, IsEnd, IsLife}
 use Rattle.bench_sweep.specs.Took.{RunTook}
 use Rattle.bench_sweep.proofs.Took.{took_both}
 
 -- ---- a run with a fault armed
-module _ (size : Size) (kind : BenchKind) (at : Point) (b : Bench) (lines : List Line) (count : ℕ) (power : Power) (slots : List (List ℕ)) (first ledger : RunLedger) (few : count ≤ length lines) (ran : RanTo size (armed_with (fault_at kind at.caller at.call) b) (take count lines) power slots first ledger) where
-  made : (rest : Compared) (row : Row) → row.caller ≡ at.caller → row.number ≡ at.number → unpowered ran.bench ≡ unpowered ran.end → EndsAs kind lines count ran.answers ran.end → ran.bench.fault_state.own ≡ 0 → IsLeft size (off ran.bench) rest row → RunsRow size kind at.before b lines rest row
-  made rest row caller number same ends none ((after, said), finds, recovered) =
-      let P : Bench → Type 0 = λ x. LooksAt size x row.left after in
-      let T : Bench → Type 0 = λ x. IsToldOf rest.own size x rest.lines rest.numbers row.left row.recovered in
-      let Q : Caller → Type 0 = λ who. Run size (armed_with (fault_at kind who at.call) b) (take count lines) ran.answers ran.end in record {
-        call = at.call;
-        counts = number ∙ at.counts;
-        count = count;
+-- by how it ended
+pub runs_armed : (size : Size) (kind : BenchKind) (caller : Caller) (call : ℕ) (b : Bench) (those : List Line) (count : ℕ) (power : Power) (slots : List (List ℕ)) (first ledger : RunLedger) → count ≤ length those
+    → (ran : RanTo size (armed_with (fault_at kind caller call) b) (take count those) power slots first ledger) → IsEnded kind count (length those) ran.bench
+    → (r : RunsArmed size kind caller call b those count) × (unpowered ran.bench ≡ unpowered r.end)
+runs_armed size Cuts caller call b those count power slots first ledger few ran (hit, none) =
+    let s = ran.struck hit in (
+      record {
         few = few;
         answers = ran.answers;
         end = ran.end;
-        run = subst Q (sym caller) ran.run;
-        ends = ends;
+        run = ran.run;
+        ends = s.1;
+        refused_none = (ap (λ (x : Bench). x.growths) (sym s.0) ∙ ran.runs.follows.enough, ap (λ (x : Bench). x.fault_state.own) (sym s.0) ∙ none);
+      },
+      ap (λ (x : Bench). unpowered x) s.0,
+    )
+runs_armed size Fails caller call b those count power slots first ledger few ran (all, calm, none, struck) =
+    let same = ran.calm calm in (
+      record {
+        few = few;
+        answers = ran.answers;
+        end = ran.end;
+        run = ran.run;
+        ends = (all, ap (λ (x : Bench). x.fault_state.armed) (sym same) ∙ struck);
         refused_none = (ap (λ (x : Bench). x.growths) (sym same) ∙ ran.runs.follows.enough, ap (λ (x : Bench). x.fault_state.own) (sym same) ∙ none);
-        after = after;
-        says = subst P same said;
-        finds = finds;
-        recovered = subst T same recovered;
-      }
+      },
+      ap (λ (x : Bench). unpowered x) same,
+    )
 
--- up to the line in which a cut struck
-pub to_cut : (size : Size) (at : Point) (b : Bench) (lines : List Line) (count : ℕ) (power : Power) (slots : List (List ℕ)) (first ledger : RunLedger) → count ≤ length lines → (ran : RanTo size (armed_with (fault_at Cuts at.caller at.call) b) (take count lines) power slots first ledger)
-    → ran.bench.fault_state.struck ≡ true → ran.bench.fault_state.own ≡ 0 → (rest : Compared) (row : Row) → row.caller ≡ at.caller → row.number ≡ at.number → IsLeft size (off ran.bench) rest row → RunsRow size Cuts at.before b lines rest row
-to_cut size at b lines count power slots first ledger few ran hit none rest row caller number left = let s = ran.struck hit in made size Cuts at b lines count power slots first ledger few ran rest row caller number (ap (λ (x : Bench). unpowered x) s.0) s.1 none left
-
--- or to the last of them
-pub past_failure : (size : Size) (at : Point) (b : Bench) (lines : List Line) (count : ℕ) (power : Power) (slots : List (List ℕ)) (first ledger : RunLedger) → count ≡ length lines → (ran : RanTo size (armed_with (fault_at Fails at.caller at.call) b) (take count lines) power slots first ledger)
-    → ran.bench.fault_state.struck ≡ false → ran.bench.fault_state.own ≡ 0 → ran.bench.fault_state.armed ≡ Unarmed → (rest : Compared) (row : Row) → row.caller ≡ at.caller → row.number ≡ at.number → IsLeft size (off ran.bench) rest row
-    → RunsRow size Fails at.before b lines rest row
-past_failure size at b lines count power slots first ledger all ran calm none struck rest row caller number left =
-    let same = ran.calm calm in
-    made size Fails at b lines count power slots first ledger (omega (arith, all)) ran rest row caller number (ap (λ (x : Bench). unpowered x) same)
-    (all, ap (λ (x : Bench). x.fault_state.armed) (sym same) ∙ struck) none left
+-- and its row
+pub runs_with : (size : Size) (kind : BenchKind) (at : Point) (b : Bench) (lines : List Line) (count : ℕ) (power : Power) (slots : List (List ℕ)) (first ledger : RunLedger) → count ≤ length lines
+    → (ran : RanTo size (armed_with (fault_at kind at.caller at.call) b) (take count lines) power slots first ledger) → IsEnded kind count (length lines) ran.bench
+    → (disk : SimDisk) (row : Row) → row.caller ≡ at.caller → row.number ≡ at.number → IsLeftBy size (off ran.bench) disk row → RunsWith size kind at.before b lines row
+runs_with size kind at b lines count power slots first ledger few ran ended disk row caller number left =
+    let r = runs_armed size kind at.caller at.call b lines count power slots first ledger few ran ended in
+    let Q : Caller → Type 0 = λ who. (a : RunsArmed size kind who at.call b lines count) × (unpowered ran.bench ≡ unpowered a.end) in
+    let armed = subst Q (sym caller) r in
+    record { call = at.call; counts = number ∙ at.counts; count = count; armed = armed.0; at = off ran.bench; ended = off_ended kind ended; same = armed.1; disk = disk; left = left }
+  where
+    off_ended : (k : BenchKind) → IsEnded k count (length lines) ran.bench → IsEnded k count (length lines) (off ran.bench)
+    off_ended Cuts e = e
+    off_ended Fails e = e
 
 -- over the first of some lines, of which a cut ended it
-pub over_all : (size : Size) (before : ℕ) (b : Bench) (lines : List Line) (n : ℕ) → n ≤ length lines → (rest : Compared) (row : Row) → RunsRow size Cuts before b (take n lines) rest row → RunsRow size Cuts before b lines rest row
-over_all size before b lines n few rest row r =
+pub over_all : (size : Size) (before : ℕ) (b : Bench) (lines : List Line) (n : ℕ) → n ≤ length lines → (row : Row) → RunsWith size Cuts before b (take n lines) row → RunsWith size Cuts before b lines row
+over_all size before b lines n few row r =
     let long = length-take-le n lines few in
-    let P : List Line → Type 0 = λ ls. Run size (armed_with (fault_at Cuts row.caller r.call) b) ls r.answers r.end in record {
+    let a = r.armed in
+    let P : List Line → Type 0 = λ ls. Run size (armed_with (fault_at Cuts row.caller r.call) b) ls a.answers a.end in record {
       call = r.call;
       counts = r.counts;
       count = r.count;
-      few = omega (arith, few, long, r.few);
-      answers = r.answers;
-      end = r.end;
-      run = subst P (take-take r.count n lines (omega (arith, long, r.few))) r.run;
-      ends = r.ends;
-      refused_none = r.refused_none;
-      after = r.after;
-      says = r.says;
-      finds = r.finds;
-      recovered = r.recovered;
+      armed = record {
+        few = omega (arith, few, long, a.few);
+        answers = a.answers;
+        end = a.end;
+        run = subst P (take-take r.count n lines (omega (arith, long, a.few))) a.run;
+        ends = a.ends;
+        refused_none = a.refused_none;
+      };
+      at = r.at;
+      ended = r.ended;
+      same = r.same;
+      disk = r.disk;
+      left = r.left;
     }
 
 -- ---- lives
@@ -201,12 +211,6 @@ ends_at size first lines n at all none (inr (long, f)) = record {
 pub plain_run : (size : Size) (first : Bench) (lines : List Line) (site : Site) → IsEnd size first lines site → IsPlainRun size first lines
 plain_run size first lines site e = record { before = e.before; bench = e.bench; lives = e.lives; answers = e.answers; end = e.end; run = e.run; refused_none = e.refused_none }
 
--- and then the recovery
-pub uncut_run : (size : Size) (first : Bench) (lines rest : List Line) (own : List Printed) (site : Site) → (e : IsEnd size first lines site) → Recovers size (unpowered e.at) rest own → IsUncut size first lines rest own
-uncut_run size first lines rest own site e recovers =
-    let P : Bench → Type 0 = λ x. Recovers size x rest own in
-    record { before = e.before; bench = e.bench; lives = e.lives; answers = e.answers; end = e.end; run = e.run; recovers = subst P e.same recovers }
-
 -- the disks of some lines more
 pub took_on : (size : Size) (lines rest : List Line) (n m : ℕ) (old mid new : SimDisk) → rest ≡ drop n lines → RunTook size (take n lines) old mid → RunTook size (take m rest) mid new → RunTook size (take (n + m) lines) old new
 took_on size lines rest n m old mid new is first second =
@@ -216,11 +220,11 @@ took_on size lines rest n m old mid new is first second =
 
 -- a row behind so many lines, and behind some of the life under way
 pub row_of : (size : Size) (kind : BenchKind) (caller : Caller) (before : ℕ) (origin : SimDisk) (first : Bench) (lines rest : List Line) (n : ℕ) (at : Site) → rest ≡ drop n lines → (f : SoFar size first (take n lines) at) → RunTook size (take n lines) origin at.off.disk
-    → MadeCalls origin at.off.disk caller before → (then : Compared) (row : Row) → RunsAlong size kind caller at before (unpowered f.bench) rest then row → IsRow size kind origin first lines then row
-row_of size kind caller before origin first lines rest n at is f took counts then row r =
+    → MadeCalls origin at.off.disk caller before → (row : Row) → RunsAlong size kind caller at before (unpowered f.bench) rest row → IsRunOf size kind origin first lines row
+row_of size kind caller before origin first lines rest n at is f took counts row r =
     let M : Caller → Type 0 = λ x. MadeCalls origin r.disk x (before + r.made) in
     let P : List Line → Type 0 = λ ls. Run size (unpowered f.bench) (take r.more ls) r.answers r.at in
-    let Q : List Line → Type 0 = λ ls. RunsWith size kind row.caller (before + r.made) row.number r.at ls then row.left row.recovered in record {
+    let Q : List Line → Type 0 = λ ls. RunsWith size kind (before + r.made) r.at ls row in record {
       before = n;
       bench = f.bench;
       plain = f.comes;

@@ -1,14 +1,16 @@
 -- The run of a number among all runs of a bench.
 use Rattle.std.proofs.Common.{◌≡◌, ◌≤◌, ◌<◌, ◌+◌, ◌*◌, ◌⊎◌, ◌^◌, ◌++◌, ◌∷◌, [], ℕ, zero, suc, List, Option, inl, inr, length, take, get_or, refl, sym, ◌∙◌, ap, subst, append_assoc, length-append, arith}
 use Rattle.std.proofs.lemmas.Bool.{cases_lt}
-use Rattle.std.proofs.lemmas.List.{take_all}
+use Rattle.std.proofs.lemmas.List.{append-nil, take_all}
 use Rattle.disk.specs.Facts.{counted}
 use Rattle.bench_sweep.specs.declared.points.BenchKind.{BenchKind}
 use Rattle.bench_sweep.specs.declared.points.BenchKind.TheVariants.{Cuts, Fails}
 use Rattle.bench_sweep.specs.declared.points.Caller.{Caller}
 use Rattle.simdisk.specs.declared.fill.Fill.{Fill}
 use Rattle.bench_sweep.specs.Shown.{fill_at, runs_each, HasFewer, IsNthRun}
-use Rattle.bench_sweep.specs.Swept.{Cell, all_runs, callers, cell, runs_from, runs_of, total}
+use Rattle.bench_sweep.specs.Points.{callers}
+use Rattle.bench_sweep.specs.Swept.{Cell, all_points, cell, points_from, runs_at, runs_of, spot}
+use Rattle.bench_sweep.proofs.Written.{runs_more, total}
 
 -- a run stands at that place, from 0
 record At (cells : List Cell) (place : ℕ) (run : Cell) : Type 0 where
@@ -53,10 +55,20 @@ point_long Cuts caller number = refl
 point_long Fails caller number = refl
 
 -- ---- of a caller
+abbrev runs_from : BenchKind → Caller → ℕ → ℕ → List Cell
+runs_from kind caller first n = runs_at kind (points_from caller first n)
+
+runs_step : (kind : BenchKind) (caller : Caller) (first n : ℕ) → runs_from kind caller first (suc n) ≡ runs_from kind caller first n ++ runs_of kind caller (counted first n)
+runs_step kind caller first n =
+    runs_more kind (points_from caller first n) (spot caller (counted first n) ∷ []) ∙ ap (λ zs. runs_from kind caller first n ++ zs) (append-nil (runs_of kind caller (counted first n)))
+
+at_step : (kind : BenchKind) (caller : Caller) (first n place : ℕ) (run : Cell) → At (runs_from kind caller first n ++ runs_of kind caller (counted first n)) place run → At (runs_from kind caller first (suc n)) place run
+at_step kind caller first n place run a = subst (λ zs. At zs place run) (sym (runs_step kind caller first n)) a
+
 caller_long : (kind : BenchKind) (caller : Caller) (first n : ℕ) → length (runs_from kind caller first n) ≡ n * runs_each kind
 caller_long kind caller first zero = let none : 0 ≡ 0 * runs_each kind = omega arith in none
 caller_long kind caller first (suc n) =
-    length-append (runs_from kind caller first n) (runs_of kind caller (counted first n)) ∙ ap (λ k. k + length (runs_of kind caller (counted first n))) (caller_long kind caller first n)
+    ap length (runs_step kind caller first n) ∙ length-append (runs_from kind caller first n) (runs_of kind caller (counted first n)) ∙ ap (λ k. k + length (runs_of kind caller (counted first n))) (caller_long kind caller first n)
     ∙ ap (λ k. n * runs_each kind + k) (point_long kind caller (counted first n)) ∙ (let more : n * runs_each kind + runs_each kind ≡ suc n * runs_each kind = omega arith in more)
 
 of_caller : (kind : BenchKind) (caller : Caller) (first n q r : ℕ) → q < n → r < runs_each kind → At (runs_from kind caller first n) (q * runs_each kind + r) (cell caller (counted first q) (fill_at kind r))
@@ -64,22 +76,28 @@ of_caller kind caller first zero q r less within = absurd (omega (arith, less))
 of_caller kind caller first (suc n) q r less within = by (λ below. of_caller kind caller first n q r below within) (cases_lt q n)
   where
     here : At (runs_from kind caller first (suc n)) (n * runs_each kind + r) (cell caller (counted first n) (fill_at kind r))
-    here = behind (runs_from kind caller first n) (runs_of kind caller (counted first n)) (n * runs_each kind) r _ (caller_long kind caller first n) (of_point kind caller (counted first n) r within)
+    here = at_step kind caller first n _ _ (behind (runs_from kind caller first n) (runs_of kind caller (counted first n)) (n * runs_each kind) r _ (caller_long kind caller first n) (of_point kind caller (counted first n) r within))
 
     by : (q < n → At (runs_from kind caller first n) (q * runs_each kind + r) (cell caller (counted first q) (fill_at kind r))) → (q < n) ⊎ (n ≤ q)
         → At (runs_from kind caller first (suc n)) (q * runs_each kind + r) (cell caller (counted first q) (fill_at kind r))
-    by before (inl below) = in_front (runs_from kind caller first n) (runs_of kind caller (counted first n)) _ _ (before below)
+    by before (inl below) = at_step kind caller first n _ _ (in_front (runs_from kind caller first n) (runs_of kind caller (counted first n)) _ _ (before below))
     by before (inr last) =
         let same : n ≡ q = omega (arith, less, last) in
         subst (λ k. At (runs_from kind caller first (suc n)) (k * runs_each kind + r) (cell caller (counted first k) (fill_at kind r))) same here
 
 -- ---- of all
+abbrev all_runs : BenchKind → List Caller → List ℕ → List Cell
+all_runs kind cs ns = runs_at kind (all_points cs ns)
+
+all_step : (kind : BenchKind) (c : Caller) (cs : List Caller) (n : ℕ) (ns : List ℕ) → all_runs kind (c ∷ cs) (n ∷ ns) ≡ runs_from kind c 1 n ++ all_runs kind cs ns
+all_step kind c cs n ns = runs_more kind (points_from c 1 n) (all_points cs ns)
+
 all_long : (kind : BenchKind) (cs : List Caller) (ns : List ℕ) → length ns ≡ length cs → length (all_runs kind cs ns) ≡ total ns * runs_each kind
 all_long kind [] [] same = let none : 0 ≡ 0 * runs_each kind = omega arith in none
 all_long kind [] (n ∷ ns) same = absurd (omega (arith, same))
 all_long kind (c ∷ cs) [] same = absurd (omega (arith, same))
 all_long kind (c ∷ cs) (n ∷ ns) same =
-    length-append (runs_from kind c 1 n) (all_runs kind cs ns) ∙ ap (λ k. k + length (all_runs kind cs ns)) (caller_long kind c 1 n)
+    ap length (all_step kind c cs n ns) ∙ length-append (runs_from kind c 1 n) (all_runs kind cs ns) ∙ ap (λ k. k + length (all_runs kind cs ns)) (caller_long kind c 1 n)
     ∙ ap (λ k. n * runs_each kind + k) (all_long kind cs ns (omega (arith, same))) ∙ (let more : n * runs_each kind + total ns * runs_each kind ≡ (n + total ns) * runs_each kind = omega arith in more)
 
 of_all : (kind : BenchKind) (cs : List Caller) (ns : List ℕ) (i q r : ℕ) (d : Caller) → length ns ≡ length cs → i < length cs → q < get_or ns i 0 → r < runs_each kind
@@ -87,10 +105,12 @@ of_all : (kind : BenchKind) (cs : List Caller) (ns : List ℕ) (i q r : ℕ) (d 
 of_all kind [] ns i q r d same less below within = absurd (omega (arith, less))
 of_all kind (c ∷ cs) [] i q r d same less below within = absurd (omega (arith, same))
 of_all kind (c ∷ cs) (n ∷ ns) zero q r d same less below within =
-    at_as _ _ _ _ (let e : q * runs_each kind + r ≡ (0 + q) * runs_each kind + r = omega arith in e) (in_front (runs_from kind c 1 n) (all_runs kind cs ns) _ _ (of_caller kind c 1 n q r below within))
+    subst (λ zs. At zs ((0 + q) * runs_each kind + r) (cell c (counted 1 q) (fill_at kind r))) (sym (all_step kind c cs n ns))
+    (at_as _ _ _ _ (let e : q * runs_each kind + r ≡ (0 + q) * runs_each kind + r = omega arith in e) (in_front (runs_from kind c 1 n) (all_runs kind cs ns) _ _ (of_caller kind c 1 n q r below within)))
 of_all kind (c ∷ cs) (n ∷ ns) (suc i) q r d same less below within =
-    at_as _ _ _ _ (let e : n * runs_each kind + ((total (take i ns) + q) * runs_each kind + r) ≡ (n + total (take i ns) + q) * runs_each kind + r = omega arith in e)
-    (behind (runs_from kind c 1 n) (all_runs kind cs ns) (n * runs_each kind) _ _ (caller_long kind c 1 n) (of_all kind cs ns i q r d (omega (arith, same)) (omega (arith, less)) below within))
+    subst (λ zs. At zs ((n + total (take i ns) + q) * runs_each kind + r) (cell (get_or cs i d) (counted 1 q) (fill_at kind r))) (sym (all_step kind c cs n ns))
+    (at_as _ _ _ _ (let e : n * runs_each kind + ((total (take i ns) + q) * runs_each kind + r) ≡ (n + total (take i ns) + q) * runs_each kind + r = omega arith in e)
+    (behind (runs_from kind c 1 n) (all_runs kind cs ns) (n * runs_each kind) _ _ (caller_long kind c 1 n) (of_all kind cs ns i q r d (omega (arith, same)) (omega (arith, less)) below within)))
 
 -- ---- by its number
 -- it is one of the caller of that place, and so many points stand before it

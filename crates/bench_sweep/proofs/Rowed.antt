@@ -15,8 +15,6 @@ use Rattle.bench_sweep.specs.declared.rows.Row.{Row}
 use Rattle.bench_sweep.specs.declared.site.Site.{Site}
 use Rattle.bench_sweep.specs.declared.sweeps.SweepReport.{SweepReport}
 use Rattle.bench_sweep.specs.Reports.{Keeps, Judged, IsOfCall, TakesPoint, Reports, RunsAlong}
-use Rattle.bench_sweep.specs.Recovers.{Compared}
-use Rattle.bench_sweep.specs.Rows.{differing_rows}
 use Rattle.bench_sweep.specs.Runs.{RunsAt}
 use Rattle.bench_sweep.specs.Swept.{Cell, spot, cell_of, runs_of, points_from, GoesOn}
 use Rattle.std.proofs.lemmas.List.{append-nil}
@@ -59,9 +57,6 @@ judged_at kind caller number Is So rows then j = record { each = each_at kind ca
 some_more : (m n some long : ℕ) → n ≡ counted m some → some ≡ counted 0 long → GoesOn m n long
 some_more m n some long is few k e = omega (arith, is, few, e)
 
-differ_more : (m n k : ℕ) → n ≡ counted m k → GoesOn m n k
-differ_more m n k same i e = omega (arith, same, e)
-
 -- the rows of one point
 pub reports_point : {W : Type 0} (contents : W → Option (List ℕ)) (kind : BenchKind) (Is : Row → Type 0) (old new : SweepReport W) (rows : PointRows) (caller : Caller) (number : ℕ)
     → Judged Is rows (runs_of kind caller number) → TakesPoint contents old rows new → Reports contents kind Is old new (spot caller number ∷ [])
@@ -73,28 +68,27 @@ reports_point contents kind Is old new rows caller number j t = record {
     each = j.each;
     text = t.text j.right;
     cells = j.cells ∙ sym (append-nil (runs_of kind caller number));
-    points = one_more old.done.sweep.points new.done.sweep.points t.points;
-    runs = some_more old.done.sweep.runs new.done.sweep.runs rows.sweep.runs (length rows.rows.items) t.runs j.runs;
+    points = one_more old.done.points new.done.points t.points;
+    runs = some_more old.done.runs new.done.runs rows.sweep.runs (length rows.rows.items) t.runs j.runs;
     right = t.right j.right;
-    differ = differ_more old.done.differ new.done.differ (differing_rows rows.rows.items) t.differ;
   };
 }
 
 -- the points of calls in a row, of which so many are passed over
-module _ {W : Type 0} (contents : W → Option (List ℕ)) (size : Size) (kind : BenchKind) (caller : Caller) (before from : ℕ) (lines : List Line) (rest : Compared) (site : Site) (b : Bench) (r : RunsAt size b site) (first : SweepReport W) where
+module _ {W : Type 0} (contents : W → Option (List ℕ)) (size : Size) (kind : BenchKind) (caller : Caller) (before from : ℕ) (lines : List Line) (site : Site) (b : Bench) (r : RunsAt size b site) (first : SweepReport W) where
   abbrev Is : Row → Type 0
-  Is = RunsAlong size kind caller site before (unpowered b) lines rest
+  Is = RunsAlong size kind caller site before (unpowered b) lines
 
   abbrev Wrote : SweepReport W → ℕ → Type 0
   Wrote now done = Reports contents kind Is first now (points_from caller (before + from + 1) done)
 
-  one_point : (done : ℕ) (rows : PointRows) (old new : SweepReport W) → before + from + done + 1 < 2 ^ 64 → IsOfCall size kind caller before lines rest site (from + done) rows → TakesPoint contents old rows new → Wrote old done → Wrote new (done + 1)
+  one_point : (done : ℕ) (rows : PointRows) (old new : SweepReport W) → before + from + done + 1 < 2 ^ 64 → IsOfCall size kind caller before lines site (from + done) rows → TakesPoint contents old rows new → Wrote old done → Wrote new (done + 1)
   one_point done rows old new room is took so_far =
       let number = before + (from + done) + 1 in
       reports_as contents kind Is first new _ _ (next_point caller (before + from + 1) done number (omega (arith, room)))
       (reports_more contents kind Is first old new _ _ so_far (reports_point contents kind Is old new rows caller number (is b r) took))
 
-  go : (done : ℕ) (points : List PointRows) (old new : SweepReport W) → before + from + (done + length points) < 2 ^ 64 → AreRows (IsOfCall size kind caller before lines rest site) (from + done) points → TakesAll (TakesPoint contents) old points new → Wrote old done
+  go : (done : ℕ) (points : List PointRows) (old new : SweepReport W) → before + from + (done + length points) < 2 ^ 64 → AreRows (IsOfCall size kind caller before lines site) (from + done) points → TakesAll (TakesPoint contents) old points new → Wrote old done
       → Wrote new (done + length points)
   go done [] old new room each taken so_far =
       let same : done ≡ done + 0 = omega arith in
@@ -103,12 +97,12 @@ module _ {W : Type 0} (contents : W → Option (List ℕ)) (size : Size) (kind :
       let long : length (point ∷ points) ≡ length points + 1 = omega arith in
       let same : done + 1 + length points ≡ done + length (point ∷ points) = omega (arith, long) in
       let next : from + done + 1 ≡ from + (done + 1) = omega arith in
-      let later = subst (λ (k : ℕ). AreRows (IsOfCall size kind caller before lines rest site) k points) next each.1 in
+      let later = subst (λ (k : ℕ). AreRows (IsOfCall size kind caller before lines site) k points) next each.1 in
       subst (λ (n : ℕ). Wrote new n) same (go (done + 1) points taken.0 new (omega (arith, room, long)) later taken.2 (one_point done point old taken.0 (omega (arith, room, long)) each.0 taken.1 so_far))
 
-  pub all_points : (count : ℕ) (last : SweepReport W) → before + from + count < 2 ^ 64 → Handed (IsOfCall size kind caller before lines rest site) (TakesPoint contents) from count first last → Wrote last count
+  pub all_points : (count : ℕ) (last : SweepReport W) → before + from + count < 2 ^ 64 → Handed (IsOfCall size kind caller before lines site) (TakesPoint contents) from count first last → Wrote last count
   all_points count last room handed =
       let many : 0 + length handed.rows ≡ count = omega (arith, handed.many) in
       let none : from ≡ from + 0 = omega arith in
-      let each = subst (λ (k : ℕ). AreRows (IsOfCall size kind caller before lines rest site) k handed.rows) none handed.each in
+      let each = subst (λ (k : ℕ). AreRows (IsOfCall size kind caller before lines site) k handed.rows) none handed.each in
       subst (λ (n : ℕ). Wrote last n) many (go 0 handed.rows first last (omega (arith, room, handed.many)) each handed.taken (reports_none contents kind Is first))

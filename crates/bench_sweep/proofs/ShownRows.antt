@@ -1,8 +1,9 @@
 -- Rows that are written as scripts.
-use Rattle.std.proofs.Common.{◌≡◌, ◌≤◌, ◌<◌, ◌⊎◌, ◌++◌, ◌∷◌, [], ℕ, List, Option, None, Result, Ok, Err, IfErr, All, inl, inr, length, take, sym, ◌∙◌, ap, subst}
+use Rattle.std.proofs.Common.{◌≡◌, ◌≤◌, ◌<◌, ◌⊎◌, ◌++◌, ◌∷◌, [], ℕ, List, Option, None, Result, Ok, Err, IfErr, All, inl, inr, length, take, subst}
 use Rattle.std.proofs.lemmas.List.Elements.{All-append, All-cons, All-nil}
 use Rattle.std.specs.Io.KnownBytes.{Appends}
 use Rattle.board_model.specs.Shapes.{Size, IsSize}
+use Rattle.board_model.specs.declared.boot_mode.BootMode.TheVariants.{Keep}
 use Rattle.board_model.specs.declared.refusal.Refusal.{Refusal}
 use Rattle.board_model.specs.declared.refusal.Refusal.TheVariants.{BadShape, Memory, Output}
 use Rattle.simdisk.specs.declared.SimDisk.{SimDisk}
@@ -14,51 +15,25 @@ use Rattle.script_lang.specs.declared.armings.Arming.{Arming}
 use Rattle.script_lang.specs.declared.line.Line.{Line}
 use Rattle.script_lang.specs.declared.line.Line.TheVariants as lines
 use Rattle.bench_report.specs.Bench.{Bench}
-use Rattle.bench_report.specs.Happens.{armed_with}
-use Rattle.bench_report.specs.declared.power.Power.{Power}
-use Rattle.bench_sweep.specs.declared.ledgers.RunLedger.{RunLedger}
 use Rattle.bench_sweep.specs.declared.points.BenchKind.{BenchKind}
 use Rattle.bench_sweep.specs.declared.points.BenchKind.TheVariants.{Cuts, Fails}
-use Rattle.bench_sweep.specs.Points.{cut_fill, fault_at}
-use Rattle.bench_sweep.specs.Runs.{RanTo}
-use Rattle.bench_sweep.specs.Shown.{arming, cut_part, row_lines, HasRun, IsEnded, RunsArmed, ShowsFrom, ShowsNone, WroteScript}
+use Rattle.bench_sweep.specs.Made.{RunsArmed}
+use Rattle.bench_sweep.specs.Points.{cut_fill}
+use Rattle.bench_sweep.specs.Shown.{arming, cut_part, row_lines, HasRun, ShowsFrom, ShowsNone, WroteScript}
 use Rattle.bench_sweep.specs.Swept.{Cell}
-
--- a run with that armed, by how it ended
-pub runs_armed : (size : Size) (kind : BenchKind) (run : Cell) (b : Bench) (those : List Line) (count : ℕ) (power : Power) (slots : List (List ℕ)) (first ledger : RunLedger) → count ≤ length those → (ran : RanTo size (armed_with (fault_at kind run.caller run.number) b) (take count those) power slots first ledger)
-    → IsEnded kind count (length those) ran.bench → RunsArmed size kind run b those count
-runs_armed size Cuts run b those count power slots first ledger few ran (hit, none) =
-    let s = ran.struck hit in record {
-      few = few;
-      answers = ran.answers;
-      end = ran.end;
-      ran = ran.run;
-      ends = s.1;
-      refused_none = (ap (λ (x : Bench). x.growths) (sym s.0) ∙ ran.runs.follows.enough, ap (λ (x : Bench). x.fault_state.own) (sym s.0) ∙ none);
-    }
-runs_armed size Fails run b those count power slots first ledger few ran (all, calm, none, struck) =
-    let same = ran.calm calm in record {
-      few = few;
-      answers = ran.answers;
-      end = ran.end;
-      ran = ran.run;
-      ends = (all, ap (λ (x : Bench). x.fault_state.armed) (sym same) ∙ struck);
-      refused_none = (ap (λ (x : Bench). x.growths) (sym same) ∙ ran.runs.follows.enough, ap (λ (x : Bench). x.fault_state.own) (sym same) ∙ none);
-    }
 
 -- ---- the lines of a row
 cut_in_range : (size : Size) (kind : BenchKind) → All (IsLineInRange size) (cut_part kind)
 cut_in_range size Cuts = All-nil (IsLineInRange size)
 cut_in_range size Fails = All-cons (IsLineInRange size) (lines.Cut (cut_fill None)) [] tt (All-nil (IsLineInRange size))
 
-pub row_in_range : (size : Size) (kind : BenchKind) (front back behind : List Line) (armed : Arming) → All (IsLineInRange size) front → IsArmingInRange size armed → All (IsLineInRange size) back → All (IsLineInRange size) behind
-    → All (IsLineInRange size) (row_lines kind front armed back behind)
-row_in_range size kind front back behind armed in_front arms in_back in_behind =
+pub row_in_range : (size : Size) (kind : BenchKind) (front back : List Line) (armed : Arming) → All (IsLineInRange size) front → IsArmingInRange size armed → All (IsLineInRange size) back → All (IsLineInRange size) (row_lines kind front armed back)
+row_in_range size kind front back armed in_front arms in_back =
     let In : Line → Type 0 = IsLineInRange size in
     let run : List Line = front ++ (lines.Arm armed ∷ back) in
-    All-append In (run ++ cut_part kind) behind
+    All-append In (run ++ cut_part kind) (lines.On Keep ∷ [])
     (All-append In run (cut_part kind) (All-append In front (lines.Arm armed ∷ back) in_front (All-cons In (lines.Arm armed) back arms in_back)) (cut_in_range size kind))
-    in_behind
+    (All-cons In (lines.On Keep) [] tt (All-nil In))
 
 -- they were written
 pub wrote_script : (size : Size) (xs those : List Line) (old now : Option (List ℕ)) → IsSize size → xs ≡ those → length xs ≤ 65535 → All (IsLineInRange size) those → All FitsLine xs → ((s : Script) → IsWritable s → script_of (script_text s) ≡ Ok s)
@@ -78,31 +53,24 @@ refused_so (Err e) then (inl memory) = inl memory
 refused_so (Err e) then (inr (inl output)) = inr (inl output)
 refused_so (Err e) then (inr (inr none)) = inr (inr (none.0, then none.1))
 
-pub no_shape : (result : Result (Unit {0}) Refusal) → IfErr result (λ e. (e ≡ Memory) ⊎ (e ≡ Output)) → result ≡ Err BadShape → ⊥
-no_shape (Ok u) refused is = let never : ⊥ = cc is in never
-no_shape (Err e) (inl memory) is = let never : ⊥ = cc (is, memory) in never
-no_shape (Err e) (inr output) is = let never : ⊥ = cc (is, output) in never
-
--- ---- what a line arms
-
 -- of a script with no fault
-pub refused_row : {P Q : Type 0} (F G H : Refusal → Type 0) (result : Result (Unit {0}) Refusal) → (P → Q) → IfErr result (λ e. (e ≡ Memory) ⊎ (e ≡ Output) ⊎ ((e ≡ BadShape) × P))
-    → IfErr result (λ e. (e ≡ Memory) ⊎ (e ≡ Output) ⊎ F e ⊎ G e ⊎ H e ⊎ ((e ≡ BadShape) × Q))
-refused_row F G H (Ok u) then refused = tt
-refused_row F G H (Err e) then (inl memory) = inl memory
-refused_row F G H (Err e) then (inr (inl output)) = inr (inl output)
-refused_row F G H (Err e) then (inr (inr none)) = inr (inr (inr (inr (inr (none.0, then none.1)))))
+pub refused_row : {P Q : Type 0} (F G : Refusal → Type 0) (result : Result (Unit {0}) Refusal) → (P → Q) → IfErr result (λ e. (e ≡ Memory) ⊎ (e ≡ Output) ⊎ ((e ≡ BadShape) × P))
+    → IfErr result (λ e. (e ≡ Memory) ⊎ (e ≡ Output) ⊎ F e ⊎ G e ⊎ ((e ≡ BadShape) × Q))
+refused_row F G (Ok u) then refused = tt
+refused_row F G (Err e) then (inl memory) = inl memory
+refused_row F G (Err e) then (inr (inl output)) = inr (inl output)
+refused_row F G (Err e) then (inr (inr none)) = inr (inr (inr (inr (none.0, then none.1))))
 
 -- the row of a run that is found and written
-pub shows_from : {K : BenchKind} (size : Size) (origin : SimDisk) (b : Bench) (front those behind : List Line) (number count : ℕ) (run : Cell) (arms : Arming) (old now : Option (List ℕ)) → HasRun K size origin b those number run → RunsArmed size K run b those count → arms ≡ arming K run
-    → WroteScript (record { size = size; lines = row_lines K front arms (take count those) behind }) old now → ShowsFrom K size origin b front those behind number old now
-shows_from {K = K} size origin b front those behind number count run arms old now has armed is wrote =
-    let W : Arming → Type 0 = λ a. WroteScript (record { size = size; lines = row_lines K front a (take count those) behind }) old now in
+pub shows_from : {K : BenchKind} (size : Size) (origin : SimDisk) (b : Bench) (front those : List Line) (number count : ℕ) (run : Cell) (arms : Arming) (old now : Option (List ℕ)) → HasRun K size origin b those number run → RunsArmed size K run.caller run.number b those count → arms ≡ arming K run
+    → WroteScript (record { size = size; lines = row_lines K front arms (take count those) }) old now → ShowsFrom K size origin b front those number old now
+shows_from {K = K} size origin b front those number count run arms old now has armed is wrote =
+    let W : Arming → Type 0 = λ a. WroteScript (record { size = size; lines = row_lines K front a (take count those) }) old now in
     record { run = run; has = has; count = count; armed = armed; written = subst W is wrote }
 
 -- or it is not
-pub shows_none : {K : BenchKind} (size : Size) (origin : SimDisk) (b : Bench) (front those behind : List Line) (number count : ℕ) (run : Cell) (arms : Arming) → HasRun K size origin b those number run → RunsArmed size K run b those count → arms ≡ arming K run
-    → 65535 < length (row_lines K front arms (take count those) behind) → ShowsNone K size origin b front those behind number
-shows_none {K = K} size origin b front those behind number count run arms has armed is long =
-    let L : Arming → Type 0 = λ a. 65535 < length (row_lines K front a (take count those) behind) in
+pub shows_none : {K : BenchKind} (size : Size) (origin : SimDisk) (b : Bench) (front those : List Line) (number count : ℕ) (run : Cell) (arms : Arming) → HasRun K size origin b those number run → RunsArmed size K run.caller run.number b those count → arms ≡ arming K run
+    → 65535 < length (row_lines K front arms (take count those)) → ShowsNone K size origin b front those number
+shows_none {K = K} size origin b front those number count run arms has armed is long =
+    let L : Arming → Type 0 = λ a. 65535 < length (row_lines K front a (take count those)) in
     inr (record { run = run; has = has; why = inr (record { count = count; armed = armed; long = subst L is long }) })

@@ -11,7 +11,7 @@ use Rattle.bench_report.specs.declared.power.Power.TheVariants.{Off, On}
 use Rattle.bench_sweep.specs.declared.ledgers.RunLedger.{RunLedger}
 use Rattle.bench_sweep.specs.Lines.{LineMoves}
 use Rattle.bench_sweep.specs.Runs.{RunsCalm}
-use Rattle.bench_sweep.specs.Took.{CountsAlike, LineTook, RunTook, disk_at, line_took}
+use Rattle.bench_sweep.specs.Took.{CountsAlike, LineTook, RunTook, disk_at}
 
 -- ---- the disk of a board
 pub has_disk : (power : Power) → HasDisk power (disk_at power)
@@ -26,7 +26,7 @@ disk_is (On board) disk has = has
 -- a line's step was made
 pub moved_took : (size : Size) (line : Line) (b : Bench) (old now : Power) (before slots : List (List ℕ)) (was ledger : RunLedger) → RunsCalm size b old before was → LineMoves size line b now slots was ledger → LineTook size line (disk_at old) (disk_at now)
 moved_took size line b old now before slots was ledger r m =
-    line_took size line b m.bench m.does.0 (disk_at old) (disk_at now) (old, r.agrees, has_disk old) m.does.1 (now, m.runs.agrees, has_disk now)
+    (b, m.bench, m.does.0, (old, r.agrees, has_disk old), m.does.1, (now, m.runs.agrees, has_disk now))
 
 -- from a disk that has counted the same
 pub took_since : (size : Size) (lines : List Line) (old mid new : SimDisk) → CountsAlike old mid → RunTook size lines mid new → RunTook size lines old new

@@ -11,6 +11,5 @@ pub mod Runs
 pub mod Lines
 pub mod Resumes
 pub mod Reports
-pub mod Recovers
 pub mod Shown
 pub mod Along

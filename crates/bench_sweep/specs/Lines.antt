@@ -1,10 +1,9 @@
 -- What a line that moves harts does, by the steps of the model, and that the ledger follows it.
-use Rattle.std.specs.Prelude.{◌≡◌, ◌++◌, ℕ, List, Option, None, Some}
+use Rattle.std.specs.Prelude.{◌≡◌, ℕ, List, Option, None, Some}
 use Rattle.board_model.specs.Shapes.{Size}
 use Rattle.sbi.specs.declared.words.Word.{Word}
 use Rattle.script_lang.specs.declared.line.Line.{Line}
 use Rattle.report_lines.specs.declared.printed.Answer.{Answer}
-use Rattle.report_lines.specs.declared.printed.Printed.{Printed}
 use Rattle.bench_report.specs.declared.power.Power.{Power}
 use Rattle.bench_report.specs.Bench.{BenchLife, Bench}
 use Rattle.bench_report.specs.Steps.{Step}
@@ -12,7 +11,6 @@ use Rattle.bench_report.specs.Turns.{GuestTurn, GuestTurns}
 use Rattle.bench_report.specs.Agree.{OnIs, BoardAfter}
 use Rattle.bench_report.specs.Views.{SimBoard}
 use Rattle.bench_sweep.specs.declared.ledgers.RunLedger.{RunLedger}
-use Rattle.bench_sweep.specs.Recovers.{look_said}
 use Rattle.bench_sweep.specs.Resumes.{line_resumes, Resumes}
 use Rattle.bench_sweep.specs.Runs.{Follows, Runs}
 
@@ -49,22 +47,4 @@ pub record LineMoves (size : Size) (line : Line) (b : Bench) (power : Power) (sl
   pub bench : Bench
   pub does : DoesLine size line b bench
   pub resumed : Resumes old ledger (line_resumes line does.0)
-  pub runs : Runs size bench power slots ledger
-
--- The line's step was made, its answer says that, and the ledger is a run's.
-pub record LineSays (size : Size) (line : Line) (b : Bench) (said : Printed) (power : Power) (slots : List (List ℕ)) (ledger : RunLedger)
-    : Type 0 where
-  pub bench : Bench
-  pub answer : Answer
-  pub does : Step size line b answer bench
-  pub says : answer.line ≡ said
-  pub runs : Runs size bench power slots ledger
-
--- The line's step was made, and what the line says where it looks is kept behind what was kept before.
-pub record LineAdds (size : Size) (line : Line) (b : Bench) (old new : List Printed) (power : Power) (slots : List (List ℕ)) (ledger : RunLedger)
-    : Type 0 where
-  pub bench : Bench
-  pub answer : Answer
-  pub does : Step size line b answer bench
-  pub adds : new ≡ old ++ look_said line answer
   pub runs : Runs size bench power slots ledger

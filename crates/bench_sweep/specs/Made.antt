@@ -1,28 +1,29 @@
 -- Which runs of a script a bench makes, and what each row of it tells. Source: docs/SCRIPT.md, "The benches".
-use Rattle.std.specs.Prelude.{◌≡◌, ◌≤◌, ◌+◌, ℕ, List, [], ◌∷◌, ◌++◌, Option, None, Some, length, take, drop}
-use Rattle.std.specs.List.{flat_map}
-use Rattle.board_model.specs.Durable.{Change}
-use Rattle.board_model.specs.Kept.{MayKeep, found_of}
+use Rattle.std.specs.Prelude.{◌≡◌, ◌≤◌, ◌+◌, ℕ, List, [], ◌∷◌, ◌++◌, None, Some, true, false, length, take, drop}
+use Rattle.std.specs.List.{AllZip, flat_map}
 use Rattle.board_model.specs.Shapes.{Size}
-use Rattle.board_model.specs.Views.{durable_of}
 use Rattle.board_model.specs.declared.boot_mode.BootMode.TheVariants as modes
 use Rattle.board_model.specs.declared.durable.Durable.{Durable}
+use Rattle.disk.specs.Facts.{Content}
 use Rattle.disk.specs.FaultState.{Unarmed}
+use Rattle.disk.specs.WriteLog.{synced}
+use Rattle.simdisk.specs.Views.{left_by_fill}
 use Rattle.simdisk.specs.declared.SimDisk.{SimDisk}
+use Rattle.simdisk.specs.declared.fill.Fill.{Fill}
 use Rattle.script_lang.specs.declared.line.Line.{Line}
 use Rattle.report_lines.specs.declared.printed.Answer.{Answer}
-use Rattle.report_lines.specs.declared.printed.Printed.{Printed}
 use Rattle.report_lines.specs.declared.printed.Printed.TheVariants as printed
 use Rattle.bench_report.specs.Bench.{Bench, bench_with, no_payloads}
-use Rattle.bench_report.specs.Happens.{says, off, unpowered, settled, armed_with}
+use Rattle.bench_report.specs.Examined.{OpensOf}
+use Rattle.bench_report.specs.Happens.{says, off, unpowered, armed_with}
 use Rattle.bench_report.specs.PowerOns.{PowersOn}
 use Rattle.bench_report.specs.Steps.{Run}
+use Rattle.bench_report.specs.Views.{sim_log_of}
 use Rattle.bench_sweep.specs.declared.points.BenchKind.{BenchKind}
 use Rattle.bench_sweep.specs.declared.points.BenchKind.TheVariants.{Cuts, Fails}
 use Rattle.bench_sweep.specs.declared.points.Caller.{Caller}
-use Rattle.bench_sweep.specs.Points.{fault_at, MadeCalls}
-use Rattle.bench_sweep.specs.Recovers.{Compared, looks_of, TellsFirst}
-use Rattle.bench_sweep.specs.declared.recovery.Differs.{Differs}
+use Rattle.bench_sweep.specs.declared.rows.Row.{Row}
+use Rattle.bench_sweep.specs.Points.{callers, cut_fill, fault_at, MadeCalls}
 use Rattle.bench_sweep.specs.Took.{RunTook, StandsOn}
 
 -- ---- the script as it is
@@ -60,24 +61,18 @@ pub record IsPlainRun (size : Size) (first : Bench) (lines : List Line) : Type 0
   pub run : Run size (unpowered bench) (drop before lines) answers end
   pub refused_none : WasRefusedNoMemory end
 
--- ---- the operator's recovery
--- The lines run from that bench on to their end, and no memory is refused. Their looks say that.
-pub record Recovers (size : Size) (b : Bench) (lines : List Line) (said : List Printed) : Type 0 where
-  pub answers : List Answer
-  pub end : Bench
-  pub run : Run size b lines answers end
-  pub refused_none : WasRefusedNoMemory end
-  pub says : said ≡ looks_of lines answers
+-- ---- where its calls are counted from
+-- the first lines of a script that begins with these payloads formatted the disk last: the bench then, and the disk of the board there
+pub record BeginsOn (size : Size) (start : List (List ℕ)) (lines : List Line) (first : Bench) (origin : SimDisk) : Type 0 where
+  pub format : IsFormatted size start lines first
+  pub stands : StandsOn size (off first) origin
 
--- The script's lines are run as they are to their end, and then power is cut: the looks of the recovery say that.
-pub record IsUncut (size : Size) (first : Bench) (lines rest : List Line) (own : List Printed) : Type 0 where
-  pub before : ℕ
-  pub bench : Bench
-  pub lives : ComesTo size first (take before lines) bench
-  pub answers : List Answer
-  pub end : Bench
-  pub run : Run size (unpowered bench) (drop before lines) answers end
-  pub recovers : Recovers size (unpowered (off end)) rest own
+-- All lines are run as they are, from the origin on, and each caller made so many calls in them.
+pub record CallsIn (size : Size) (origin : SimDisk) (first : Bench) (lines : List Line) (counts : List ℕ) : Type 0 where
+  pub plain : IsPlainRun size first lines
+  pub ended : SimDisk
+  pub took : RunTook size lines origin ended
+  pub made : AllZip (MadeCalls origin ended) callers counts
 
 -- ---- a row
 -- a power-on that looks what a run left: its slots are empty, and it keeps the image
@@ -92,55 +87,57 @@ shows d = record { found = Some d; line = printed.On modes.Keep }
 abbrev pub ShowsState : Answer → Type 0
 ShowsState left = (d : Durable) × (left ≡ shows d)
 
--- A cut left that bench, and a power-on said that of it, which settles the command in doubt: the recovery runs from the bench
--- with the state that was found, and its looks say that.
-pub record RecoversFrom (size : Size) (cut : Bench) (left : Answer) (lines : List Line) (said : List Printed) : Type 0 where
-  pub changes : List Change
-  pub may : MayKeep cut.kept changes
-  pub found : left.found ≡ Some (durable_of (found_of changes))
-  pub recovers : Recovers size (settled changes cut) lines said
-
--- What is told behind a run that a cut left at that bench, of which a power-on said that: where the own looks are some, of a
--- recovery that runs from there; where there are none, nothing.
-abbrev pub IsToldOf : List Printed → Size → Bench → List Line → List ℕ → Answer → Option Differs → Type 0
-IsToldOf [] size cut lines numbers left differs = differs ≡ None
-IsToldOf (o ∷ own) size cut lines numbers left differs =
-    (said : List Printed) × RecoversFrom size cut left lines said × TellsFirst numbers (o ∷ own) said differs
-
--- the same of a run that ended at that bench
-abbrev pub IsRecovered : Size → Bench → Compared → Answer → Option Differs → Type 0
-IsRecovered size end rest left differs = IsToldOf rest.own size (unpowered end) rest.lines rest.numbers left differs
-
 -- A run with a cut ends with the line within which it struck. One with a failure ends with the script, and nothing is armed any
 -- more: the call failed, since the disk never failed by itself.
 abbrev pub EndsAs : BenchKind → List Line → ℕ → List Answer → Bench → Type 0
 EndsAs Cuts lines count answers end = (before : List Answer) × (answers ≡ before ++ says printed.PowerLost ∷ [])
 EndsAs Fails lines count answers end = (count ≡ length lines) × (end.fault_state.armed ≡ Unarmed)
 
--- Lines are run on a bench, on or off, on whose disk that is armed: at the call of that caller that has that number, where so
--- many were made before. No memory is refused. Then power is cut, and a power-on that keeps the image says that:
--- it found a state.
-pub record RunsWith (size : Size) (kind : BenchKind) (caller : Caller) (made number : ℕ) (b : Bench) (lines : List Line) (rest : Compared)
-    (left : Answer) (differs : Option Differs) : Type 0 where
-  pub call : ℕ
-  pub counts : number ≡ made + call
-  pub count : ℕ
+-- a run of so many lines, of all, ended at that bench, where power is still to be taken
+abbrev pub IsEnded : BenchKind → ℕ → ℕ → Bench → Type 0
+IsEnded Cuts count all b = (b.fault_state.struck ≡ true) × (b.fault_state.own ≡ 0)
+IsEnded Fails count all b = (count ≡ all) × (b.fault_state.struck ≡ false) × (b.fault_state.own ≡ 0) × (b.fault_state.armed ≡ Unarmed)
+
+-- With what the bench does at that call of the caller armed, so many lines run on a bench, on or off, and no memory is refused: with a
+-- cut up to the one within which it strikes, with a failure all.
+pub record RunsArmed (size : Size) (kind : BenchKind) (caller : Caller) (call : ℕ) (b : Bench) (lines : List Line) (count : ℕ) : Type 0 where
   pub few : count ≤ length lines
   pub answers : List Answer
   pub end : Bench
   pub run : Run size (armed_with (fault_at kind caller call) b) (take count lines) answers end
   pub ends : EndsAs kind lines count answers end
   pub refused_none : WasRefusedNoMemory end
+
+-- what a cut with that fill leaves of the disk
+abbrev pub cut_content : SimDisk → Fill → Content
+cut_content disk fill = left_by_fill fill (synced (sim_log_of disk)) (sim_log_of disk).written
+
+-- The run ended with that disk, and power is still to be taken. What the fill leaves of the disk is what a power-on that keeps the image
+-- said that of: it found a state.
+pub record IsLeft (size : Size) (end : Bench) (disk : SimDisk) (fill : Fill) (left : Answer) : Type 0 where
+  pub stands : StandsOn size end disk
   pub after : Bench
   pub says : LooksAt size (unpowered end) left after
   pub finds : ShowsState left
-  pub recovered : IsRecovered size end rest left differs
+  pub opens : OpensOf (cut_content disk fill) left
 
--- A row that says that is such a run: some first lines are run as they are, and so are so many of the life under way, and those
--- behind them with that armed. The number of its call is counted from the origin, the disk in front of the first line: in these first
--- lines the disk of the board that they were run on counted those made before.
-pub record IsRunOf (size : Size) (kind : BenchKind) (origin : SimDisk) (caller : Caller) (number : ℕ) (first : Bench) (lines : List Line)
-    (rest : Compared) (left : Answer) (differs : Option Differs) : Type 0 where
+-- The row is a run of lines with its call armed, on a bench on whose disk so many were made before. Its fill, and zeros where it has
+-- none, says what the cut behind it leaves.
+pub record RunsWith (size : Size) (kind : BenchKind) (made : ℕ) (b : Bench) (lines : List Line) (row : Row) : Type 0 where
+  pub call : ℕ
+  pub counts : row.number ≡ made + call
+  pub count : ℕ
+  pub armed : RunsArmed size kind row.caller call b lines count
+  pub at : Bench
+  pub ended : IsEnded kind count (length lines) at
+  pub same : unpowered at ≡ unpowered armed.end
+  pub disk : SimDisk
+  pub left : IsLeft size at disk (cut_fill row.fill) row.left
+
+-- The row is such a run: some first lines are run as they are, and so are so many of the life under way, and those behind them with its
+-- call armed. The number of the call is counted from the origin, the disk in front of the first line: in these first lines the disk of
+-- the board that they were run on counted those made before.
+pub record IsRunOf (size : Size) (kind : BenchKind) (origin : SimDisk) (first : Bench) (lines : List Line) (row : Row) : Type 0 where
   pub before : ℕ
   pub bench : Bench
   pub plain : ComesTo size first (take before lines) bench
@@ -152,5 +149,5 @@ pub record IsRunOf (size : Size) (kind : BenchKind) (origin : SimDisk) (caller :
   pub stands : StandsOn size at disk
   pub took : RunTook size (take (before + more) lines) origin disk
   pub made : ℕ
-  pub counted : MadeCalls origin disk caller made
-  pub run : RunsWith size kind caller made number at (drop (before + more) lines) rest left differs
+  pub counted : MadeCalls origin disk row.caller made
+  pub run : RunsWith size kind made at (drop (before + more) lines) row

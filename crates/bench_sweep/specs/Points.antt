@@ -1,5 +1,5 @@
 -- The calls at which a bench cuts power, or lets one fail. Source: docs/SCRIPT.md, "The benches".
-use Rattle.std.specs.Prelude.{◌≡◌, ◌+◌, ℕ, Option, None, Some, get_or}
+use Rattle.std.specs.Prelude.{◌≡◌, ◌+◌, ◌∷◌, [], ℕ, List, Option, None, Some, get_or}
 use Rattle.disk.specs.declared.device.ArmedFault.{ArmedFault}
 use Rattle.disk.specs.declared.device.ArmedFault.TheVariants.{FailAt, CutAt, FailLane, CutLane}
 use Rattle.simdisk.specs.contracts.logged.SimDiskLogged.TheImpl as sim_logged
@@ -11,6 +11,10 @@ use Rattle.bench_sweep.specs.declared.points.BenchKind.{BenchKind}
 use Rattle.bench_sweep.specs.declared.points.BenchKind.TheVariants.{Cuts, Fails}
 use Rattle.bench_sweep.specs.declared.points.Caller.{Caller}
 use Rattle.bench_sweep.specs.declared.points.Caller.TheVariants.{Disk, Lane}
+
+-- the callers in order
+abbrev pub callers : List Caller
+callers = Disk ∷ Lane 0 ∷ Lane 1 ∷ Lane 2 ∷ Lane 3 ∷ []
 
 -- how many calls of a caller a disk has counted
 abbrev pub calls_of : Caller → SimDisk → ℕ

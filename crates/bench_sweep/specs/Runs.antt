@@ -1,7 +1,7 @@
 -- A run that is under way, and the bench of the model that it stands for.
 use Rattle.std.specs.Prelude.{◌≡◌, ◌≤◌, ◌<◌, ◌⊎◌, ◌∷◌, ◌++◌, [], ℕ, List, false, true, Option, None, Some, length, take, drop}
 use Rattle.board_model.specs.Durable.{DurableState, Change, IsWhole, CarriesWhole}
-use Rattle.board_model.specs.Kept.{Kept, MayFind, MayKeep, nothing_kept, found_of}
+use Rattle.board_model.specs.Kept.{Kept, MayFind, nothing_kept, found_of}
 use Rattle.board_model.specs.Plains.{state_in}
 use Rattle.board_model.specs.declared.plain.Plain.{Plain}
 use Rattle.board_model.specs.Shapes.{Size, IsSize}
@@ -18,7 +18,7 @@ use Rattle.bench_report.specs.declared.power.OffDisk.{OffDisk}
 use Rattle.bench_report.specs.declared.power.Power.{Power}
 use Rattle.bench_report.specs.declared.power.Power.TheVariants.{Off, On}
 use Rattle.bench_report.specs.Bench.{Formatted, Bench, bench_with}
-use Rattle.bench_report.specs.Happens.{off, says, unpowered, settled}
+use Rattle.bench_report.specs.Happens.{off, says, unpowered}
 use Rattle.bench_report.specs.Steps.{Run, Step}
 use Rattle.bench_report.specs.Agree.{OffIs, BoardAfter, Agrees, IsBench}
 use Rattle.bench_report.specs.Views.{SimStore, SimBoard, machine_in, fault_state, store_in, store_size, store_now, store_fault_state}
@@ -90,9 +90,6 @@ LeftAt size b site = LeftOff size b site.off site.payloads site.ledger
 abbrev pub Sits : Size → Site → Type 0
 Sits size site = (b : Bench) × RunsAt size b site
 
-abbrev pub SitsLeft : Size → Site → Type 0
-SitsLeft size site = (b : Bench) × LeftAt size b site
-
 -- An armed cut struck in the last of these lines, whose step came to that bench: what they would have answered.
 pub record LostIn (size : Size) (b : Bench) (lines : List Line) (answers would : List Answer) (at : Bench) : Type 0 where
   pub front : List Line
@@ -145,14 +142,6 @@ pub record IsEnd (size : Size) (first : Bench) (lines : List Line) (site : Site)
   pub at : Bench
   pub stands : RunsAt size at site
   pub same : unpowered at ≡ unpowered (off end)
-
--- A power-on found that state on what a cut left of the bench, which settles the command in doubt: the site stands for the
--- bench with the state.
-pub record SettlesAt (size : Size) (cut : Bench) (found : Durable) (site : Site) : Type 0 where
-  pub changes : List Change
-  pub may : MayKeep cut.kept changes
-  pub is : found ≡ durable_of (found_of changes)
-  pub left : LeftAt size (settled changes cut) site
 
 -- a board that stands for a bench in which no cut has struck is off
 abbrev pub StopsOff : Power → Type 0

@@ -1,12 +1,8 @@
 -- A row of a bench, written as a script. Source: docs/SCRIPT.md, "The benches".
-use Rattle.std.specs.Prelude.{◌≡◌, ◌≢◌, ◌⊎◌, ◌≤◌, ◌<◌, ◌+◌, ℕ, List, [], ◌∷◌, ◌++◌, ⊤, true, false, Option, None, Some, Ok, All, length, take, drop, get_or}
+use Rattle.std.specs.Prelude.{◌≡◌, ◌⊎◌, ◌≤◌, ◌<◌, ◌+◌, ℕ, List, [], ◌∷◌, ◌++◌, ⊤, Option, None, Some, Ok, length, take, drop, get_or}
 use Rattle.std.specs.Io.KnownBytes.{Appends}
-use Rattle.std.specs.List.{AllZip}
 use Rattle.board_model.specs.Shapes.{Size}
-use Rattle.disk.specs.FaultState.{Unarmed}
 use Rattle.board_model.specs.declared.boot_mode.BootMode.TheVariants.{Keep}
-use Rattle.board_model.specs.declared.refusal.Refusal.{Refusal}
-use Rattle.board_model.specs.declared.refusal.Refusal.TheVariants.{NotPlain}
 use Rattle.simdisk.specs.declared.SimDisk.{SimDisk}
 use Rattle.simdisk.specs.declared.fill.Fill.{Fill}
 use Rattle.simdisk.specs.declared.fill.Fill.TheVariants.{Byte, Alternating, Old, New}
@@ -17,21 +13,16 @@ use Rattle.script_lang.specs.declared.armings.Arming.{Arming}
 use Rattle.script_lang.specs.declared.armings.Arming.TheVariants.{CutAt, CutLane, FailAt, FailLane}
 use Rattle.script_lang.specs.declared.line.Line.{Line}
 use Rattle.script_lang.specs.declared.line.Line.TheVariants as lines
-use Rattle.report_lines.specs.declared.printed.Answer.{Answer}
 use Rattle.bench_report.specs.Bench.{Bench}
-use Rattle.bench_report.specs.Happens.{off, unpowered, armed_with}
-use Rattle.bench_report.specs.Steps.{Run}
+use Rattle.bench_report.specs.Happens.{unpowered}
 use Rattle.bench_sweep.specs.declared.points.BenchKind.{BenchKind}
 use Rattle.bench_sweep.specs.declared.points.BenchKind.TheVariants.{Cuts, Fails}
 use Rattle.bench_sweep.specs.declared.points.Caller.{Caller}
 use Rattle.bench_sweep.specs.declared.points.Caller.TheVariants.{Disk, Lane}
-use Rattle.bench_sweep.specs.declared.recovery.RecoveryFile.{RecoveryFile}
 use Rattle.bench_sweep.specs.declared.points.RunAt.{RunAt}
-use Rattle.bench_sweep.specs.Made.{IsFormatted, IsPlainRun, WasRefusedNoMemory, EndsAs}
-use Rattle.bench_sweep.specs.Points.{cut_fill, fault_at, MadeCalls}
-use Rattle.bench_sweep.specs.Recovers.{look_numbers, IsFaulty, Says}
-use Rattle.bench_sweep.specs.Swept.{Cell, IsNoFormat, IsPlainLine, all_runs, callers, cell}
-use Rattle.bench_sweep.specs.Took.{RunTook, StandsOn}
+use Rattle.bench_sweep.specs.Made.{BeginsOn, CallsIn, RunsArmed}
+use Rattle.bench_sweep.specs.Points.{callers, cut_fill}
+use Rattle.bench_sweep.specs.Swept.{Cell, all_points, cell, runs_at}
 
 -- ---- which run it is
 -- how many runs are made at each point
@@ -48,7 +39,7 @@ fill_at Fails place = None
 pub record IsNthRun (kind : BenchKind) (counts : List ℕ) (number : ℕ) (run : Cell) : Type 0 where
   pub before : List Cell
   pub later : List Cell
-  pub all : all_runs kind callers counts ≡ before ++ run ∷ later
+  pub all : runs_at kind (all_points callers counts) ≡ before ++ run ∷ later
   pub nth : number ≡ length before + 1
 
 abbrev pub run_cell : RunAt → Cell
@@ -56,7 +47,7 @@ run_cell run = cell run.caller run.call run.fill
 
 -- there is none of that number
 abbrev pub HasFewer : BenchKind → List ℕ → ℕ → Type 0
-HasFewer kind counts number = (number ≡ 0) ⊎ (length (all_runs kind callers counts) < number)
+HasFewer kind counts number = (number ≡ 0) ⊎ (length (runs_at kind (all_points callers counts)) < number)
 
 -- ---- its script
 -- what the line arms: at that call, with that fill
@@ -82,31 +73,9 @@ abbrev pub cut_part : BenchKind → List Line
 cut_part Cuts = []
 cut_part Fails = lines.Cut (cut_fill None) ∷ []
 
--- the lines in front of what is armed, those that then run, and those behind its end
-abbrev pub row_lines : BenchKind → List Line → Arming → List Line → List Line → List Line
-row_lines kind front armed back behind = front ++ lines.Arm armed ∷ back ++ cut_part kind ++ behind
-
--- what runs behind a row: the lines of a recovery that a bench takes, or a power-on that keeps the image
-abbrev pub IsBehind : Size → Option RecoveryFile → List Line → Type 0
-IsBehind size None behind = behind ≡ lines.On Keep ∷ []
-IsBehind size (Some file) behind =
-    Says size file.bytes.now behind × All IsPlainLine behind × All IsNoFormat behind
-    × (look_numbers behind file.numbers.now ≢ [])
-
--- With what the bench does in that run armed, so many lines run, and no memory is refused: with a cut up to the one within which
--- it strikes, with a failure all.
-pub record RunsArmed (size : Size) (kind : BenchKind) (run : Cell) (b : Bench) (those : List Line) (count : ℕ) : Type 0 where
-  pub few : count ≤ length those
-  pub answers : List Answer
-  pub end : Bench
-  pub ran : Run size (armed_with (fault_at kind run.caller run.number) b) (take count those) answers end
-  pub ends : EndsAs kind those count answers end
-  pub refused_none : WasRefusedNoMemory end
-
--- a run of so many lines, of all, ended at that bench, where power is still to be taken
-abbrev pub IsEnded : BenchKind → ℕ → ℕ → Bench → Type 0
-IsEnded Cuts count all b = (b.fault_state.struck ≡ true) × (b.fault_state.own ≡ 0)
-IsEnded Fails count all b = (count ≡ all) × (b.fault_state.struck ≡ false) × (b.fault_state.own ≡ 0) × (b.fault_state.armed ≡ Unarmed)
+-- the lines in front of what is armed, those that then run, and behind its end a power-on that keeps the image
+abbrev pub row_lines : BenchKind → List Line → Arming → List Line → List Line
+row_lines kind front armed back = front ++ lines.Arm armed ∷ back ++ cut_part kind ++ lines.On Keep ∷ []
 
 -- The script was written as a text that is read back as it. A line feed ends its last line too.
 pub record WroteScript (script : Script) (old new : Option (List ℕ)) : Type 0 where
@@ -116,83 +85,63 @@ pub record WroteScript (script : Script) (old new : Option (List ℕ)) : Type 0 
 
 -- The lines run as they are, from that disk on; by the calls that the callers made in them, the run of that number is that one.
 pub record HasRun (kind : BenchKind) (size : Size) (origin : SimDisk) (b : Bench) (those : List Line) (number : ℕ) (run : Cell) : Type 0 where
-  pub plain : IsPlainRun size b those
-  pub ended : SimDisk
-  pub took : RunTook size those origin ended
   pub counts : List ℕ
-  pub calls : AllZip (MadeCalls origin ended) callers counts
+  pub calls : CallsIn size origin b those counts
   pub nth : IsNthRun kind counts number run
 
 -- there is none of that number
 pub record HasNoRun (kind : BenchKind) (size : Size) (origin : SimDisk) (b : Bench) (those : List Line) (number : ℕ) : Type 0 where
-  pub plain : IsPlainRun size b those
-  pub ended : SimDisk
-  pub took : RunTook size those origin ended
   pub counts : List ℕ
-  pub calls : AllZip (MadeCalls origin ended) callers counts
+  pub calls : CallsIn size origin b those counts
   pub fewer : HasFewer kind counts number
 
--- The row of that number was written: its lines in front of it, those from that bench on that then run, and those behind its end.
-pub record ShowsFrom (kind : BenchKind) (size : Size) (origin : SimDisk) (b : Bench) (front those behind : List Line) (number : ℕ)
+-- The row of that number was written: its lines in front of it, and those from that bench on that then run.
+pub record ShowsFrom (kind : BenchKind) (size : Size) (origin : SimDisk) (b : Bench) (front those : List Line) (number : ℕ)
     (old new : Option (List ℕ)) : Type 0 where
   pub run : Cell
   pub has : HasRun kind size origin b those number run
   pub count : ℕ
-  pub armed : RunsArmed size kind run b those count
-  pub written : WroteScript (record { size = size; lines = row_lines kind front (arming kind run) (take count those) behind }) old new
+  pub armed : RunsArmed size kind run.caller run.number b those count
+  pub written : WroteScript (record { size = size; lines = row_lines kind front (arming kind run) (take count those) }) old new
 
 -- the row has more lines than a script may have
-pub record IsTooLong (kind : BenchKind) (size : Size) (b : Bench) (front those behind : List Line) (run : Cell) : Type 0 where
+pub record IsTooLong (kind : BenchKind) (size : Size) (b : Bench) (front those : List Line) (run : Cell) : Type 0 where
   pub count : ℕ
-  pub armed : RunsArmed size kind run b those count
-  pub long : 65535 < length (row_lines kind front (arming kind run) (take count those) behind)
+  pub armed : RunsArmed size kind run.caller run.number b those count
+  pub long : 65535 < length (row_lines kind front (arming kind run) (take count those))
 
 -- such a run is not written: no line of a script arms its call, or it is too long
-pub record IsNotWritten (kind : BenchKind) (size : Size) (origin : SimDisk) (b : Bench) (front those behind : List Line) (number : ℕ)
-    : Type 0 where
+pub record IsNotWritten (kind : BenchKind) (size : Size) (origin : SimDisk) (b : Bench) (front those : List Line) (number : ℕ) : Type 0 where
   pub run : Cell
   pub has : HasRun kind size origin b those number run
-  pub why : (IsArmingInRange size (arming kind run) → ⊥) ⊎ IsTooLong kind size b front those behind run
+  pub why : (IsArmingInRange size (arming kind run) → ⊥) ⊎ IsTooLong kind size b front those run
 
 -- there is no such row to write: the bench has fewer runs, or that run is not written
-abbrev pub ShowsNone : BenchKind → Size → SimDisk → Bench → List Line → List Line → List Line → ℕ → Type 0
-ShowsNone kind size origin b front those behind number =
-    HasNoRun kind size origin b those number ⊎ IsNotWritten kind size origin b front those behind number
+abbrev pub ShowsNone : BenchKind → Size → SimDisk → Bench → List Line → List Line → ℕ → Type 0
+ShowsNone kind size origin b front those number =
+    HasNoRun kind size origin b those number ⊎ IsNotWritten kind size origin b front those number
 
 -- `--show`: the row of that number was written, behind the lines of which the last formatted the disk. Its call, and those of the
 -- script's own run behind them, are counted from the origin, the disk of the board there.
-pub record ShownRow (kind : BenchKind) (size : Size) (start : List (List ℕ)) (those behind : List Line) (number : ℕ) (old new : Option (List ℕ))
+pub record ShownRow (kind : BenchKind) (size : Size) (start : List (List ℕ)) (those : List Line) (number : ℕ) (old new : Option (List ℕ))
     : Type 0 where
   pub begin : ℕ
   pub first : Bench
-  pub format : IsFormatted size start (take begin those) first
   pub origin : SimDisk
-  pub stands : StandsOn size (off first) origin
-  pub shows : ShowsFrom kind size origin (unpowered first) (take begin those) (drop begin those) behind number old new
+  pub begins : BeginsOn size start (take begin those) first origin
+  pub shows : ShowsFrom kind size origin (unpowered first) (take begin those) (drop begin those) number old new
 
-pub record NoRow (kind : BenchKind) (size : Size) (start : List (List ℕ)) (those behind : List Line) (number : ℕ) : Type 0 where
+pub record NoRow (kind : BenchKind) (size : Size) (start : List (List ℕ)) (those : List Line) (number : ℕ) : Type 0 where
   pub begin : ℕ
   pub first : Bench
-  pub format : IsFormatted size start (take begin those) first
   pub origin : SimDisk
-  pub stands : StandsOn size (off first) origin
-  pub none : ShowsNone kind size origin (unpowered first) (take begin those) (drop begin those) behind number
+  pub begins : BeginsOn size start (take begin those) first origin
+  pub none : ShowsNone kind size origin (unpowered first) (take begin those) (drop begin those) number
 
--- no lines run behind a row: for that fault of the recovery's bytes, or since no bench takes them
-abbrev pub NoneBehind : Size → Option RecoveryFile → Refusal → Type 0
-NoneBehind size None e = ⊥
-NoneBehind size (Some file) e = (e ≡ NotPlain) ⊎ IsFaulty size file.bytes.now e
+-- of a script that has no fault
+abbrev pub IsRowOf : BenchKind → ℕ → List (List ℕ) → List ℕ → Option (List ℕ) → Option (List ℕ) → Type 0
+IsRowOf kind number start script old new =
+    (said : Script) × (script_of script ≡ Ok said) × ShownRow kind said.size start said.lines number old new
 
--- of a script that has no fault, with that recovery behind the row
-abbrev pub IsRowOf : BenchKind → ℕ → List (List ℕ) → List ℕ → Option RecoveryFile → Option (List ℕ) → Option (List ℕ) → Type 0
-IsRowOf kind number start script recovery old new =
-    (said : Script) × (behind : List Line) × (script_of script ≡ Ok said) × IsBehind said.size recovery behind
-    × ShownRow kind said.size start said.lines behind number old new
-
-abbrev pub NoRowOf : BenchKind → ℕ → List (List ℕ) → List ℕ → Option RecoveryFile → Type 0
-NoRowOf kind number start script recovery =
-    (said : Script) × (behind : List Line) × (script_of script ≡ Ok said) × IsBehind said.size recovery behind
-    × NoRow kind said.size start said.lines behind number
-
-abbrev pub NoneBehindOf : List ℕ → Option RecoveryFile → Refusal → Type 0
-NoneBehindOf script recovery e = (said : Script) × (script_of script ≡ Ok said) × NoneBehind said.size recovery e
+abbrev pub NoRowOf : BenchKind → ℕ → List (List ℕ) → List ℕ → Type 0
+NoRowOf kind number start script = (said : Script) × (script_of script ≡ Ok said) × NoRow kind said.size start said.lines number

@@ -22,23 +22,18 @@ disk_at (On board) = disk_in board
 abbrev pub StandsOn : Size → Bench → SimDisk → Type 0
 StandsOn size b disk = (power : Power) × Agrees size b power × HasDisk power disk
 
--- The line was run on a board with the first disk, and its disk is then the second. So of each caller the calls that the line made are those
--- that the second has counted more. A disk's counts alone do not tell whose calls they are: outside this file the relation is known by
--- the calls alone that run a line (`run_line`, `run_command`), so that disks which other lines or none led to are not shown to be those.
-pub LineTook : Size → Line → SimDisk → SimDisk → Type 0
+-- Boards of two benches have these disks, and the line leads from the first bench to the second. Which calls the line made the disks' counts
+-- alone do not tell.
+abbrev pub LineTook : Size → Line → SimDisk → SimDisk → Type 0
 LineTook size line old new =
     (b then : Bench) × (answer : Answer) × StandsOn size b old × Step size line b answer then × StandsOn size then new
-
-pub line_took : (size : Size) (line : Line) (b then : Bench) (answer : Answer) (old new : SimDisk) → StandsOn size b old → Step size line b answer then → StandsOn size then new → LineTook size line old new
-unfolding LineTook
-line_took size line b then answer old new before step after = (b, then, answer, before, step, after)
 
 -- both have counted the same calls of each caller: a disk, and a copy of it, or what a cut or a power-off left of it
 abbrev pub CountsAlike : SimDisk → SimDisk → Type 0
 CountsAlike old new = (caller : Caller) → calls_of caller new ≡ calls_of caller old
 
--- These lines were run, one after another, from the first disk on, and the second is the last's: each line on the disk that the one
--- before it left, or on one that has counted the same.
+-- So it is of these lines, one after another, from the first disk to the second: each begins with the disk that the one before it left, or
+-- with one that has counted the same.
 abbrev pub RunTook : Size → List Line → SimDisk → SimDisk → Type 0
 RunTook size [] old new = CountsAlike old new
 RunTook size (line ∷ more) old new =

@@ -3,7 +3,6 @@
 ghost use Rattle.std.specs.Prelude.{◌≡◌, ◌≤◌, ◌<◌, ◌+◌, ◌-◌, ◌^◌, [], length, IfOk, IfErr, OnOk};
 ghost use Rattle.board_model.specs.declared.refusal.Refusal.TheVariants.{Memory};
 ghost use Rattle.bench_report.specs.Bench.{Bench};
-ghost use Rattle.bench_sweep.specs.Recovers.{compared};
 ghost use Rattle.jobs.specs.Handed.{AreRows};
 ghost use Rattle.bench_sweep.specs.Reports.{IsOfCall, Judged, RunsAlong};
 ghost use Rattle.bench_sweep.specs.Along.{CameTold};
@@ -139,7 +138,6 @@ impl<'a, 'b, C: Crew> RunsAtCalls<'a, 'b, C> {
         requires few { self.now.count ≤ length self.now.runner.now.lines.now }
         requires order { moment.old.count ≤ self.now.count }
         requires lines { AreSwept self.now.runner.now.setting.shape.now self.now.runner.now.lines.now }
-        requires recovery { AreSwept self.now.runner.now.setting.shape.now self.now.runner.now.recovery.lines.now }
         requires room { self.now.before + done + 1 < 2 ^ 64 }
         requires sits { (b : Bench) × CameTold self.now.runner.now.setting.shape.now b self.now.runner.now.lines.now self.now.site.now moment.old }
         ensures stays { (b : Bench) → CameTold self.now.runner.now.setting.shape.now b self.now.runner.now.lines.now self.now.site.now moment.old
@@ -148,7 +146,7 @@ impl<'a, 'b, C: Crew> RunsAtCalls<'a, 'b, C> {
         ensures judged { IfOk result (λ made. (b : Bench)
             → CameTold self.now.runner.now.setting.shape.now b self.now.runner.now.lines.now self.now.site.now moment.old
             → Judged (RunsAlong self.now.runner.now.setting.shape.now self.now.runner.now.bench self.now.caller self.now.site.now self.now.before b
-            self.now.runner.now.lines.now (compared self.now.runner.now.recovery)) made
+            self.now.runner.now.lines.now) made
             (runs_of self.now.runner.now.bench self.now.caller (self.now.before + done + 1))) }
         ensures refused { IfErr result (λ e. e ≡ Memory) }
     {
@@ -168,7 +166,6 @@ impl<'a, 'b, C: Crew> RunsAtCalls<'a, 'b, C> {
             setting: runner.setting,
             bench: runner.bench,
             lines: &runner.lines[moment.count..],
-            recovery: runner.recovery,
         };
         run_at_point(&behind, self.count - moment.count, going, point)
     }
@@ -178,7 +175,6 @@ impl<'a, 'b, C: Crew> RunsAtCalls<'a, 'b, C> {
         requires few { self.now.count ≤ length self.now.runner.now.lines.now }
         requires order { moment.count ≤ self.now.count }
         requires lines { AreSwept self.now.runner.now.setting.shape.now self.now.runner.now.lines.now }
-        requires recovery { AreSwept self.now.runner.now.setting.shape.now self.now.runner.now.recovery.lines.now }
         requires room { self.now.before + done + 1 < 2 ^ 64 }
         requires sits { (b : Bench) × CameTold self.now.runner.now.setting.shape.now b self.now.runner.now.lines.now self.now.site.now moment }
         ensures few { IfOk result (λ did. did.0.count ≤ self.now.count) }
@@ -188,7 +184,7 @@ impl<'a, 'b, C: Crew> RunsAtCalls<'a, 'b, C> {
         ensures judged { IfOk result (λ did. (b : Bench)
             → CameTold self.now.runner.now.setting.shape.now b self.now.runner.now.lines.now self.now.site.now moment
             → Judged (RunsAlong self.now.runner.now.setting.shape.now self.now.runner.now.bench self.now.caller self.now.site.now self.now.before b
-            self.now.runner.now.lines.now (compared self.now.runner.now.recovery)) did.1
+            self.now.runner.now.lines.now) did.1
             (runs_of self.now.runner.now.bench self.now.caller (self.now.before + done + 1))) }
         ensures refused { IfErr result (λ e. e ≡ Memory) }
     {
@@ -207,13 +203,12 @@ impl<'a, 'b, C: Crew> RunsAtCalls<'a, 'b, C> {
     fn rows_of(&self, window: Window, rows: &mut Vec<PointRows>) -> Result<(), Refusal>
         requires few { self.now.count ≤ length self.now.runner.now.lines.now }
         requires lines { AreSwept self.now.runner.now.setting.shape.now self.now.runner.now.lines.now }
-        requires recovery { AreSwept self.now.runner.now.setting.shape.now self.now.runner.now.recovery.lines.now }
         requires room { self.now.before + window.to < 2 ^ 64 }
         requires sits { Sits self.now.runner.now.setting.shape.now self.now.site.now }
         requires none { rows.old.items ≡ [] }
         ensures rows { OnOk result ((length rows.new.items ≡ window.to - window.from)
             × AreRows (IsOfCall self.now.runner.now.setting.shape.now self.now.runner.now.bench self.now.caller self.now.before
-            self.now.runner.now.lines.now (compared self.now.runner.now.recovery) self.now.site.now) window.from rows.new.items) }
+            self.now.runner.now.lines.now self.now.site.now) window.from rows.new.items) }
         ensures refused { IfErr result (λ e. e ≡ Memory) }
     {
         let Window { from, to } = window;
@@ -242,11 +237,11 @@ impl<'a, 'b, C: Crew + Sync> Task for RunsAtCalls<'a, 'b, C> {
     type Row = Chunk<PointRows>;
 
     ghost has = { λ task k. HasChunk task.runner.now.setting.shape.now task.runner.now.lines.now
-        task.runner.now.recovery.lines.now task.count task.site.now task.before task.within.from task.within.to task.each k
+        task.count task.site.now task.before task.within.from task.within.to task.each k
         × IsSync C.Handle.row };
 
     ghost is_row = { λ task k made. made.whole ≡ true → IsChunk (IsOfCall task.runner.now.setting.shape.now task.runner.now.bench task.caller task.before
-        task.runner.now.lines.now (compared task.runner.now.recovery) task.site.now)
+        task.runner.now.lines.now task.site.now)
         task.within.from task.within.to task.each k made.rows.items };
 
     /// Makes the runs at the calls of that chunk: the lines run on from the site as they are, and each call is armed on a copy of

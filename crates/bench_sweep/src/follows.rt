@@ -341,15 +341,15 @@ fn record_line(
     }
 }
 
-/// Keeps what a line said, and answers its line, where it was refused no memory. Refused `Memory` also where it was.
+/// Keeps what a line said, where it was refused no memory. Refused `Memory` also where it was.
 pub fn record_answered(
     ledger: &mut RunLedger,
     alloc: Global,
     line: &Line,
     answer: Result<Answer, Refusal>,
-) -> Result<Printed, Refusal>
+) -> Result<(), Refusal>
     requires memory { OnErr answer (answer ≡ Err Memory) }
-    ensures kept { IfOk result (λ said. MatchResult answer (λ a. (a.line ≡ said) × ShowsEnoughMemory a.line
+    ensures kept { OnOk result (MatchResult answer (λ a. ShowsEnoughMemory a.line
         × ((size : Size) (old new : Kept) → TellsWhole size ledger.old old → LineTold line.now a old new
         → TellsWhole size ledger.new new)) (λ e. ⊥)) }
     ensures resumed { ledger.new.resumed ≡ ledger.old.resumed }
@@ -359,8 +359,7 @@ pub fn record_answered(
         Err(refusal) => Err(refusal),
         Ok(answer) => {
             enough_memory(answer.line)?;
-            record_line(ledger, alloc, line, &answer)?;
-            Ok(answer.line)
+            record_line(ledger, alloc, line, &answer)
         }
     }
 }

@@ -13,21 +13,18 @@ ghost use Rattle.bench_report.specs.Bench.{Bench};
 ghost use Rattle.bench_report.specs.Happens.{off};
 ghost use Rattle.bench_sweep.specs.Runs.{Runs, RunsAt, RunsCalm, Sits, SitsCalm};
 ghost use Rattle.bench_sweep.specs.Swept.{AreSwept, cell, runs_of};
-ghost use Rattle.bench_sweep.specs.Reports.{again, cut_content, Keeps, Judged, IsLeftBy, RunsRow, ToldOver};
-ghost use Rattle.bench_sweep.specs.Recovers.{compared};
-ghost use Rattle.bench_sweep.specs.Made.{IsRecovered};
+ghost use Rattle.bench_sweep.specs.Reports.{again, Keeps, Judged, IsLeftBy};
+ghost use Rattle.bench_sweep.specs.Made.{cut_content, RunsWith};
 ghost use Rattle.bench_sweep.specs.Took.{disk_at};
-ghost use Rattle.bench_report.specs.Examined.{OpensOf};
 
 use crate::finds::count_run;
 use crate::judges::Sweep;
 use crate::points::{BenchKind, FILLS, FIRST_FILLS, LAST_FILL, Point, cut_fill};
-use crate::recovery::Differs;
 use crate::rows::Row;
 use crate::runner::Runner;
 use crate::site::{Going, Site};
 use crate::sites::{Went, cut_by, cut_off, run_lines};
-use bench_report::{Answer, Setting};
+use bench_report::Setting;
 use board_model::Refusal;
 use crew::Crew;
 use simdisk::Fill;
@@ -58,38 +55,8 @@ impl PointRows {
     }
 }
 
-/// Runs the recovery over just what a cut of that fill leaves, where it has a look, and tells the first that differs. A power-on
-/// over it said that, and found a state: refused `Memory` where it did not.
-fn recovered<C: Crew>(
-    runner: &Runner<'_, C>,
-    site: &Site,
-    fill: Fill,
-    left: &Answer,
-) -> Result<Option<Differs>, Refusal>
-    requires lines { AreSwept runner.now.setting.shape.now runner.now.recovery.lines.now }
-    requires sits { Sits runner.now.setting.shape.now site.now }
-    requires exact { OpensOf (cut_content site.now.off.disk fill) left.now }
-    ensures tells { IfOk result (λ differs. (b : Bench)
-        → RunsAt runner.now.setting.shape.now b site.now
-        → IsRecovered runner.now.setting.shape.now b (compared runner.now.recovery) left.now differs) }
-    ensures over { IfOk result (λ differs. ToldOver runner.now.recovery.own.now runner.now.setting.shape.now
-        (cut_content site.now.off.disk fill) (compared runner.now.recovery) differs) }
-    ensures refused { IfErr result (λ e. e ≡ Memory) }
-{
-    if runner.recovery.own.is_empty() {
-        return Ok(None);
-    }
-    match &left.found {
-        None => Err(Refusal::Memory),
-        Some(found) => {
-            let settled = site.settled(runner.setting.alloc, fill, found)?;
-            runner.recovery.compare(&runner.setting, settled)
-        }
-    }
-}
-
-/// Cuts power, powers a board on over what that leaves of the disk, counts the run, and keeps what it told, and what the
-/// recovery then told. What was not synced is left by the run's fill; where a run has none, behind a failure, with zeros.
+/// Cuts power, powers a board on over what that leaves of the disk, counts the run, and keeps what it told. What was not synced is
+/// left by the run's fill; where a run has none, after a failure, with zeros.
 fn judge_run<C: Crew>(
     runner: &Runner<'_, C>,
     site: &Site,
@@ -97,11 +64,10 @@ fn judge_run<C: Crew>(
     fill: Option<Fill>,
     made: &mut PointRows,
 ) -> Result<(), Refusal>
-    requires lines { AreSwept runner.now.setting.shape.now runner.now.recovery.lines.now }
     requires sits { Sits runner.now.setting.shape.now site.now }
     ensures kept { OnOk result ((b : Bench)
         → RunsAt runner.now.setting.shape.now b site.now
-        → Keeps (IsLeftBy runner.now.setting.shape.now b site.now.off.disk (compared runner.now.recovery)) made.old made.new (cell point.caller point.number fill)) }
+        → Keeps (IsLeftBy runner.now.setting.shape.now b site.now.off.disk) made.old made.new (cell point.caller point.number fill)) }
     ensures refused { IfErr result (λ e. e ≡ Memory) }
 {
     let bytes = cut_fill(fill);
@@ -113,20 +79,17 @@ fn judge_run<C: Crew>(
         &site.ledger,
         &mut made.sweep,
     )?;
-    let recovered = recovered(runner, site, bytes, &left)?;
     let row = Row {
         caller: point.caller,
         number: point.number,
         fill,
         left,
-        recovered,
     };
     made.rows.push(row)?;
     Ok(())
 }
 
-/// Judges as [`judge_run`] does, at a site that nothing else is made of: where no recovery runs behind it, its own disk is cut, and
-/// not another one like it.
+/// Judges as [`judge_run`] does, at a site that nothing else is made of: its own disk is cut, and not another one like it.
 fn judge_last<C: Crew>(
     runner: &Runner<'_, C>,
     site: Site,
@@ -134,18 +97,12 @@ fn judge_last<C: Crew>(
     fill: Option<Fill>,
     made: &mut PointRows,
 ) -> Result<(), Refusal>
-    requires lines { AreSwept runner.now.setting.shape.now runner.now.recovery.lines.now }
     requires sits { Sits runner.now.setting.shape.now site }
     ensures kept { OnOk result ((b : Bench)
         → RunsAt runner.now.setting.shape.now b site
-        → Keeps (IsLeftBy runner.now.setting.shape.now b site.off.disk (compared runner.now.recovery)) made.old made.new (cell point.caller point.number fill)) }
+        → Keeps (IsLeftBy runner.now.setting.shape.now b site.off.disk) made.old made.new (cell point.caller point.number fill)) }
     ensures refused { IfErr result (λ e. e ≡ Memory) }
 {
-    if !runner.recovery.own.is_empty() {
-        let judged = judge_run(runner, &site, point, fill, made);
-        site.release();
-        return judged;
-    }
     let Setting { alloc, shape, .. } = runner.setting;
     let off = cut_off(site.off, cut_fill(fill));
     let left = count_run(alloc, shape, off, &site.ledger, &mut made.sweep)?;
@@ -154,7 +111,6 @@ fn judge_last<C: Crew>(
         number: point.number,
         fill,
         left,
-        recovered: None,
     })?;
     Ok(())
 }
@@ -175,7 +131,6 @@ fn repeat(once: &PointRows, point: Point, fill: Fill, made: &mut PointRows) -> R
         number: point.number,
         fill: Some(fill),
         left: first.left,
-        recovered: first.recovered,
     })?;
     made.sweep.runs = made.sweep.runs.saturating_add(1);
     Ok(())
@@ -187,12 +142,11 @@ fn judge_settled<C: Crew>(
     site: Site,
     point: Point,
 ) -> Result<PointRows, Refusal>
-    requires lines { AreSwept runner.now.setting.shape.now runner.now.recovery.lines.now }
     requires sits { Sits runner.now.setting.shape.now site }
     requires same { (fill : FillOf) → cut_content site.off.disk fill ≡ synced (sim_log_of site.off.disk) }
     ensures judged { IfOk result (λ made. (b : Bench)
         → RunsAt runner.now.setting.shape.now b site
-        → Judged (IsLeftBy runner.now.setting.shape.now b site.off.disk (compared runner.now.recovery)) made (runs_of BenchKind.Cuts point.caller point.number)) }
+        → Judged (IsLeftBy runner.now.setting.shape.now b site.off.disk) made (runs_of BenchKind.Cuts point.caller point.number)) }
     ensures refused { IfErr result (λ e. e ≡ Memory) }
 {
     let mut once = PointRows::none(runner.setting.alloc);
@@ -210,11 +164,10 @@ fn judge_each_fill<C: Crew>(
     site: Site,
     point: Point,
 ) -> Result<PointRows, Refusal>
-    requires lines { AreSwept runner.now.setting.shape.now runner.now.recovery.lines.now }
     requires sits { Sits runner.now.setting.shape.now site }
     ensures judged { IfOk result (λ made. (b : Bench)
         → RunsAt runner.now.setting.shape.now b site
-        → Judged (IsLeftBy runner.now.setting.shape.now b site.off.disk (compared runner.now.recovery)) made (runs_of BenchKind.Cuts point.caller point.number)) }
+        → Judged (IsLeftBy runner.now.setting.shape.now b site.off.disk) made (runs_of BenchKind.Cuts point.caller point.number)) }
     ensures refused { IfErr result (λ e. e ≡ Memory) }
 {
     if site.off.disk.is_settled() {
@@ -236,11 +189,10 @@ fn run_to_cut<C: Crew>(
     point: Point,
 ) -> Result<PointRows, Refusal>
     requires lines { AreSwept runner.now.setting.shape.now runner.now.lines.now }
-    requires recovery { AreSwept runner.now.setting.shape.now runner.now.recovery.lines.now }
     requires sits { SitsCalm runner.now.setting.shape.now from }
     ensures judged { IfOk result (λ made. (b : Bench)
         → RunsCalm runner.now.setting.shape.now b from.power from.payloads from.ledger
-        → Judged (RunsRow runner.now.setting.shape.now BenchKind.Cuts point.before b runner.now.lines.now (compared runner.now.recovery)) made
+        → Judged (RunsWith runner.now.setting.shape.now BenchKind.Cuts point.before b runner.now.lines.now) made
         (runs_of BenchKind.Cuts point.caller point.number)) }
     ensures refused { IfErr result (λ e. e ≡ Memory) }
 {
@@ -258,11 +210,10 @@ fn run_past_failure<C: Crew>(
     point: Point,
 ) -> Result<PointRows, Refusal>
     requires lines { AreSwept runner.now.setting.shape.now runner.now.lines.now }
-    requires recovery { AreSwept runner.now.setting.shape.now runner.now.recovery.lines.now }
     requires sits { SitsCalm runner.now.setting.shape.now from }
     ensures judged { IfOk result (λ made. (b : Bench)
         → RunsCalm runner.now.setting.shape.now b from.power from.payloads from.ledger
-        → Judged (RunsRow runner.now.setting.shape.now BenchKind.Fails point.before b runner.now.lines.now (compared runner.now.recovery)) made
+        → Judged (RunsWith runner.now.setting.shape.now BenchKind.Fails point.before b runner.now.lines.now) made
         (runs_of BenchKind.Fails point.caller point.number)) }
     ensures refused { IfErr result (λ e. e ≡ Memory) }
 {
@@ -327,11 +278,10 @@ pub fn run_at_point<C: Crew>(
 ) -> Result<PointRows, Refusal>
     requires few { count ≤ length runner.now.lines.now }
     requires lines { AreSwept runner.now.setting.shape.now runner.now.lines.now }
-    requires recovery { AreSwept runner.now.setting.shape.now runner.now.recovery.lines.now }
     requires sits { SitsCalm runner.now.setting.shape.now from }
     ensures judged { IfOk result (λ made. (b : Bench)
         → RunsCalm runner.now.setting.shape.now b from.power from.payloads from.ledger
-        → Judged (RunsRow runner.now.setting.shape.now runner.now.bench point.before b runner.now.lines.now (compared runner.now.recovery)) made
+        → Judged (RunsWith runner.now.setting.shape.now runner.now.bench point.before b runner.now.lines.now) made
         (runs_of runner.now.bench point.caller point.number)) }
     ensures refused { IfErr result (λ e. e ≡ Memory) }
 {
@@ -341,7 +291,6 @@ pub fn run_at_point<C: Crew>(
                 setting: runner.setting,
                 bench: runner.bench,
                 lines: &runner.lines[..count],
-                recovery: runner.recovery,
             };
             run_to_cut(&front, from, point)
         }

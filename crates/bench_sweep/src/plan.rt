@@ -9,6 +9,6 @@ pub struct SweepPlan {
     pub bench: BenchKind,
     /// Of all points, in the order of the report, those of this part alone; where there is none, all.
     pub part: Option<Part>,
-    /// Of the runs only those are written of which a look of the recovery differs.
+    /// The lines of a point are written only where one of its runs is wrong.
     pub quiet: bool,
 }

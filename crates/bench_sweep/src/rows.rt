@@ -1,15 +1,13 @@
 //! The lines of a bench.
 
-ghost use Rattle.std.specs.Prelude.{◌≡◌, ◌⊎◌, ◌++◌, ◌∷◌, [], Some, OnOk, IfErr};
+ghost use Rattle.std.specs.Prelude.{◌≡◌, ◌⊎◌, ◌++◌, ◌∷◌, [], Some, false, OnOk, IfErr};
 ghost use Rattle.std.specs.Io.KnownBytes.{Appends};
 ghost use Rattle.board_model.specs.declared.refusal.Refusal.TheVariants.{Memory, Output};
-ghost use Rattle.bench_sweep.specs.Rows.{call_text, caller_text, counts_text, differing_rows, differs_text, fill_part, left_text, recovered_text, row_lines, row_text, shown_lines, sweep_text, told_part};
+ghost use Rattle.bench_sweep.specs.Rows.{call_text, caller_text, fill_part, left_text, row_text, sweep_text};
 ghost use Rattle.bench_sweep.specs.Swept.{rows_text};
 
 use crate::judges::Sweep;
 use crate::points::Caller;
-use crate::recovery::Differs;
-use crate::sweeps::Recovered;
 use board_model::{Refusal, StateText, unwritten};
 use jobs::{Part, PartText};
 use report_lines::Answer;
@@ -28,8 +26,6 @@ pub struct Row {
     pub fill: Option<Fill>,
     /// What the power-on after it said.
     pub left: Answer,
-    /// The first look of the recovery over it that said something else than behind the run that nothing cuts.
-    pub recovered: Option<Differs>,
 }
 
 impl fmt::Display for Caller {
@@ -127,128 +123,70 @@ impl fmt::Display for Row {
     }
 }
 
-/// What is told behind a row of which a look differs.
-#[derive(Drop)]
-struct DiffersText {
-    row: Row,
-    differs: Differs,
-}
-
-impl fmt::Display for DiffersText {
-    ghost output = { λ text. Some (differs_text text.row text.differs) };
-
-    fn fmt<W: fmt::Write>(&self, f: &mut fmt::Formatter<W>) -> fmt::Result {
-        let call = self.row.call();
-        let Differs { line, said, own } = self.differs;
-        write!(f, "{call} recover {line} {said} own {own}")
-    }
-}
-
-/// Writes what is told behind a row: a line, where a look of its recovery differs.
-#[tactic(auto, using(crate::proofs::Written::told_none, crate::proofs::Written::told_some))]
-fn write_told<W: Write>(out: &mut W, row: Row) -> Result<(), Refusal>
-    ensures ok { OnOk result (Appends (W.contents out.old) (W.contents out.new) (told_part row row.recovered)) }
-    ensures err { IfErr result (λ e. (e ≡ Memory) ⊎ (e ≡ Output)) }
-{
-    let Row { recovered, .. } = row;
-    match recovered {
-        None => Ok(()),
-        Some(differs) => {
-            let text = DiffersText { row, differs };
-            writeln!(out, "{text}").map_err(|error| unwritten(error))
-        }
-    }
-}
-
-/// Writes the lines of a run, and hands them on: whoever reads sees them at once.
-#[tactic(auto, using(crate::proofs::Written::row_handed))]
+/// Writes the line of a run, and hands it on: whoever reads sees it at once.
+#[tactic(auto, using(crate::proofs::Written::handed_on))]
 fn write_row<W: Write>(out: &mut W, row: Row) -> Result<(), Refusal>
-    ensures ok { OnOk result (Appends (W.contents out.old) (W.contents out.new) (row_lines row)) }
+    ensures ok { OnOk result (Appends (W.contents out.old) (W.contents out.new) (row_text row ++ 10 ∷ [])) }
     ensures err { IfErr result (λ e. (e ≡ Memory) ⊎ (e ≡ Output)) }
 {
     writeln!(out, "{row}").map_err(|error| unwritten(error))?;
-    write_told(out, row)?;
     out.flush().map_err(|error| unwritten(error))
 }
 
-/// Writes the lines of a run; where the bench is quiet, only if a look of its recovery differs.
-fn write_shown<W: Write>(out: &mut W, quiet: bool, row: Row) -> Result<(), Refusal>
-    ensures ok { OnOk result (Appends (W.contents out.old) (W.contents out.new) (shown_lines quiet row)) }
-    ensures err { IfErr result (λ e. (e ≡ Memory) ⊎ (e ≡ Output)) }
-{
-    if quiet && row.recovered.is_none() {
-        return Ok(());
-    }
-    write_row(out, row)
-}
-
-/// Writes what a bench says of these runs.
-pub fn write_rows<W: Write>(out: &mut W, quiet: bool, rows: &[Row]) -> Result<(), Refusal>
-    ensures ok { OnOk result (Appends (W.contents out.old) (W.contents out.new) (rows_text quiet rows.now)) }
+/// Writes the lines of these runs.
+pub fn write_rows<W: Write>(out: &mut W, rows: &[Row]) -> Result<(), Refusal>
+    ensures ok { OnOk result (Appends (W.contents out.old) (W.contents out.new) (rows_text false rows.now)) }
     ensures err { IfErr result (λ e. (e ≡ Memory) ⊎ (e ≡ Output)) }
 {
     for row in rows {
-        write_shown(out, quiet, *row)?;
+        write_row(out, *row)?;
     }
     Ok(())
 }
 
-/// How many of these rows have a look that differs.
-#[tactic(auto, using(crate::proofs::Written::differing_yes, crate::proofs::Written::differing_no, crate::proofs::Written::differing_all))]
-pub fn differing(rows: &[Row]) -> u64
-    ensures { result ≡ differing_rows rows.now }
-{
-    let mut count = 0;
-    for row in rows {
-        if row.recovered.is_some() {
-            count += 1;
-        }
-    }
-    count
+/// The counts of a bench, or of a part of one that has so many points in all.
+#[derive(Drop)]
+struct CountsText {
+    part: Option<Part>,
+    all: u64,
+    sweep: Sweep,
 }
 
-/// The counts of a bench.
-#[derive(Drop)]
-struct CountsText(Sweep);
-
 impl fmt::Display for CountsText {
-    ghost output = { λ text. Some (counts_text text.0) };
+    ghost output = { λ text. Some (sweep_text text.part text.all text.sweep) };
 
     fn fmt<W: fmt::Write>(&self, f: &mut fmt::Formatter<W>) -> fmt::Result {
         let Sweep {
             points,
             runs,
             wrong,
-        } = self.0;
-        write!(f, "points {points} runs {runs} wrong {wrong}")
+        } = self.sweep;
+        let all = self.all;
+        match self.part {
+            None => write!(f, "points {points} runs {runs} wrong {wrong}"),
+            Some(part) => {
+                let begin = PartText(Some(part));
+                write!(
+                    f,
+                    "{begin}points {points} of {all} runs {runs} wrong {wrong}"
+                )
+            }
+        }
     }
 }
 
-/// Writes the last line of a bench with a recovery, or of a part of it.
+/// Writes the last line of a bench, or of a part of it, where the whole has so many points.
 #[tactic(auto, using(crate::proofs::Written::handed_on))]
-pub fn write_recovered<W: Write>(
+pub fn write_sweep<W: Write>(
     out: &mut W,
     part: Option<Part>,
-    done: Recovered,
+    all: u64,
+    sweep: Sweep,
 ) -> Result<(), Refusal>
-    ensures ok { OnOk result (Appends (W.contents out.old) (W.contents out.new) (recovered_text part done.sweep done.differ ++ 10 ∷ [])) }
+    ensures ok { OnOk result (Appends (W.contents out.old) (W.contents out.new) (sweep_text part all sweep ++ 10 ∷ [])) }
     ensures err { IfErr result (λ e. (e ≡ Memory) ⊎ (e ≡ Output)) }
 {
-    let Recovered { sweep, differ } = done;
-    let begin = PartText(part);
-    let counts = CountsText(sweep);
-    writeln!(out, "{begin}{counts} differ {differ}").map_err(|error| unwritten(error))?;
-    out.flush().map_err(|error| unwritten(error))
-}
-
-/// Writes the last line of a bench, or of a part of it.
-#[tactic(auto, using(crate::proofs::Written::handed_on))]
-pub fn write_sweep<W: Write>(out: &mut W, part: Option<Part>, sweep: Sweep) -> Result<(), Refusal>
-    ensures ok { OnOk result (Appends (W.contents out.old) (W.contents out.new) (sweep_text part sweep ++ 10 ∷ [])) }
-    ensures err { IfErr result (λ e. (e ≡ Memory) ⊎ (e ≡ Output)) }
-{
-    let begin = PartText(part);
-    let counts = CountsText(sweep);
-    writeln!(out, "{begin}{counts}").map_err(|error| unwritten(error))?;
+    let counts = CountsText { part, all, sweep };
+    writeln!(out, "{counts}").map_err(|error| unwritten(error))?;
     out.flush().map_err(|error| unwritten(error))
 }

@@ -1,7 +1,6 @@
 //! How a bench runs the lines of its script, over and over.
 
 use crate::points::BenchKind;
-use crate::recovery::Recovery;
 use bench_report::Setting;
 use script_lang::Line;
 
@@ -11,6 +10,4 @@ pub struct Runner<'a, C> {
     pub setting: Setting<'a, C>,
     pub bench: BenchKind,
     pub lines: &'a [Line],
-    /// What runs behind each run, over what it left.
-    pub recovery: Recovery<'a>,
 }

@@ -10,19 +10,19 @@ ghost use Rattle.script_lang.specs.Lines.{IsLineInRange};
 ghost use Rattle.script_lang.specs.Scripts.{script_of, Script as Said};
 ghost use Rattle.bench_report.specs.Bench.{Bench};
 ghost use Rattle.bench_report.specs.Happens.{unpowered};
-ghost use Rattle.bench_sweep.specs.Points.{MadeCalls};
+ghost use Rattle.bench_sweep.specs.Made.{IsEnded, RunsArmed};
+ghost use Rattle.bench_sweep.specs.Points.{callers, MadeCalls};
 ghost use Rattle.bench_sweep.specs.Runs.{Runs, RunsAt, Sits};
-ghost use Rattle.bench_sweep.specs.Shown.{arming, fill_at, row_lines, run_cell, runs_each, HasFewer, HasNoRun, HasRun, IsBehind, IsEnded, IsNamed, IsNthRun, IsRowOf, NoneBehind, NoneBehindOf, NoRow, NoRowOf, RunsArmed, ShowsFrom, ShowsNone, ShownRow, WroteScript};
-ghost use Rattle.bench_sweep.specs.Swept.{callers, AreSwept, IsNotPlain, IsPlainLine, NoBenchRuns};
+ghost use Rattle.bench_sweep.specs.Shown.{arming, fill_at, row_lines, run_cell, runs_each, HasFewer, HasNoRun, HasRun, IsNamed, IsNthRun, IsRowOf, NoRow, NoRowOf, ShowsFrom, ShowsNone, ShownRow, WroteScript};
+ghost use Rattle.bench_sweep.specs.Swept.{AreSwept, IsNotPlain, IsPlainLine, NoBenchRuns};
 
 use crate::begins::run_to_format;
 use crate::judging::{turn_off, turn_off_failed};
 use crate::points::{BenchKind, CALLERS, Caller, FILLS, Point, RunAt, cut_fill};
-use crate::recovery::{Recovery, RecoveryFile, numbers_of_looks, recovery_lines};
 use crate::runner::Runner;
 use crate::site::{Going, Site};
 use crate::sites::{Went, run_lines};
-use crate::sweeps::{calls_between, check_plain, check_recovery, run_plain};
+use crate::sweeps::{calls_between, check_plain, run_plain};
 use bench_report::Setting;
 use board::Payloads;
 use board_model::{BootMode, Refusal, Shape, shape_in_range};
@@ -199,7 +199,7 @@ fn count_armed<C: Crew>(runner: &Runner<'_, C>, site: &Site, run: RunAt) -> Resu
     requires sits { Sits runner.now.setting.shape.now site.now }
     ensures armed { IfOk result (λ count. (b : Bench)
         → RunsAt runner.now.setting.shape.now b site.now
-        → RunsArmed runner.now.setting.shape.now runner.now.bench (run_cell run) (unpowered b) runner.now.lines.now count) }
+        → RunsArmed runner.now.setting.shape.now runner.now.bench run.caller run.call (unpowered b) runner.now.lines.now count) }
     ensures few { IfOk result (λ count. count ≤ length runner.now.lines.now) }
     ensures refused { IfErr result (λ e. e ≡ Memory) }
 {
@@ -227,8 +227,6 @@ struct RowLines<'a> {
     arming: Arming,
     /// Those that then run.
     back: &'a [Line],
-    /// Those behind its end.
-    behind: &'a [Line],
 }
 
 /// Puts copies of lines behind others.
@@ -242,9 +240,9 @@ fn add_lines(alloc: Global, all: &mut Vec<Line>, lines: &[Line]) -> Result<(), A
     Ok(())
 }
 
-/// Those lines as a script has them: behind a run with a failure power is cut with zeros.
+/// Those lines as a script has them: behind a run with a failure power is cut with zeros, and then a power-on keeps the image.
 fn script_lines(alloc: Global, row: &RowLines<'_>) -> Result<Vec<Line>, AllocError>
-    ensures { IfOk result (λ v. v.items ≡ row_lines row.now.bench row.now.front.now row.now.arming row.now.back.now row.now.behind.now) }
+    ensures { IfOk result (λ v. v.items ≡ row_lines row.now.bench row.now.front.now row.now.arming row.now.back.now) }
 {
     let mut lines = Vec::new(alloc);
     add_lines(alloc, &mut lines, row.front)?;
@@ -254,7 +252,7 @@ fn script_lines(alloc: Global, row: &RowLines<'_>) -> Result<Vec<Line>, AllocErr
         BenchKind::Cuts => {}
         BenchKind::Fails => lines.push(Line::Cut(cut_fill(None)))?,
     }
-    add_lines(alloc, &mut lines, row.behind)?;
+    lines.push(Line::On(BootMode::Keep))?;
     Ok(lines)
 }
 
@@ -268,14 +266,12 @@ fn write_shown<W: Write>(
     requires front { All (IsLineInRange shape.now) row.now.front.now }
     requires arming { IsArmingInRange shape.now row.now.arming }
     requires back { All (IsLineInRange shape.now) row.now.back.now }
-    requires behind { All (IsLineInRange shape.now) row.now.behind.now }
     ensures wrote { OnOk result (WroteScript (record {
       size = shape.now;
-      lines = row_lines row.now.bench row.now.front.now row.now.arming
-          row.now.back.now row.now.behind.now;
+      lines = row_lines row.now.bench row.now.front.now row.now.arming row.now.back.now;
     }) (W.contents out.old) (W.contents out.new)) }
     ensures refused { IfErr result (λ e. (e ≡ Memory) ⊎ (e ≡ Output) ⊎ ((e ≡ BadShape)
-        × (65535 < length (row_lines row.now.bench row.now.front.now row.now.arming row.now.back.now row.now.behind.now)))) }
+        × (65535 < length (row_lines row.now.bench row.now.front.now row.now.arming row.now.back.now)))) }
     ensures none { result ≡ Err BadShape → W.contents out.new ≡ W.contents out.old }
 {
     scripts_read_as_written();
@@ -288,53 +284,24 @@ fn write_shown<W: Write>(
     write_script(out, shape, &lines)
 }
 
-/// What runs behind a row: the lines of the recovery, or `on keep`. Refused as a bench is with that recovery.
-fn lines_behind(
-    alloc: Global,
-    shape: &Shape,
-    recovery: Option<RecoveryFile<'_>>,
-) -> Result<Vec<Line>, Refusal>
-    ensures behind { IfOk result (λ v. IsBehind shape.now recovery.entry v.items) }
-    ensures ranges { IfOk result (λ v. All (IsLineInRange shape.now) v.items) }
-    ensures refused { IfErr result (λ e. (e ≡ Memory) ⊎ NoneBehind shape.now recovery.entry e) }
-{
-    match recovery {
-        None => {
-            let mut lines = Vec::new(alloc);
-            lines.push(Line::On(BootMode::Keep))?;
-            Ok(lines)
-        }
-        Some(file) => {
-            let lines = recovery_lines(alloc, shape, file.bytes)?;
-            check_recovery(&lines)?;
-            if numbers_of_looks(alloc, &lines, file.numbers)?.is_empty() {
-                return Err(Refusal::NotPlain);
-            }
-            Ok(lines)
-        }
-    }
-}
-
-/// Writes the row of that number of a bench over those lines, from a site on, with the lines in front of it and behind.
+/// Writes the row of that number of a bench over those lines, from a site on, with the lines in front of it.
 fn show_from<'a, C: Crew, W: Write>(
     runner: &Runner<'a, C>,
     site: &Site,
     number: u64,
     front: &'a [Line],
-    behind: &'a [Line],
     out: &mut W,
 ) -> Result<(), Refusal>
     requires lines { AreSwept runner.now.setting.shape.now runner.now.lines.now }
     requires sits { Sits runner.now.setting.shape.now site.now }
     requires front { All (IsLineInRange runner.now.setting.shape.now) front.now }
-    requires behind { All (IsLineInRange runner.now.setting.shape.now) behind.now }
     ensures shown { OnOk result ((b : Bench)
         → RunsAt runner.now.setting.shape.now b site.now
-        → ShowsFrom runner.now.bench runner.now.setting.shape.now site.now.off.disk (unpowered b) front.now runner.now.lines.now behind.now number
+        → ShowsFrom runner.now.bench runner.now.setting.shape.now site.now.off.disk (unpowered b) front.now runner.now.lines.now number
         (W.contents out.old) (W.contents out.new)) }
     ensures refused { IfErr result (λ e. (e ≡ Memory) ⊎ (e ≡ Output) ⊎ ((e ≡ BadShape) × ((b : Bench)
         → RunsAt runner.now.setting.shape.now b site.now
-        → ShowsNone runner.now.bench runner.now.setting.shape.now site.now.off.disk (unpowered b) front.now runner.now.lines.now behind.now number))) }
+        → ShowsNone runner.now.bench runner.now.setting.shape.now site.now.off.disk (unpowered b) front.now runner.now.lines.now number))) }
     ensures none { result ≡ Err BadShape → W.contents out.new ≡ W.contents out.old }
 {
     let run = find_run(runner, site, number)?;
@@ -345,7 +312,6 @@ fn show_from<'a, C: Crew, W: Write>(
         front,
         arming,
         back: &runner.lines[..count],
-        behind,
     };
     write_shown(runner.setting.alloc, runner.setting.shape, &row, out)
 }
@@ -355,16 +321,14 @@ fn show_lines<'a, C: Crew, W: Write>(
     setting: &Setting<'a, C>,
     wanted: WantedRow,
     lines: &'a [Line],
-    behind: &'a [Line],
     payloads: &Payloads,
     out: &mut W,
 ) -> Result<(), Refusal>
     requires lines { AreSwept setting.now.shape.now lines.now }
-    requires behind { All (IsLineInRange setting.now.shape.now) behind.now }
-    ensures shown { OnOk result (ShownRow wanted.bench setting.now.shape.now payloads.now lines.now behind.now wanted.number
+    ensures shown { OnOk result (ShownRow wanted.bench setting.now.shape.now payloads.now lines.now wanted.number
         (W.contents out.old) (W.contents out.new)) }
     ensures refused { IfErr result (λ e. (e ≡ Memory) ⊎ (e ≡ Output)
-        ⊎ ((e ≡ BadShape) × NoRow wanted.bench setting.now.shape.now payloads.now lines.now behind.now wanted.number)) }
+        ⊎ ((e ≡ BadShape) × NoRow wanted.bench setting.now.shape.now payloads.now lines.now wanted.number)) }
     ensures none { result ≡ Err BadShape → W.contents out.new ≡ W.contents out.old }
 {
     let (begin, site) = run_to_format(setting, lines, payloads)?;
@@ -372,13 +336,8 @@ fn show_lines<'a, C: Crew, W: Write>(
         setting: *setting,
         bench: wanted.bench,
         lines: &lines[begin..],
-        recovery: Recovery {
-            lines: &[],
-            numbers: &[],
-            own: &[],
-        },
     };
-    show_from(&runner, &site, wanted.number, &lines[..begin], behind, out)
+    show_from(&runner, &site, wanted.number, &lines[..begin], out)
 }
 
 /// Writes the wanted row of a bench over a script whose lines are all plain.
@@ -386,17 +345,15 @@ fn show_plain_script<R: Threads + Sync, W: Write>(
     alloc: Global,
     wanted: WantedRow,
     script: &Script,
-    behind: &[Line],
     payloads: &Payloads,
     out: &mut W,
 ) -> Result<(), Refusal>
     requires ranges { All (IsLineInRange script.now.shape) script.now.lines.items }
     requires plain { All IsPlainLine script.now.lines.items }
-    requires behind { All (IsLineInRange script.now.shape) behind.now }
-    ensures shown { OnOk result (ShownRow wanted.bench script.now.shape payloads.now script.now.lines.items behind.now wanted.number
+    ensures shown { OnOk result (ShownRow wanted.bench script.now.shape payloads.now script.now.lines.items wanted.number
         (W.contents out.old) (W.contents out.new)) }
     ensures refused { IfErr result (λ e. (e ≡ Memory) ⊎ (e ≡ Output)
-        ⊎ ((e ≡ BadShape) × NoRow wanted.bench script.now.shape payloads.now script.now.lines.items behind.now wanted.number)) }
+        ⊎ ((e ≡ BadShape) × NoRow wanted.bench script.now.shape payloads.now script.now.lines.items wanted.number)) }
     ensures none { result ≡ Err BadShape → W.contents out.new ≡ W.contents out.old }
 {
     let crew = Sequential::<R>::new([0, 1, 2, 3])?;
@@ -405,32 +362,29 @@ fn show_plain_script<R: Threads + Sync, W: Write>(
         crew: &crew,
         shape: &script.shape,
     };
-    show_lines(&setting, wanted, &script.lines, behind, payloads, out)
+    show_lines(&setting, wanted, &script.lines, payloads, out)
 }
 
 /// Writes a row of a bench as a script (docs/SCRIPT.md, "The benches"): the script's lines up to its first `format` that is
 /// answered ok, then what the row arms. Of the power-cut bench there follow the lines up to the one within which the cut
-/// strikes, of the fault bench all lines and `cut 00`. Then come the recovery's lines, or `on keep`, which says what the row
-/// says. The script is run twice, once as it is and once with that armed, by these payloads; they are no part of what is
-/// written.
+/// strikes, of the fault bench all lines and `cut 00`. Then comes `on keep`, which says what the row says. The script is run
+/// twice, once as it is and once with that armed, by these payloads; they are no part of what is written.
 ///
-/// Refused as `run_bench_recovered` is, and `BadShape` where the bench has no run of that number, where no line arms its call,
+/// Refused as `run_bench` is, and `BadShape` where the bench has no run of that number, where no line arms its call,
 /// or where the row has more lines than a script may have. Then nothing is written.
 pub fn show_row<R: Threads + Sync, W: Write>(
     alloc: Global,
     wanted: WantedRow,
     script: &[u8],
-    recovery: Option<RecoveryFile<'_>>,
     payloads: Payloads,
     out: &mut W,
 ) -> Result<(), Refusal>
     // What was written is the run of that number, and is read back as it. With just that armed its lines run to its end.
-    ensures shown { OnOk result (IsRowOf wanted.bench wanted.number payloads script.now recovery.entry (W.contents out.old) (W.contents out.new)) }
-    // A refusal is want of memory, or the writer's, or the script's fault, or no bench runs the script, or its recovery, or there
-    // is no such row.
+    ensures shown { OnOk result (IsRowOf wanted.bench wanted.number payloads script.now (W.contents out.old) (W.contents out.new)) }
+    // A refusal is want of memory, or the writer's, or the script's fault, or no bench runs the script, or there is no such row.
     ensures refused { IfErr result (λ e. (e ≡ Memory) ⊎ (e ≡ Output) ⊎ (script_of script.now ≡ Err e)
-        ⊎ ((e ≡ NotPlain) × NoBenchRuns script.now) ⊎ NoneBehindOf script.now recovery.entry e
-        ⊎ ((e ≡ BadShape) × NoRowOf wanted.bench wanted.number payloads script.now recovery.entry)) }
+        ⊎ ((e ≡ NotPlain) × NoBenchRuns script.now)
+        ⊎ ((e ≡ BadShape) × NoRowOf wanted.bench wanted.number payloads script.now)) }
     // A script with a fault runs nothing, and neither does one that no bench runs.
     ensures nothing { (e : Refused) → script_of script.now ≡ Err e
         → (W.contents out.new ≡ W.contents out.old) × ((result ≡ Err e) ⊎ (result ≡ Err Memory)) }
@@ -441,6 +395,5 @@ pub fn show_row<R: Threads + Sync, W: Write>(
 {
     let script = parse_script(alloc, script)?;
     check_plain(&script.lines)?;
-    let behind = lines_behind(alloc, &script.shape, recovery)?;
-    show_plain_script::<R, W>(alloc, wanted, &script, &behind, &payloads, out)
+    show_plain_script::<R, W>(alloc, wanted, &script, &payloads, out)
 }

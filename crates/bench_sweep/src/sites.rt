@@ -1,25 +1,21 @@
 //! How a run goes on from a site.
 
 ghost use Rattle.std.specs.Prelude.{◌≡◌, ◌≤◌, ◌<◌, Some, None, true, false, length, take, All, IfOk, IfErr, OnOk, MatchOption};
-ghost use Rattle.board_model.specs.Durable.{DurableState};
 ghost use Rattle.board_model.specs.Shapes.{Size};
-ghost use Rattle.board_model.specs.Views.{durable_of};
 ghost use Rattle.board_model.specs.declared.refusal.Refusal.TheVariants.{Memory};
 ghost use Rattle.script_lang.specs.Lines.{IsLineInRange};
 ghost use Rattle.script_lang.specs.declared.line.Line.TheVariants as lines;
 ghost use Rattle.disk.specs.Facts.{Only};
 ghost use Rattle.simdisk.specs.Views.{left_by_fill};
-ghost use Rattle.store.specs.Standing.{StandsFor};
 ghost use Rattle.disk.specs.WriteLog.{synced};
 ghost use Rattle.bench_report.specs.declared.power.Power.TheVariants.{Off};
 ghost use Rattle.bench_report.specs.Agree.{Agrees, OffIs, IsUnstruck};
 ghost use Rattle.bench_report.specs.Bench.{Bench};
 ghost use Rattle.bench_report.specs.Happens.{off, unpowered};
 ghost use Rattle.bench_report.specs.Views.{facts, sim_log_of};
-ghost use Rattle.bench_sweep.specs.Lines.{LineMoves, LineSays};
+ghost use Rattle.bench_sweep.specs.Lines.{LineMoves};
 ghost use Rattle.bench_sweep.specs.Points.{calls_of};
-ghost use Rattle.bench_sweep.specs.Reports.{cut_content};
-ghost use Rattle.bench_sweep.specs.Runs.{Runs, RunsAt, RunsCalm, LeftAt, RanTo, SettlesAt, StopsOff};
+ghost use Rattle.bench_sweep.specs.Runs.{Runs, RunsAt, RunsCalm, LeftAt, RanTo, StopsOff};
 ghost use Rattle.bench_sweep.specs.Swept.{IsPlainLine};
 ghost use Rattle.bench_sweep.specs.Told.{moves_harts, powers_on};
 ghost use Rattle.bench_sweep.specs.Took.{disk_at, LineTook, RunTook};
@@ -29,16 +25,14 @@ use crate::follows::{record_answered, record_console, record_powered};
 use crate::harts::{is_of_harts, run_hart_line};
 use crate::ledgers::RunLedger;
 use crate::site::{Going, Site};
-use bench_report::{
-    OffDisk, Power, Printed, Setting, console, disk_left, line_alone, power_on, struck,
-};
+use bench_report::{OffDisk, Power, Setting, console, disk_left, line_alone, power_on, struck};
 use board::Payloads;
-use board_model::{BootMode, ConsoleCommand, Durable, Refusal, Shape};
+use board_model::{BootMode, ConsoleCommand, Refusal, Shape};
 use crew::Crew;
 use script_lang::Line;
 use simdisk::{Fill, SimDisk};
 use std::alloc::Global;
-use store::{kept_disks, one_standing};
+use store::kept_disks;
 
 /// The disk that a power cut leaves of that one, with that fill in the place of what was written since the last sync.
 /// That one stays as it is.
@@ -100,23 +94,6 @@ impl Site {
             payloads,
             ledger,
         })
-    }
-
-    /// A site to run from, as `left` makes it, where a power-on over what the cut leaves found that state: it settles the command in
-    /// doubt.
-    pub fn settled(&self, alloc: Global, fill: Fill, found: &Durable) -> Result<Site, Refusal>
-        requires { (size : Size) × (s : DurableState)
-            × StandsFor (left_by_fill fill (synced (sim_log_of self.now.off.disk)) (sim_log_of self.now.off.disk).written) size s
-            × (found.now ≡ durable_of s) }
-        ensures settles { IfOk result (λ left. (size : Size) (b : Bench) → RunsAt size b self.now
-            → SettlesAt size (unpowered b) found.now left) }
-        ensures exact { IfOk result (λ left. (facts left.off.disk).content ≡ cut_content self.now.off.disk fill) }
-        ensures refused { IfErr result (λ e. e ≡ Memory) }
-    {
-        one_standing();
-        let mut left = self.left(alloc, fill)?;
-        left.ledger.settles(found);
-        Ok(left)
     }
 
     /// A site as this one is, with a disk of its own. What was not synced is left as it was at the last sync: all of the disk is durable.
@@ -220,35 +197,7 @@ fn run_power_on(
     }
 }
 
-/// Runs a line that moves no hart and powers no board on, and the ledger follows it. Answers also what the line said.
-pub fn say_still_line<C: Crew>(
-    setting: &Setting<'_, C>,
-    line: &Line,
-    power: Power,
-    payloads: &mut Payloads,
-    ledger: &mut RunLedger,
-) -> Result<(Power, Printed), Refusal>
-    requires range { IsLineInRange setting.now.shape.now line.now }
-    requires plain { IsPlainLine line.now }
-    requires of_none { moves_harts line.now ≡ false }
-    requires no_boot { powers_on line.now ≡ false }
-    requires calm { IsUnstruck power }
-    ensures says { IfOk result (λ did. (b : Bench) → RunsCalm setting.now.shape.now b power payloads.old ledger.old
-        → LineSays setting.now.shape.now line.now b did.1 did.0 payloads.new ledger.new) }
-    ensures resumed { ledger.new.resumed ≡ ledger.old.resumed }
-    ensures refused { IfErr result (λ e. e ≡ Memory) }
-{
-    let (power, answer) = line_alone(setting, line, power, payloads);
-    match record_answered(ledger, setting.alloc, line, answer) {
-        Ok(said) => Ok((power, said)),
-        Err(refusal) => {
-            release(power);
-            Err(refusal)
-        }
-    }
-}
-
-/// Runs a line that moves no hart and powers no board on, and the ledger follows it. Nobody asks what it said.
+/// Runs a line that moves no hart and powers no board on, and the ledger follows it.
 fn run_still_line<C: Crew>(
     setting: &Setting<'_, C>,
     line: &Line,
@@ -263,11 +212,16 @@ fn run_still_line<C: Crew>(
     requires calm { IsUnstruck power }
     ensures runs { IfOk result (λ now. (b : Bench) → RunsCalm setting.now.shape.now b power payloads.old ledger.old
         → LineMoves setting.now.shape.now line.now b now payloads.new ledger.old ledger.new) }
-    ensures resumed { ledger.new.resumed ≡ ledger.old.resumed }
     ensures refused { IfErr result (λ e. e ≡ Memory) }
 {
-    let (power, _said) = say_still_line(setting, line, power, payloads, ledger)?;
-    Ok(power)
+    let (power, answer) = line_alone(setting, line, power, payloads);
+    match record_answered(ledger, setting.alloc, line, answer) {
+        Ok(()) => Ok(power),
+        Err(refusal) => {
+            release(power);
+            Err(refusal)
+        }
+    }
 }
 
 /// The mode of a line that powers a board on.

@@ -1,21 +1,22 @@
 //! Whole benches.
 
-ghost use Rattle.std.specs.Prelude.{◌≡◌, ◌⊎◌, ◌↔◌, ◌≤◌, ◌<◌, ◌+◌, ◌^◌, ℕ, List, length, take, All, Ok, Err, IsTrue, IfOk, IfErr, OnOk};
+ghost use Rattle.std.specs.Prelude.{◌≡◌, ◌⊎◌, ◌↔◌, ◌≤◌, ◌<◌, ◌+◌, ◌^◌, ◌∷◌, ◌++◌, [], ℕ, List, Option, length, take, All, Ok, Err, IsTrue, IfOk, IfErr, OnOk};
 ghost use Rattle.std.specs.List.{AllZip};
+ghost use Rattle.std.specs.Io.KnownBytes.{Appends};
 ghost use Rattle.board_model.specs.declared.refusal.Refusal.{Refusal};
 ghost use Rattle.board_model.specs.declared.refusal.Refusal.TheVariants.{Memory, Output, NotPlain};
 ghost use Rattle.script_lang.specs.Lines.{IsLineInRange};
 ghost use Rattle.script_lang.specs.Scripts.{script_of, Script as Said};
 ghost use Rattle.bench_report.specs.Bench.{Bench};
 ghost use Rattle.bench_report.specs.Happens.{off, unpowered};
-ghost use Rattle.bench_sweep.specs.Points.{calls_of, MadeCalls};
-ghost use Rattle.bench_sweep.specs.declared.points.BenchKind.{BenchKind};
+ghost use Rattle.bench_sweep.specs.Points.{callers, calls_of, MadeCalls};
 ghost use Rattle.bench_sweep.specs.Runs.{RunsAt, Sits, IsEnd, IsLife};
-ghost use Rattle.bench_sweep.specs.Swept.{IsPlainLine, IsNoFormat, IsNotPlain, NoBenchRuns, NoRecoveryRuns, AreSwept, all_points, all_runs, callers, joined_runs, points_from, total, WroteRows, IsBenchOf, IsRecoveredBenchOf};
-ghost use Rattle.bench_sweep.specs.Recovers.{compared};
+ghost use Rattle.bench_sweep.specs.Made.{IsRunOf};
+ghost use Rattle.bench_sweep.specs.Rows.{sweep_text};
+ghost use Rattle.bench_sweep.specs.Swept.{IsPlainLine, IsNoFormat, IsNotPlain, NoBenchRuns, AreSwept, all_points, own_points, points_from, WroteAll, IsBenchOf};
 ghost use Rattle.bench_sweep.specs.Took.{RunTook};
-ghost use Rattle.jobs.specs.Parts.{own_of, window};
-ghost use Rattle.bench_sweep.specs.Reports.{Reports, ReportsAll, ReportsScript, RunsAlong, IsRow, TakesPoint};
+ghost use Rattle.jobs.specs.Parts.{window};
+ghost use Rattle.bench_sweep.specs.Reports.{Reports, ReportsAll, ReportsScript, RunsAlong, TakesPoint};
 
 use crate::begins::run_to_format;
 use crate::chunks::{RunsAtCalls, chunk_size, marks_of};
@@ -23,17 +24,15 @@ use crate::judges::Sweep;
 use crate::judging::{PointRows, turn_off};
 use crate::plan::SweepPlan;
 use crate::points::{BenchKind, CALLERS, Caller};
-use crate::recovery::{Recovery, RecoveryFile, looks_of, numbers_of_looks, recovery_lines};
-use crate::rows::{differing, write_recovered, write_rows, write_sweep};
+use crate::rows::{write_rows, write_sweep};
 use crate::runner::Runner;
 use crate::site::{Going, Site};
 use crate::sites::run_lines;
-use bench_report::{Printed, Setting};
+use bench_report::Setting;
 use board::Payloads;
 use board_model::Refusal;
 use crew::{Crew, Sequential};
 use jobs::{Chunk, Jobs, Part, Progress, Sink, Window, hand_on_all};
-use machine::MachineLine;
 use script_lang::{Line, Script, parse_script};
 use std::alloc::Global;
 use std::io::Write;
@@ -44,29 +43,25 @@ use std::thread::Threads;
 #[derive(Drop)]
 struct SweepReport<'a, W> {
     out: &'a mut W,
-    done: Recovered,
-    /// Only runs of which a look differs are written.
+    done: Sweep,
+    /// The lines of a point are written only where one of its runs is wrong.
     quiet: bool,
 }
 
 impl<'a, W: Write> SweepReport<'a, W> {
-    /// Writes the lines of a point, and counts it and its runs. Where one is wrong, all are written.
+    /// Writes the lines of a point, and counts it and its runs.
     fn take_point<P: Progress>(&mut self, made: &PointRows, progress: &P) -> Result<(), Refusal>
         ensures took { OnOk result (TakesPoint W.contents self.old made.now self.new) }
         ensures refused { IfErr result (λ e. (e ≡ Memory) ⊎ (e ≡ Output)) }
     {
-        let rows = made.rows.as_slice();
         let sweep = made.sweep;
-        let quiet = self.quiet && sweep.wrong == 0;
-        let differ = differing(rows);
-        if !quiet || differ != 0 {
+        if !self.quiet || sweep.wrong != 0 {
             progress.pause();
+            write_rows(self.out, made.rows.as_slice())?;
         }
-        write_rows(self.out, quiet, rows)?;
-        self.done.sweep.points = self.done.sweep.points.saturating_add(1);
-        self.done.differ = self.done.differ.saturating_add(differ);
-        self.done.sweep.runs = self.done.sweep.runs.saturating_add(sweep.runs);
-        self.done.sweep.wrong = self.done.sweep.wrong.saturating_add(sweep.wrong);
+        self.done.points = self.done.points.saturating_add(1);
+        self.done.runs = self.done.runs.saturating_add(sweep.runs);
+        self.done.wrong = self.done.wrong.saturating_add(sweep.wrong);
         progress.went(1);
         Ok(())
     }
@@ -114,11 +109,10 @@ fn run_at_calls<R: Threads + Sync, P: Progress, C: Crew + Sync, W: Write>(
     requires few { count ≤ length runner.now.lines.now }
     requires numbers { calls.made + calls.count < 2 ^ 64 }
     requires lines { AreSwept runner.now.setting.shape.now runner.now.lines.now }
-    requires recovery { AreSwept runner.now.setting.shape.now runner.now.recovery.lines.now }
     requires sits { Sits runner.now.setting.shape.now site.now }
     ensures wrote { OnOk result ((b : Bench)
         → RunsAt runner.now.setting.shape.now b site.now
-        → Reports W.contents runner.now.bench (RunsAlong runner.now.setting.shape.now runner.now.bench calls.caller site.now calls.made (unpowered b) runner.now.lines.now (compared runner.now.recovery))
+        → Reports W.contents runner.now.bench (RunsAlong runner.now.setting.shape.now runner.now.bench calls.caller site.now calls.made (unpowered b) runner.now.lines.now)
         report.old report.new (window within.from within.to (points_from calls.caller (calls.made + 1) calls.count))) }
     ensures refused { IfErr result (λ e. (e ≡ Memory) ⊎ (e ≡ Output)) }
 {
@@ -202,7 +196,6 @@ fn sweep_stretch<R: Threads + Sync, P: Progress, C: Crew + Sync, W: Write>(
     report: &mut SweepReport<'_, W>,
 ) -> Result<(usize, u64), Refusal>
     requires lines { AreSwept runner.now.setting.shape.now runner.now.lines.now }
-    requires recovery { AreSwept runner.now.setting.shape.now runner.now.recovery.lines.now }
     requires sits { Sits runner.now.setting.shape.now site.old }
     requires made { made ≤ calls_of caller site.old.off.disk }
     ensures few { IfOk result (λ did. did.0 ≤ length runner.now.lines.now) }
@@ -217,7 +210,7 @@ fn sweep_stretch<R: Threads + Sync, P: Progress, C: Crew + Sync, W: Write>(
         site.old.off.disk site.new.off.disk) }
     ensures wrote { IfOk result (λ did. (b : Bench)
         → RunsAt runner.now.setting.shape.now b site.old
-        → Reports W.contents runner.now.bench (RunsAlong runner.now.setting.shape.now runner.now.bench caller site.old made (unpowered b) runner.now.lines.now (compared runner.now.recovery))
+        → Reports W.contents runner.now.bench (RunsAlong runner.now.setting.shape.now runner.now.bench caller site.old made (unpowered b) runner.now.lines.now)
         report.old report.new (window within.from within.to (points_from caller (made + 1) did.1))) }
     ensures refused { IfErr result (λ e. (e ≡ Memory) ⊎ (e ≡ Output)) }
 {
@@ -254,11 +247,10 @@ fn sweep_caller<R: Threads + Sync, P: Progress, C: Crew + Sync, W: Write>(
     report: &mut SweepReport<'_, W>,
 ) -> Result<u64, Refusal>
     requires lines { AreSwept runner.now.setting.shape.now runner.now.lines.now }
-    requires recovery { AreSwept runner.now.setting.shape.now runner.now.recovery.lines.now }
     requires sits { Sits runner.now.setting.shape.now begin.now }
     ensures wrote { IfOk result (λ n. (b : Bench)
         → RunsAt runner.now.setting.shape.now b begin.now
-        → Reports W.contents runner.now.bench (IsRow runner.now.setting.shape.now runner.now.bench begin.now.off.disk (unpowered b) runner.now.lines.now (compared runner.now.recovery))
+        → Reports W.contents runner.now.bench (IsRunOf runner.now.setting.shape.now runner.now.bench begin.now.off.disk (unpowered b) runner.now.lines.now)
         report.old report.new (window within.from within.to (points_from caller 1 n))) }
     ensures refused { IfErr result (λ e. (e ≡ Memory) ⊎ (e ≡ Output)) }
 {
@@ -271,7 +263,6 @@ fn sweep_caller<R: Threads + Sync, P: Progress, C: Crew + Sync, W: Write>(
             setting: runner.setting,
             bench: runner.bench,
             lines: &runner.lines[from..],
-            recovery: runner.recovery,
         };
         match sweep_stretch(jobs, &rest, &mut site, caller, made, left, report) {
             Ok((count, calls)) => {
@@ -307,7 +298,6 @@ pub fn run_plain<C: Crew>(runner: &Runner<'_, C>, begin: &Site) -> Result<Site, 
             setting: runner.setting,
             bench: runner.bench,
             lines: &runner.lines[from..],
-            recovery: runner.recovery,
         };
         let lived = stretch_of(&rest, &site);
         site.release();
@@ -325,7 +315,8 @@ pub fn run_plain<C: Crew>(runner: &Runner<'_, C>, begin: &Site) -> Result<Site, 
 /// How many calls all callers made from the one site to the other. Refused `Memory` where a disk counted back, or they are more
 /// than a number holds.
 fn calls_of_all(from: &Site, to: &Site) -> Result<u64, Refusal>
-    ensures calls { IfOk result (λ n. (counts : List ℕ) × AllZip (MadeCalls from.now.off.disk to.now.off.disk) callers counts × (n ≡ total counts)) }
+    ensures calls { IfOk result (λ n. (counts : List ℕ) × AllZip (MadeCalls from.now.off.disk to.now.off.disk) callers counts
+        × (n ≡ length (all_points callers counts))) }
     ensures refused { IfErr result (λ e. e ≡ Memory) }
 {
     let mut all = 0u64;
@@ -340,8 +331,8 @@ fn calls_of_all(from: &Site, to: &Site) -> Result<u64, Refusal>
 }
 
 /// Goes over the points of each caller in turn, over the lines from that site on, as far as they are of the part. Of each caller
-/// there are as many as it made calls up to that end of the plain run. Refused `Memory` where another run of the lines made
-/// others: then the one or the other was refused some.
+/// there are as many as it made calls up to that end of the plain run. Answers how many they are of all callers. Refused `Memory`
+/// where another run of the lines made others: then the one or the other was refused some.
 fn sweep_all_callers<R: Threads + Sync, P: Progress, C: Crew + Sync, W: Write>(
     jobs: &Jobs<'_, R, P>,
     runner: &Runner<'_, C>,
@@ -349,15 +340,14 @@ fn sweep_all_callers<R: Threads + Sync, P: Progress, C: Crew + Sync, W: Write>(
     end: &Site,
     part: Option<Part>,
     report: &mut SweepReport<'_, W>,
-) -> Result<(), Refusal>
+) -> Result<u64, Refusal>
     requires lines { AreSwept runner.now.setting.shape.now runner.now.lines.now }
-    requires recovery { AreSwept runner.now.setting.shape.now runner.now.recovery.lines.now }
     requires sits { Sits runner.now.setting.shape.now site.now }
-    ensures wrote { OnOk result ((b : Bench)
+    ensures wrote { IfOk result (λ all. (b : Bench)
         → RunsAt runner.now.setting.shape.now b site.now
         → (counts : List ℕ) × AllZip (MadeCalls site.now.off.disk end.now.off.disk) callers counts
-        × Reports W.contents runner.now.bench (IsRow runner.now.setting.shape.now runner.now.bench site.now.off.disk (unpowered b) runner.now.lines.now (compared runner.now.recovery))
-        report.old report.new (own_of part (all_points callers counts))) }
+        × (all ≡ length (all_points callers counts)) × Reports W.contents runner.now.bench (IsRunOf runner.now.setting.shape.now runner.now.bench site.now.off.disk (unpowered b) runner.now.lines.now)
+        report.old report.new (own_points part counts)) }
     ensures refused { IfErr result (λ e. (e ≡ Memory) ⊎ (e ≡ Output)) }
 {
     let all = calls_of_all(site, end)?;
@@ -371,41 +361,28 @@ fn sweep_all_callers<R: Threads + Sync, P: Progress, C: Crew + Sync, W: Write>(
         }
         within = within.behind(made);
     }
-    Ok(())
+    Ok(all)
 }
 
-/// Runs the lines from that site on as they are, and then goes over the points of each caller, as far as they are of the part.
+/// Runs the lines from that site on as they are, and then goes over the points of each caller, as far as they are of the part. Answers
+/// how many points all callers have.
 fn sweep_site<R: Threads + Sync, P: Progress, C: Crew + Sync, W: Write>(
     jobs: &Jobs<'_, R, P>,
     runner: &Runner<'_, C>,
     site: &Site,
     part: Option<Part>,
     report: &mut SweepReport<'_, W>,
-) -> Result<(), Refusal>
+) -> Result<u64, Refusal>
     requires lines { AreSwept runner.now.setting.shape.now runner.now.lines.now }
-    requires recovery { AreSwept runner.now.setting.shape.now runner.now.recovery.lines.now }
     requires sits { Sits runner.now.setting.shape.now site.now }
-    ensures wrote { OnOk result ((b : Bench)
+    ensures wrote { IfOk result (λ all. (b : Bench)
         → RunsAt runner.now.setting.shape.now b site.now
         → ReportsAll W.contents runner.now.setting.shape.now runner.now.bench part site.now.off.disk (unpowered b) runner.now.lines.now
-        runner.now.recovery.lines.now runner.now.recovery.numbers.now report.old report.new) }
+        all report.old report.new) }
     ensures refused { IfErr result (λ e. (e ≡ Memory) ⊎ (e ≡ Output)) }
 {
     let end = run_plain(runner, site)?;
-    let left = end.copy(runner.setting.alloc)?;
-    let own = looks_of(&runner.setting, runner.recovery.lines, left)?;
-    let recovery = Recovery {
-        lines: runner.recovery.lines,
-        numbers: runner.recovery.numbers,
-        own: &own,
-    };
-    let compared = Runner {
-        setting: runner.setting,
-        bench: runner.bench,
-        lines: runner.lines,
-        recovery,
-    };
-    sweep_all_callers(jobs, &compared, site, &end, part, report)
+    sweep_all_callers(jobs, runner, site, &end, part, report)
 }
 
 /// Whether a bench runs the line: it cuts nothing, lets nothing fail, and leaves the disk to the firmware.
@@ -457,39 +434,18 @@ pub fn check_plain(lines: &[Line]) -> Result<(), Refusal>
     Ok(())
 }
 
-/// Refused `NotPlain` exactly where these lines are no recovery: one of them is not plain, or formats a disk.
-pub fn check_recovery(lines: &[Line]) -> Result<(), Refusal>
-    ensures plain { OnOk result (All IsPlainLine lines.now × All IsNoFormat lines.now) }
-    ensures refused { IfErr result (λ e. e ≡ NotPlain) }
-{
-    if !are_plain(lines) || !format_none(lines) {
-        return Err(Refusal::NotPlain);
-    }
-    Ok(())
-}
-
-/// What a bench with a recovery made.
-#[derive(Clone, Copy, Drop)]
-pub struct Recovered {
-    pub sweep: Sweep,
-    /// Of how many runs a look of the recovery said something else than behind the run that nothing cuts.
-    pub differ: u64,
-}
-
-/// Goes over the points of those lines, which stand in a script that begins with these payloads.
+/// Goes over the points of those lines, which stand in a script that begins with these payloads. Answers how many points it has in all.
 fn sweep_lines<'a, R: Threads + Sync, P: Progress, C: Crew + Sync, W: Write>(
     jobs: &Jobs<'_, R, P>,
     setting: &Setting<'a, C>,
     plan: SweepPlan,
     lines: &'a [Line],
-    recovery: Recovery<'a>,
     payloads: &Payloads,
     report: &mut SweepReport<'_, W>,
-) -> Result<(), Refusal>
+) -> Result<u64, Refusal>
     requires lines { AreSwept setting.now.shape.now lines.now }
-    requires recovery { AreSwept setting.now.shape.now recovery.lines.now }
-    ensures wrote { OnOk result (ReportsScript W.contents setting.now.shape.now plan.bench plan.part payloads.now lines.now
-        recovery.entry.lines.now recovery.entry.numbers.now report.old report.new) }
+    ensures wrote { IfOk result (λ all. ReportsScript W.contents setting.now.shape.now plan.bench plan.part payloads.now lines.now
+        all report.old report.new) }
     ensures refused { IfErr result (λ e. (e ≡ Memory) ⊎ (e ≡ Output)) }
 {
     let (count, site) = run_to_format(setting, lines, payloads)?;
@@ -497,81 +453,70 @@ fn sweep_lines<'a, R: Threads + Sync, P: Progress, C: Crew + Sync, W: Write>(
         setting: *setting,
         bench: plan.bench,
         lines: &lines[count..],
-        recovery,
     };
     sweep_site(jobs, &runner, &site, plan.part, report)
 }
 
-/// What the looks of the recovery say behind the lines' own end, which stand in a script that begins with these payloads.
-fn own_looks<'a, C: Crew>(
-    setting: &Setting<'a, C>,
-    lines: &'a [Line],
-    recovery: Recovery<'a>,
-    payloads: &Payloads,
-) -> Result<Vec<Printed>, Refusal>
-    requires lines { AreSwept setting.now.shape.now lines.now }
-    requires recovery { AreSwept setting.now.shape.now recovery.lines.now }
-    ensures refused { IfErr result (λ e. e ≡ Memory) }
-{
-    let (count, site) = run_to_format(setting, lines, payloads)?;
-    let after = &lines[count..];
-    let runner = Runner {
-        setting: *setting,
-        bench: BenchKind::Cuts,
-        lines: after,
-        recovery,
-    };
-    let end = run_plain(&runner, &site)?;
-    let left = end.copy(setting.alloc)?;
-    looks_of(setting, recovery.lines, left)
-}
-
-/// Writes the rows that the bench makes of those lines, and answers their counts.
-fn write_swept<'a, R: Threads + Sync, P: Progress, C: Crew + Sync, W: Write>(
+/// Writes the rows that the bench makes of those lines. Answers how many points it has in all, and its counts.
+fn sweep_rows<'a, R: Threads + Sync, P: Progress, C: Crew + Sync, W: Write>(
     jobs: &Jobs<'_, R, P>,
     setting: &Setting<'a, C>,
     plan: SweepPlan,
     lines: &'a [Line],
-    recovery: Recovery<'a>,
     payloads: &Payloads,
     out: &mut W,
-) -> Result<Recovered, Refusal>
+) -> Result<(u64, Sweep), Refusal>
     requires lines { AreSwept setting.now.shape.now lines.now }
-    requires recovery { AreSwept setting.now.shape.now recovery.lines.now }
-    ensures wrote { IfOk result (λ done. WroteRows plan setting.now.shape.now payloads.now lines.now recovery.entry.lines.now
-        recovery.entry.numbers.now (W.contents out.old) (W.contents out.new) done) }
+    ensures wrote { IfOk result (λ made. (last : Option (List ℕ)) → Appends (W.contents out.new) last (sweep_text plan.part made.0 made.1 ++ 10 ∷ [])
+        → WroteAll plan setting.now.shape.now payloads.now lines.now (W.contents out.old) last made.1) }
     ensures refused { IfErr result (λ e. (e ≡ Memory) ⊎ (e ≡ Output)) }
 {
-    let sweep = Sweep {
+    let done = Sweep {
         points: 0,
         runs: 0,
         wrong: 0,
     };
-    let done = Recovered { sweep, differ: 0 };
     let mut report = SweepReport {
         out,
         done,
         quiet: plan.quiet,
     };
-    sweep_lines(jobs, setting, plan, lines, recovery, payloads, &mut report)?;
-    Ok(report.done)
+    let all = sweep_lines(jobs, setting, plan, lines, payloads, &mut report)?;
+    Ok((all, report.done))
 }
 
-/// Runs a bench by that plan over a script whose lines are all plain, with a recovery of which they are too.
+/// Writes the rows that the bench makes of those lines, and their counts, and answers these.
+fn write_swept<'a, R: Threads + Sync, P: Progress, C: Crew + Sync, W: Write>(
+    jobs: &Jobs<'_, R, P>,
+    setting: &Setting<'a, C>,
+    plan: SweepPlan,
+    lines: &'a [Line],
+    payloads: &Payloads,
+    out: &mut W,
+) -> Result<Sweep, Refusal>
+    requires lines { AreSwept setting.now.shape.now lines.now }
+    ensures wrote { IfOk result (λ sweep. WroteAll plan setting.now.shape.now payloads.now lines.now
+        (W.contents out.old) (W.contents out.new) sweep) }
+    ensures refused { IfErr result (λ e. (e ≡ Memory) ⊎ (e ≡ Output)) }
+{
+    let (all, done) = sweep_rows(jobs, setting, plan, lines, payloads, out)?;
+    write_sweep(out, plan.part, all, done)?;
+    Ok(done)
+}
+
+/// Runs a bench by that plan over a script whose lines are all plain.
 fn sweep_plain_script<R: Threads + Sync, P: Progress, W: Write>(
     jobs: &Jobs<'_, R, P>,
     alloc: Global,
     plan: SweepPlan,
     script: &Script,
-    recovery: Recovery<'_>,
     payloads: &Payloads,
     out: &mut W,
-) -> Result<Recovered, Refusal>
+) -> Result<Sweep, Refusal>
     requires ranges { All (IsLineInRange script.now.shape) script.now.lines.items }
     requires plain { All IsPlainLine script.now.lines.items }
-    requires recovery { AreSwept script.now.shape recovery.lines.now }
-    ensures wrote { IfOk result (λ done. WroteRows plan script.now.shape payloads.now script.now.lines.items recovery.entry.lines.now
-        recovery.entry.numbers.now (W.contents out.old) (W.contents out.new) done) }
+    ensures wrote { IfOk result (λ sweep. WroteAll plan script.now.shape payloads.now script.now.lines.items
+        (W.contents out.old) (W.contents out.new) sweep) }
     ensures refused { IfErr result (λ e. (e ≡ Memory) ⊎ (e ≡ Output)) }
 {
     let crew = Sequential::<R>::new([0, 1, 2, 3])?;
@@ -580,47 +525,8 @@ fn sweep_plain_script<R: Threads + Sync, P: Progress, W: Write>(
         crew: &crew,
         shape: &script.shape,
     };
-    write_swept(jobs, &setting, plan, &script.lines, recovery, payloads, out)
+    write_swept(jobs, &setting, plan, &script.lines, payloads, out)
 }
-
-/// Whether a look says nothing of a board or of its disk: the board is off, or on where the disk is asked for.
-fn is_blind(said: &Printed) -> bool {
-    matches!(
-        said,
-        Printed::Off | Printed::Busy | Printed::Shown(MachineLine::Off)
-    )
-}
-
-/// Refused `NotPlain` where each look of the recovery is blind behind the script's own end, so that nothing would be compared.
-fn check_looks<R: Threads + Sync>(
-    alloc: Global,
-    script: &Script,
-    recovery: Recovery<'_>,
-    payloads: &Payloads,
-) -> Result<(), Refusal>
-    requires ranges { All (IsLineInRange script.now.shape) script.now.lines.items }
-    requires plain { All IsPlainLine script.now.lines.items }
-    requires recovery { AreSwept script.now.shape recovery.lines.now }
-    ensures refused { IfErr result (λ e. (e ≡ Memory) ⊎ (e ≡ NotPlain)) }
-{
-    let crew = Sequential::<R>::new([0, 1, 2, 3])?;
-    let setting = Setting {
-        alloc,
-        crew: &crew,
-        shape: &script.shape,
-    };
-    let own = own_looks(&setting, &script.lines, recovery, payloads)?;
-    if own.iter().all(|said| is_blind(said)) {
-        return Err(Refusal::NotPlain);
-    }
-    Ok(())
-}
-
-/// The parts of a bench make the whole: their rows, one part behind another, are those of the bench without parts.
-#[tactic(auto, using(crate::proofs::Written::parts_join))]
-pub fn parts_make_a_bench()
-    ensures { (bench : BenchKind) (of : ℕ) (counts : List ℕ) → 0 < of → joined_runs bench of of counts ≡ all_runs bench callers counts }
-{}
 
 /// A bench (docs/SCRIPT.md, "The benches") over the script that begins with these payloads: a slot boots its own until a
 /// line `payload` says otherwise.
@@ -658,56 +564,5 @@ pub fn run_bench<R: Threads + Sync, P: Progress, W: Write>(
 {
     let script = parse_script(alloc, script)?;
     check_plain(&script.lines)?;
-    let nothing = Recovery {
-        lines: &[],
-        numbers: &[],
-        own: &[],
-    };
-    let done = sweep_plain_script::<R, P, W>(jobs, alloc, plan, &script, nothing, &payloads, out)?;
-    write_sweep(out, plan.part, done.sweep)?;
-    Ok(done.sweep)
-}
-
-/// A bench as `run_bench` has it, with an operator's recovery: lines that follow a power-off, for the board of the script, whose slots
-/// boot what they boot at the cut. They run behind the script's own end, with power cut there, and over what each run left;
-/// what the looks among them say (`mem`, `reg`, `csr`, `pc`, `pending` and `inspect`) is compared. Behind the line of a run
-/// of which a look says something else a line tells the first, and the line of the counts ends with how many runs those are. A
-/// quiet plan writes the lines of those runs alone, and the counts.
-///
-/// Refused as `run_bench` is, and `BadScript` or `NotPlain` also for a line of the recovery that is none, or that formats,
-/// arms, cuts power or pokes; `NotPlain` also where none of them looks, or each look says `off` or `busy` behind the script's own
-/// end.
-pub fn run_bench_recovered<R: Threads + Sync, P: Progress, W: Write>(
-    jobs: &Jobs<'_, R, P>,
-    alloc: Global,
-    plan: SweepPlan,
-    script: &[u8],
-    recovery: RecoveryFile<'_>,
-    payloads: Payloads,
-    out: &mut W,
-) -> Result<Recovered, Refusal>
-    ensures wrote { IfOk result (λ done. IsRecoveredBenchOf plan payloads script.now recovery.entry.bytes.now recovery.entry.numbers.now
-        (W.contents out.old) (W.contents out.new) done) }
-    // A refusal is want of memory, or the writer's, or the script's fault, or no bench runs the script, or its recovery.
-    ensures refused { IfErr result (λ e. (e ≡ Memory) ⊎ (e ≡ Output) ⊎ (script_of script.now ≡ Err e)
-        ⊎ ((e ≡ NotPlain) × NoBenchRuns script.now) ⊎ NoRecoveryRuns script.now recovery.entry.bytes.now e) }
-{
-    let script = parse_script(alloc, script)?;
-    check_plain(&script.lines)?;
-    let lines = recovery_lines(alloc, &script.shape, recovery.bytes)?;
-    check_recovery(&lines)?;
-    let numbers = numbers_of_looks(alloc, &lines, recovery.numbers)?;
-    // Nothing would be compared.
-    if numbers.is_empty() {
-        return Err(Refusal::NotPlain);
-    }
-    let behind = Recovery {
-        lines: &lines,
-        numbers: &numbers,
-        own: &[],
-    };
-    check_looks::<R>(alloc, &script, behind, &payloads)?;
-    let done = sweep_plain_script::<R, P, W>(jobs, alloc, plan, &script, behind, &payloads, out)?;
-    write_recovered(out, plan.part, done)?;
-    Ok(done)
+    sweep_plain_script::<R, P, W>(jobs, alloc, plan, &script, &payloads, out)
 }

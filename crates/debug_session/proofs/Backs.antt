@@ -176,6 +176,7 @@ module _ (size : Size) (stops : Stops) where
   why_back halts.Off h before b new seen = seen
   why_back halts.Idle h before b new seen = seen
   why_back halts.Spent h before b new seen = seen
+  why_back halts.AtLine h before b new seen = seen
   why_back halts.Interrupted h before b new seen = seen
 
   pub end_found : (place : TurnPlace) (past : List Line) (b last : Bench) → FoundOf size stops (Some place) past (moments past) b last → IsEnd size stops place past b

@@ -200,6 +200,7 @@ module _ (size : Size) (stops : Stops) where
   seen_none (Some halts.Off) = refl
   seen_none (Some halts.Idle) = refl
   seen_none (Some halts.Spent) = refl
+  seen_none (Some halts.AtLine) = refl
   seen_none (Some halts.Interrupted) = refl
   seen_none (Some halts.Begin) = refl
 

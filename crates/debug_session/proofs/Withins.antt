@@ -55,6 +55,7 @@ left_by within h halts.Ended b of_turn = of_turn
 left_by within h halts.Off b of_turn = of_turn
 left_by within h halts.Idle b of_turn = of_turn
 left_by within h halts.Spent b of_turn = of_turn
+left_by within h halts.AtLine b of_turn = of_turn
 left_by within h halts.Interrupted b of_turn = of_turn
 left_by within h halts.Begin b of_turn = of_turn
 

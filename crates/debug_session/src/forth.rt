@@ -11,6 +11,7 @@ ghost use Rattle.debug_session.specs.Lives.{machine_of, pc_in, stands_in};
 
 use crate::halts::{HaltReason, Stop};
 use crate::loads::Load;
+use crate::orders::{Ahead, ScriptOrder};
 use crate::stops::{SeenBytes, Stops, Watchpoint, first_touched};
 use crate::timeline::Timeline;
 use bench_live::TurnRow;
@@ -42,6 +43,15 @@ pub(crate) struct StepRange {
     pub(crate) most: u64,
 }
 
+/// The next part of a round.
+#[derive(Clone, Copy, Drop)]
+pub(crate) struct NextPart {
+    /// The hart whose part it is.
+    pub(crate) hart: HartId,
+    /// How many turns it may have.
+    pub(crate) most: u32,
+}
+
 /// A round of harts that run in turn.
 #[derive(Clone, Copy, Drop)]
 pub(crate) struct Round {
@@ -58,23 +68,52 @@ pub(crate) struct Round {
 }
 
 impl Round {
-    /// The hart whose part is next, where it may run; then comes the one behind it.
-    fn next(&mut self, shape: &Shape) -> Option<HartId>
+    /// A part of that hart, where the board has it and it may run.
+    fn part_of(&self, shape: &Shape, number: u64, most: u32) -> Option<NextPart>
+        ensures hart { IfSome result (λ part. (part.hart < shape.now.harts) × (slice_index_or self.now.harts part.hart false ≡ true)) }
+        ensures most { IfSome result (λ part. (part.most ≤ self.now.left) × (part.most ≤ 1000000)) }
+    {
+        let hart = shape.hart(number)?;
+        if self.harts[hart.index()] {
+            Some(NextPart {
+                hart,
+                most: self.turns().min(most),
+            })
+        } else {
+            None
+        }
+    }
+
+    /// The part that an order has next, where its hart may run.
+    fn ahead(&self, shape: &Shape, ahead: &Option<Ahead>) -> Option<NextPart>
+        ensures hart { IfSome result (λ part. (part.hart < shape.now.harts) × (slice_index_or self.now.harts part.hart false ≡ true)) }
+        ensures most { IfSome result (λ part. (part.most ≤ self.now.left) × (part.most ≤ 1000000)) }
+    {
+        match ahead {
+            Some(Ahead::Turns(hart, turns)) => {
+                self.part_of(shape, u64::from(hart.number()), *turns)
+            }
+            _ => None,
+        }
+    }
+
+    /// The part that is next, where its hart may run: the one that an order has next, or else that of the hart whose part comes; then comes
+    /// the one behind it.
+    fn next(&mut self, shape: &Shape, ahead: &Option<Ahead>) -> Option<NextPart>
         requires few { self.old.resting < 8 }
-        ensures hart { IfSome result (λ h. (h < shape.now.harts) × (slice_index_or self.old.harts h false ≡ true)) }
+        ensures hart { IfSome result (λ part. (part.hart < shape.now.harts) × (slice_index_or self.old.harts part.hart false ≡ true)) }
+        ensures most { IfSome result (λ part. (part.most ≤ self.old.left) × (part.most ≤ 1000000)) }
         ensures harts { self.new.harts ≡ self.old.harts }
         ensures left { self.new.left ≡ self.old.left }
         ensures resting { self.new.resting ≡ self.old.resting + 1 }
     {
+        self.resting += 1;
+        if let Some(part) = self.ahead(shape, ahead) {
+            return Some(part);
+        }
         let number = self.place % u64::from(shape.harts());
         self.place = number + 1;
-        self.resting += 1;
-        let hart = shape.hart(number)?;
-        if self.harts[hart.index()] {
-            Some(hart)
-        } else {
-            None
-        }
+        self.part_of(shape, number, MOST_TURNS)
     }
 
     /// How many turns the next part may have.
@@ -418,33 +457,44 @@ pub(crate) fn step_within<C: Crew>(
     })
 }
 
+/// Whether an order goes on with a line that is no row of turns.
+fn is_line(ahead: &Option<Ahead>) -> bool {
+    match ahead {
+        Some(Ahead::Other(_)) => true,
+        _ => false,
+    }
+}
+
 /// The part of a round that a hart has: why everything halts, if it does.
 fn round_part<C: Crew>(
     setting: &Setting<'_, C>,
     stops: &Stops,
     timeline: &mut Timeline,
-    hart: HartId,
+    part: NextPart,
     round: &mut Round,
     told: &mut Vec<Answer>,
 ) -> Result<Option<HaltReason>, Refusal>
     requires at { IsAt setting.now.shape.now timeline.old }
-    requires hart { hart < setting.now.shape.now.harts }
+    requires hart { part.hart < setting.now.shape.now.harts }
+    requires most { (part.most ≤ round.old.left) × (part.most ≤ 1000000) }
     ensures went { OnOk result ((n : ℕ) × (round.new.left + n ≡ round.old.left)
-        × Went (λ h. h ≡ hart) n setting.now.shape.now timeline.old timeline.new) }
-    ensures first { IfOk result (λ halt. ToHalt setting.now.shape.now stops.now hart halt timeline.old timeline.new) }
+        × Went (λ h. h ≡ part.hart) n setting.now.shape.now timeline.old timeline.new) }
+    ensures first { IfOk result (λ halt. ToHalt setting.now.shape.now stops.now part.hart halt timeline.old timeline.new) }
     ensures harts { OnOk result (round.new.harts ≡ round.old.harts) }
     ensures resting { OnOk result (round.new.resting ≤ round.old.resting) }
     ensures refused { IfErr result (λ e. e ≡ Memory) }
 {
-    let did = run_part(setting, stops, timeline, hart, round.turns(), told)?;
+    let did = run_part(setting, stops, timeline, part.hart, part.most, told)?;
     round.made(did.made);
     Ok(did.halt)
 }
 
-/// Goes on with the harts of a round, in turn, to the first halt. The interrupt is looked at before each hart's part.
+/// Goes on with the harts of a round, in turn, to the first halt; or, while the history is a begin of that order, along it. The interrupt is
+/// looked at before each hart's part.
 pub(crate) fn go<C: Crew>(
     setting: &Setting<'_, C>,
     stops: &Stops,
+    order: &ScriptOrder,
     timeline: &mut Timeline,
     first: HartId,
     round: Round,
@@ -471,16 +521,24 @@ pub(crate) fn go<C: Crew>(
                 halt: HaltReason::Idle,
             });
         }
-        let Some(hart) = round.next(setting.shape) else {
+        let ahead = order.next(timeline.lines());
+        if is_line(&ahead) {
+            return Ok(Stop {
+                hart: first,
+                halt: HaltReason::AtLine,
+            });
+        }
+        let Some(part) = round.next(setting.shape, &ahead) else {
             continue;
         };
+        let hart = part.hart;
         if interrupt.swap(false, Ordering::SeqCst) {
             return Ok(Stop {
                 hart,
                 halt: HaltReason::Interrupted,
             });
         }
-        if let Some(halt) = round_part(setting, stops, timeline, hart, &mut round, told)? {
+        if let Some(halt) = round_part(setting, stops, timeline, part, &mut round, told)? {
             return Ok(Stop { hart, halt });
         }
     }

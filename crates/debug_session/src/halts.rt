@@ -20,6 +20,8 @@ pub enum HaltReason {
     Idle,
     /// The turns that one command may make are made.
     Spent,
+    /// The script with which the session began goes on with a line that is no row of turns.
+    AtLine,
     /// The debugger asked for it.
     Interrupted,
     /// Nothing stands before this place in the history.

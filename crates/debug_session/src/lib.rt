@@ -12,6 +12,7 @@ mod forth;
 mod halts;
 mod loads;
 mod looks;
+mod orders;
 mod reads;
 mod replays;
 mod script;

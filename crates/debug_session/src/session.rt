@@ -22,6 +22,7 @@ ghost use Rattle.script_lang.specs.Spellings.{IsWritable};
 use crate::debugged::DebuggedBench;
 use crate::forth::{self, Round, StepRange};
 use crate::halts::{HaltReason, Stop};
+use crate::orders::ScriptOrder;
 use crate::stops::{Stops, Watchpoint};
 use crate::timeline::Timeline;
 use crate::{back, counts, script};
@@ -48,6 +49,8 @@ pub struct Session<'a, C> {
     setting: Setting<'a, C>,
     plan: SessionPlan,
     timeline: Timeline,
+    /// The lines with which it began.
+    order: ScriptOrder,
     stops: Stops,
 }
 
@@ -112,10 +115,15 @@ impl<'a, C: Crew> Session<'a, C> {
         ensures refused { IfErr result (λ e. e ≡ Memory) }
     {
         let timeline = begun(&setting, begins, lines)?;
+        let Ok(order) = ScriptOrder::new(&setting, timeline.begins(), timeline.lines()) else {
+            timeline.release();
+            return Err(Refusal::Memory);
+        };
         Ok(Session {
             setting,
             plan,
             timeline,
+            order,
             stops: Stops::new(setting.alloc),
         })
     }
@@ -194,7 +202,14 @@ impl<'a, C: Crew> Session<'a, C> {
         ensures begins { begins_of self.new ≡ begins_of self.old }
         ensures refused { IfErr result (λ e. e ≡ Memory) }
     {
+        self.order
+            .follow(self.setting.alloc, self.timeline.lines(), &line)?;
         self.timeline.line(&self.setting, line)
+    }
+
+    /// The line with which the script goes on where the session began, if the history is a begin of it and the line is no row of turns.
+    pub fn next_line(&self) -> Option<&Line> {
+        self.order.next_line(self.timeline.lines())
     }
 
     /// Sets a breakpoint, once.
@@ -321,7 +336,8 @@ impl<'a, C: Crew> Session<'a, C> {
         )
     }
 
-    /// Goes on with these harts, in turn, from that one on: up to `quantum` turns of each, to the first halt. The
+    /// Goes on with these harts, in turn, from that one on: up to `quantum` turns of each, to the first halt. While the history is a begin of
+    /// the lines with which the session began, their turns are made, up to a line that is none. The
     /// interrupt is looked at before each hart's part.
     pub fn go(
         &mut self,
@@ -377,6 +393,7 @@ impl<'a, C: Crew> Session<'a, C> {
         forth::go(
             &self.setting,
             &self.stops,
+            &self.order,
             &mut self.timeline,
             first,
             round,

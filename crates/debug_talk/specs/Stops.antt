@@ -3,7 +3,7 @@ use Rattle.std.specs.Prelude.{ℕ, ◌+◌, Bool, false, List, [], ◌∷◌, �
 use Rattle.std.specs.Fmt.{digits}
 use Rattle.gdb_protocol.specs.Packets.{digit_of}
 use Rattle.debug_session.specs.declared.halts.HaltReason.{HaltReason}
-use Rattle.debug_session.specs.declared.halts.HaltReason.TheVariants.{Stepped, Point, Watched, Ended, Off, Idle, Spent, Interrupted, Begin}
+use Rattle.debug_session.specs.declared.halts.HaltReason.TheVariants.{Stepped, Point, Watched, Ended, Off, Idle, Spent, AtLine, Interrupted, Begin}
 use Rattle.debug_session.specs.declared.halts.Stop.{Stop}
 use Rattle.debug_session.specs.declared.stops.Watchpoint.{Watchpoint}
 use Rattle.debug_session.specs.declared.stops.WatchKind.{WatchKind}
@@ -20,6 +20,7 @@ signal_text Ended = codes "20"
 signal_text Off = codes "20"
 signal_text Idle = codes "00"
 signal_text Spent = codes "00"
+signal_text AtLine = codes "00"
 signal_text Interrupted = codes "02"
 
 -- a watchpoint by its kind and its first address

@@ -19,12 +19,23 @@ use board_model::{HartId, Refusal};
 use crew::Crew;
 use debug_session::{HaltReason, Stop};
 use gdb_protocol::Move;
+use script_lang::{Line, LineText};
 use std::alloc::Global;
 use std::sync::atomic::AtomicBool;
 
 /// Tells the report of a line.
 fn tell_answer(alloc: Global, answer: &Answer, out: &mut PacketPayloads) -> Result<(), Refusal> {
     let text = answer_text(alloc, answer)?;
+    tell(alloc, text.as_bytes(), out)
+}
+
+/// Tells the line with which the script goes on, where there is one.
+fn tell_next(alloc: Global, line: Option<&Line>, out: &mut PacketPayloads) -> Result<(), Refusal> {
+    let Some(line) = line else {
+        return Ok(());
+    };
+    let word = LineText(line);
+    let text = format!(in alloc; "the script goes on with: {word}\n")?;
     tell(alloc, text.as_bytes(), out)
 }
 
@@ -232,6 +243,9 @@ impl<'a, C: Crew> Talk<'a, C> {
             tell_answer(alloc, answer, out)?;
         }
         tell(alloc, told_of(stop.halt).as_bytes(), out)?;
+        if stop.halt == HaltReason::AtLine {
+            tell_next(alloc, self.session.next_line(), out)?;
+        }
         self.stopped_at(stop)
     }
 

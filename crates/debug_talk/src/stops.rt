@@ -9,14 +9,14 @@ use gdb_protocol::digit;
 use std::alloc::{AllocError, Global};
 
 /// The number of GDB's signal that says why nothing runs, as two digits: SIGINT, SIGPWR where the board is off or
-/// dozes, none where nothing was to be done or the turns of a command were made, and else SIGTRAP.
+/// dozes, none where nothing was to be done, the turns of a command were made or the script has another line next, and else SIGTRAP.
 fn signal_text(halt: HaltReason) -> &'static [u8; 2]
     ensures { result.now ≡ signal_text halt }
 {
     match halt {
         HaltReason::Interrupted => b"02",
         HaltReason::Ended | HaltReason::Off => b"20",
-        HaltReason::Idle | HaltReason::Spent => b"00",
+        HaltReason::Idle | HaltReason::Spent | HaltReason::AtLine => b"00",
         HaltReason::Stepped | HaltReason::Point | HaltReason::Watched(_) | HaltReason::Begin =>
             b"05",
     }

@@ -46,8 +46,3 @@ monitor turn 0 29
 rwatch cells[1].sum
 continue
 detach
-# where an order does that differs
-target remote | ./sbigdb turns.sbi --p0 crew.bin --preemptions 1 --order 33 --quantum 20
-monitor when
-info threads
-detach

@@ -1,26 +1,22 @@
 -- A script up to where what was found parts from it.
-use Rattle.std.proofs.Common.{◌≡◌, ◌⊎◌, inl, inr, ◌∙◌, ℕ, List, [], ◌∷◌, ◌++◌, Some, None, Result, Ok, Err, refl, ap, subst, sym}
+use Rattle.std.proofs.Common.{◌≡◌, ◌⊎◌, inl, inr, ◌∙◌, ℕ, List, [], ◌∷◌, ◌++◌, Some, Result, Ok, Err, refl, ap, subst, sym}
 use Rattle.std.specs.Prelude.{IfOk}
 use Rattle.std.proofs.lemmas.Result.{IfOk-weaker}
 use Rattle.board_model.specs.Shapes.{Size}
-use Rattle.board_model.specs.declared.boot_mode.BootMode.TheVariants.{Keep}
 use Rattle.board_model.specs.declared.refusal.Refusal.{Refusal}
 use Rattle.board_model.specs.declared.refusal.Refusal.TheVariants.{BadShape, Memory, NotPlain, Output}
 use Rattle.script_lang.specs.Scripts.{Script, script_of}
 use Rattle.script_lang.specs.Spellings.{script_text}
 use Rattle.script_lang.specs.Views.{view}
-use Rattle.script_lang.specs.declared.line.Line.{Line}
-use Rattle.script_lang.specs.declared.line.Line.TheVariants as lines
 use Rattle.script_lang.specs.declared.scripts.Script as code
-use Rattle.bench_schedules.specs.Numbers.{numbers_of}
+use Rattle.bench_orders.specs.Orders.{IsScheduleOf}
 use Rattle.sbigdb.specs.declared.given.ScheduleChoice.{ScheduleChoice}
-use Rattle.sbigdb.specs.declared.given.OrderChoice.{OrderChoice}
-use Rattle.bench_sweep.specs.Shown.{NoRowOf, NoneBehindOf, ShownRow}
+use Rattle.bench_sweep.specs.Shown.{NoRowOf, ShownRow}
 use Rattle.bench_sweep.specs.Swept.{NoBenchRuns}
 use Rattle.bench_sweep.specs.declared.points.BenchKind.{BenchKind}
 use Rattle.bench_sweep.specs.declared.points.BenchKind.TheVariants.{Cuts, Fails}
-use Rattle.sbigdb.specs.declared.given.Begin.TheVariants.{Cut, End, Failure, Order, Schedule}
-use Rattle.sbigdb.specs.Begins.{BeginsAt, IsDrawn, IsFound, IsRow, NoRow, PartsAt}
+use Rattle.sbigdb.specs.declared.given.Begin.TheVariants.{Cut, End, Failure, Schedule}
+use Rattle.sbigdb.specs.Begins.{BeginsAt, IsRow, NoRow, PartsAt}
 use Rattle.sbigdb.specs.Strikes.{StopsBefore}
 use Rattle.sbigdb.proofs.Partings.{parts_nowhere, same_script}
 
@@ -40,7 +36,7 @@ both_parts (Ok s) own found board parts = (board, parts)
 both_parts (Err e) own found board parts = tt
 
 pub begins_schedule : (drawn : ScheduleChoice) (text : List ℕ) (payloads : List (List ℕ)) (own found : code.Script) (said : Script) (r : Result code.Script Refusal) → script_of text ≡ Ok said → script_of text ≡ Ok (view own)
-    → IsDrawn drawn said (view found) → IfOk r (λ s. s.shape ≡ own.shape) → IfOk r (λ s. PartsAt own.lines.items found.lines.items s.lines.items) → IfOk r (λ s. BeginsAt (Schedule drawn) text payloads (view s))
+    → IsScheduleOf said (view found) → IfOk r (λ s. s.shape ≡ own.shape) → IfOk r (λ s. PartsAt own.lines.items found.lines.items s.lines.items) → IfOk r (λ s. BeginsAt (Schedule drawn) text payloads (view s))
 begins_schedule drawn text payloads own found said r one other is board parts =
     let same = same_script _ _ _ one other in
     IfOk-weaker r _ _
@@ -48,50 +44,33 @@ begins_schedule drawn text payloads own found said r one other is board parts =
       said = view own;
       read = other;
       found = view found;
-      is = subst (λ (x : Script). IsDrawn drawn x (view found)) same is;
-      board = both.0;
-      stops = both.1;
-    })
-    (both_parts r own found board parts)
-
-pub begins_order : (order : OrderChoice) (text : List ℕ) (payloads : List (List ℕ)) (own found : code.Script) (said : Script) (r : Result code.Script Refusal) → script_of text ≡ Ok said → script_of text ≡ Ok (view own)
-    → IsFound (Order order) said payloads (numbers_of text) (view found) → IfOk r (λ s. s.shape ≡ own.shape) → IfOk r (λ s. PartsAt own.lines.items found.lines.items s.lines.items) → IfOk r (λ s. BeginsAt (Order order) text payloads (view s))
-begins_order order text payloads own found said r one other is board parts =
-    let same = same_script _ _ _ one other in
-    IfOk-weaker r _ _
-    (λ s both. record {
-      said = view own;
-      read = other;
-      found = view found;
-      is = subst (λ (x : Script). IsFound (Order order) x payloads (numbers_of text) (view found)) same is;
+      is = subst (λ (x : Script). IsScheduleOf x (view found)) same is;
       board = both.0;
       stops = both.1;
     })
     (both_parts r own found board parts)
 
 -- ---- a row
-pub row_shown : (kind : BenchKind) (number : ℕ) (said : Script) (begins payloads : List (List ℕ)) (behind : List Line) (old new text : List ℕ) → begins ≡ payloads → behind ≡ lines.On Keep ∷ [] → old ≡ [] → new ≡ text
-    → ShownRow kind said.size begins said.lines behind number (Some old) (Some new) → ShownRow kind said.size payloads said.lines (lines.On Keep ∷ []) number (Some []) (Some text)
-row_shown kind number said begins payloads behind old new text one two three four shown =
-    let A : List (List ℕ) → Type 0 = λ x. ShownRow kind said.size x said.lines behind number (Some old) (Some new) in
-    let B : List Line → Type 0 = λ x. ShownRow kind said.size payloads said.lines x number (Some old) (Some new) in
-    let C : List ℕ → Type 0 = λ x. ShownRow kind said.size payloads said.lines (lines.On Keep ∷ []) number (Some x) (Some new) in
-    let D : List ℕ → Type 0 = λ x. ShownRow kind said.size payloads said.lines (lines.On Keep ∷ []) number (Some []) (Some x) in
-    subst D four (subst C three (subst B two (subst A one shown)))
+pub row_shown : (kind : BenchKind) (number : ℕ) (said : Script) (begins payloads : List (List ℕ)) (old new text : List ℕ) → begins ≡ payloads → old ≡ [] → new ≡ text
+    → ShownRow kind said.size begins said.lines number (Some old) (Some new) → ShownRow kind said.size payloads said.lines number (Some []) (Some text)
+row_shown kind number said begins payloads old new text one two three shown =
+    let A : List (List ℕ) → Type 0 = λ x. ShownRow kind said.size x said.lines number (Some old) (Some new) in
+    let B : List ℕ → Type 0 = λ x. ShownRow kind said.size payloads said.lines number (Some x) (Some new) in
+    let C : List ℕ → Type 0 = λ x. ShownRow kind said.size payloads said.lines number (Some []) (Some x) in
+    subst C three (subst B two (subst A one shown))
 
 pub row_text : (old new : List ℕ) (found is : Script) → old ≡ [] → new ≡ old ++ (script_text found ++ 10 ∷ []) → is ≡ found → new ≡ script_text is ++ 10 ∷ []
 row_text old new found is none text same = text ∙ ap (λ (x : List ℕ). x ++ (script_text found ++ 10 ∷ [])) none ∙ ap (λ (s : Script). script_text s ++ 10 ∷ []) (sym same)
 
 pub row_refused : (kind : BenchKind) (number : ℕ) (text : List ℕ) (begins payloads : List (List ℕ)) (e : Refusal) → begins ≡ payloads
-    → (e ≡ Memory) ⊎ (e ≡ Output) ⊎ (script_of text ≡ Err e) ⊎ ((e ≡ NotPlain) × NoBenchRuns text) ⊎ NoneBehindOf text None e ⊎ ((e ≡ BadShape) × NoRowOf kind number begins text None)
+    → (e ≡ Memory) ⊎ (e ≡ Output) ⊎ (script_of text ≡ Err e) ⊎ ((e ≡ NotPlain) × NoBenchRuns text) ⊎ ((e ≡ BadShape) × NoRowOf kind number begins text)
     → (e ≡ Memory) ⊎ (e ≡ Output) ⊎ (script_of text ≡ Err e) ⊎ NoRow kind number text payloads e
 row_refused kind number text begins payloads e same (inl memory) = inl memory
 row_refused kind number text begins payloads e same (inr (inl output)) = inr (inl output)
 row_refused kind number text begins payloads e same (inr (inr (inl fault))) = inr (inr (inl fault))
 row_refused kind number text begins payloads e same (inr (inr (inr (inl plain)))) = inr (inr (inr (inl plain)))
-row_refused kind number text begins payloads e same (inr (inr (inr (inr (inl behind))))) = absurd behind.2
-row_refused kind number text begins payloads e same (inr (inr (inr (inr (inr none))))) =
-    let P : List (List ℕ) → Type 0 = λ x. NoRowOf kind number x text None in inr (inr (inr (inr (none.0, subst P same none.1))))
+row_refused kind number text begins payloads e same (inr (inr (inr (inr none)))) =
+    let P : List (List ℕ) → Type 0 = λ x. NoRowOf kind number x text in inr (inr (inr (inr (none.0, subst P same none.1))))
 
 -- up to where it strikes
 pub row_stops : (kind : BenchKind) (number : ℕ) (text : List ℕ) (payloads : List (List ℕ)) (found : code.Script) (said : Script) (r : Result code.Script Refusal) → script_of text ≡ Ok said → (view found).size ≡ said.size

@@ -100,7 +100,3 @@ pub stop_ranged : (size : Size) (all stop : List Line) (p : ℕ) (next : Line) (
 stop_ranged size all stop p next h n k within is row many less stands ranges =
     subst (All (IsLineInRange size)) (sym stands)
     (All-append (IsLineInRange size) (take p all) (some_turns h k) (All-take (IsLineInRange size) p all ranges) (turns_ranged size h n k (row_ranged size all p next h n within is row many ranges) less))
-
-pub turns_none : (h k : ℕ) → k ≡ 0 → some_turns h k ≡ []
-turns_none h zero none = refl
-turns_none h (suc k) none = absurd (omega arith)

@@ -1,9 +1,7 @@
--- Where a session begins. Source: docs/DEBUGGING.md, "A race that a bench found"; docs/SCRIPT.md, "Schedules", "Preemptions"
--- and "The benches".
+-- Where a session begins. Source: docs/DEBUGGING.md, "A race that a bench found"; docs/SCRIPT.md, "Schedules" and "The benches".
 use Rattle.std.specs.Prelude.{◌≡◌, ◌⊎◌, ◌==◌, ◌&&◌, ℕ, Bool, false, List, [], ◌∷◌, ◌++◌, Option, None, Some, Ok, if◌then◌else◌, min}
 use Rattle.std.specs.Option.{option_to_list}
 use Rattle.board_model.specs.Shapes.{Size}
-use Rattle.board_model.specs.declared.boot_mode.BootMode.TheVariants.{Keep}
 use Rattle.board_model.specs.declared.refusal.Refusal.{Refusal}
 use Rattle.board_model.specs.declared.refusal.Refusal.TheVariants.{BadShape, NotPlain}
 use Rattle.script_lang.specs.Scripts.{Script, script_of}
@@ -11,18 +9,12 @@ use Rattle.script_lang.specs.Spellings.{script_text}
 use Rattle.script_lang.specs.declared.line.Line.{Line}
 use Rattle.script_lang.specs.declared.line.Line.TheVariants as lines
 use Rattle.bench_orders.specs.Orders.{IsScheduleOf, is_other}
-use Rattle.bench_orders.specs.declared.quotas.Front.{Front}
-use Rattle.bench_schedules.specs.Numbers.{numbers_of}
-use Rattle.bench_schedules.specs.Schedules.{IsNumbered}
-use Rattle.bench_schedules.specs.Shown.{HasNoOrder, IsNthThatDiffers, order_script}
-use Rattle.bench_schedules.specs.declared.points.Preemption.{Preemption}
 use Rattle.bench_sweep.specs.Shown.{NoRowOf, ShownRow}
 use Rattle.bench_sweep.specs.Swept.{NoBenchRuns}
 use Rattle.bench_sweep.specs.declared.points.BenchKind.{BenchKind}
 use Rattle.bench_sweep.specs.declared.points.BenchKind.TheVariants.{Cuts, Fails}
 use Rattle.sbigdb.specs.declared.given.Begin.{Begin}
-use Rattle.sbigdb.specs.declared.given.Begin.TheVariants.{Cut, End, Failure, Order, Schedule}
-use Rattle.sbigdb.specs.declared.given.ScheduleChoice.{ScheduleChoice}
+use Rattle.sbigdb.specs.declared.given.Begin.TheVariants.{Cut, End, Failure, Schedule}
 use Rattle.sbigdb.specs.Strikes.{StopsBefore}
 
 -- the turns that both lines make, where these are rows of one hart
@@ -46,32 +38,22 @@ pub record PartsAt (own other lines : List Line) : Type 0 where
   pub parts : (line : Line) (a b : List Line) → left ≡ line ∷ a → right ≡ line ∷ b → ⊥
   pub stands : lines ≡ front ++ both_turn left right
 
--- it is the schedule of that number that is drawn from that seed
-abbrev pub IsDrawn : ScheduleChoice → Script → Script → Type 0
-IsDrawn drawn said found =
-    (fronts : List Front) × IsNumbered (record { seed = drawn.seed; fronts = fronts }) drawn.number said.lines found.lines
-    × IsScheduleOf said found
-
 -- it is the script that `--show` writes of the row of that number
 abbrev pub IsRow : BenchKind → ℕ → Script → List (List ℕ) → Script → Type 0
 IsRow kind number said payloads found =
-    ShownRow kind said.size payloads said.lines (lines.On Keep ∷ []) number (Some []) (Some (script_text found ++ 10 ∷ []))
+    ShownRow kind said.size payloads said.lines number (Some []) (Some (script_text found ++ 10 ∷ []))
 
--- What a bench found of a script that begins with these payloads: a schedule; the order of that number among those that differ; or a row
--- of the power-cut bench, or of the fault bench.
-abbrev pub IsFound : Begin → Script → List (List ℕ) → List ℕ → Script → Type 0
-IsFound End said payloads numbers found = found ≡ said
-IsFound (Schedule drawn) said payloads numbers found = IsDrawn drawn said found
-IsFound (Order order) said payloads numbers found =
-    (ones : List Preemption) × IsNthThatDiffers said payloads numbers order.most order.number ones × (found ≡ order_script said ones)
-IsFound (Cut number) said payloads numbers found = IsRow Cuts number said payloads found
-IsFound (Failure number) said payloads numbers found = IsRow Fails number said payloads found
+-- What a bench found of a script that begins with these payloads: a schedule; or a row of the power-cut bench, or of the fault bench.
+abbrev pub IsFound : Begin → Script → List (List ℕ) → Script → Type 0
+IsFound End said payloads found = found ≡ said
+IsFound (Schedule drawn) said payloads found = IsScheduleOf said found
+IsFound (Cut number) said payloads found = IsRow Cuts number said payloads found
+IsFound (Failure number) said payloads found = IsRow Fails number said payloads found
 
 -- up to where what was found parts from the script; of a row, up to where what it arms strikes
 abbrev pub StopsAt : Begin → Size → List (List ℕ) → List Line → List Line → List Line → Type 0
 StopsAt End size payloads own other stop = PartsAt own other stop
 StopsAt (Schedule drawn) size payloads own other stop = PartsAt own other stop
-StopsAt (Order order) size payloads own other stop = PartsAt own other stop
 StopsAt (Cut number) size payloads own other stop = StopsBefore size payloads other stop
 StopsAt (Failure number) size payloads own other stop = StopsBefore size payloads other stop
 
@@ -80,21 +62,19 @@ pub record BeginsAt (begin : Begin) (text : List ℕ) (payloads : List (List ℕ
   pub said : Script
   pub read : script_of text ≡ Ok said
   pub found : Script
-  pub is : IsFound begin said payloads (numbers_of text) found
+  pub is : IsFound begin said payloads found
   pub board : script.size ≡ said.size
   pub stops : StopsAt begin said.size payloads said.lines found.lines script.lines
 
 -- there is no row of that number, or no bench runs the script
 abbrev pub NoRow : BenchKind → ℕ → List ℕ → List (List ℕ) → Refusal → Type 0
 NoRow kind number text payloads e =
-    ((e ≡ NotPlain) × NoBenchRuns text) ⊎ ((e ≡ BadShape) × NoRowOf kind number payloads text None)
+    ((e ≡ NotPlain) × NoBenchRuns text) ⊎ ((e ≡ BadShape) × NoRowOf kind number payloads text)
 
--- there is no order of that number, or no such row
+-- there is no such row
 abbrev pub HasNone : Begin → List ℕ → List (List ℕ) → Refusal → Type 0
 HasNone End text payloads e = ⊥
 HasNone (Schedule drawn) text payloads e = ⊥
-HasNone (Order order) text payloads e =
-    (e ≡ BadShape) × (said : Script) × (script_of text ≡ Ok said) × HasNoOrder said payloads (numbers_of text) order.most order.number
 HasNone (Cut number) text payloads e = NoRow Cuts number text payloads e
 HasNone (Failure number) text payloads e = NoRow Fails number text payloads e
 

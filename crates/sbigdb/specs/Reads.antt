@@ -11,7 +11,7 @@ use Rattle.script_lang.specs.Words.{number_of, seed_of}
 use Rattle.sbigdb.specs.Limits.{IsUpTo}
 use Rattle.sbigdb.specs.Usage.{sbigdb}
 use Rattle.sbigdb.specs.declared.given.Begin.{Begin}
-use Rattle.sbigdb.specs.declared.given.Begin.TheVariants.{Cut, End, Failure, Order, Schedule}
+use Rattle.sbigdb.specs.declared.given.Begin.TheVariants.{Cut, End, Failure, Schedule}
 use Rattle.sbigdb.specs.declared.given.DebugOptions.{DebugOptions}
 use lib.Chars.{codes}
 
@@ -25,30 +25,11 @@ drawn_by None seed = None
 drawn_by (Some number) None = None
 drawn_by (Some number) (Some seed) = Some (Schedule (record { seed = seed; number = number }))
 
-abbrev pub ordered_by : Option ℕ → Option ℕ → Option Begin
-ordered_by None number = None
-ordered_by (Some most) None = None
-ordered_by (Some most) (Some number) = Some (Order (record { most = most; number = number }))
-
--- without `--schedule`: an order, by the words of `--preemptions` and `--order`, which go together; or the end
-abbrev pub order_named : Option (List ℕ) → Option (List ℕ) → Option Begin
-order_named None None = Some End
-order_named None (Some number) = None
-order_named (Some most) None = None
-order_named (Some most) (Some number) = ordered_by (number_up_to 3 (number_of most)) (number_up_to 1000000 (number_of number))
-
--- no order is named beside it
-abbrev pub without_order : Option (List ℕ) → Option (List ℕ) → Option Begin → Option Begin
-without_order None None begin = begin
-without_order None (Some number) begin = None
-without_order (Some most) number begin = None
-
--- Where the session begins, by the words of `--schedule`, `--seed`, `--preemptions` and `--order`. A seed goes with a schedule.
-abbrev pub begin_named : Option (List ℕ) → Option (List ℕ) → Option (List ℕ) → Option (List ℕ) → Option Begin
-begin_named None None most order = order_named most order
-begin_named None (Some seed) most order = None
-begin_named (Some number) seed most order =
-    without_order most order (drawn_by (number_up_to 1000000 (number_of number)) (seed_of seed))
+-- Where the session begins, by the words of `--schedule` and `--seed`. A seed goes with a schedule.
+abbrev pub begin_named : Option (List ℕ) → Option (List ℕ) → Option Begin
+begin_named None None = Some End
+begin_named None (Some seed) = None
+begin_named (Some number) seed = drawn_by (number_up_to 1000000 (number_of number)) (seed_of seed)
 
 -- an option without a value was given: the parser keeps the word `true` of it
 abbrev pub is_true : Option (List ℕ) → Bool
@@ -81,8 +62,7 @@ with_row false true None other = None
 abbrev pub begin_in : Found → Option Begin
 begin_in f =
     with_row (is_true (first_value f (codes "sweep"))) (is_true (first_value f (codes "faults"))) (first_value f (codes "row"))
-    (begin_named (first_value f (codes "schedule")) (first_value f (codes "seed")) (first_value f (codes "preemptions"))
-    (first_value f (codes "order")))
+    (begin_named (first_value f (codes "schedule")) (first_value f (codes "seed")))
 
 -- each option is what the value of its name says
 pub record ReadsOptions (f : Found) (o : DebugOptions) : Type 0 where

@@ -21,11 +21,7 @@ with_rows app =
 -- the options that say where a session begins
 abbrev pub with_begins : App → App
 with_begins app =
-    with_rows
-    (with_rule
-    (with_rule (with_rule (with_rule app (value_rule (codes "schedule") (Unsigned 1 1000000))) (option_rule (codes "seed")))
-    (value_rule (codes "preemptions") (Unsigned 1 3)))
-    (value_rule (codes "order") (Unsigned 1 1000000)))
+    with_rows (with_rule (with_rule app (value_rule (codes "schedule") (Unsigned 1 1000000))) (option_rule (codes "seed")))
 
 abbrev pub sbigdb : App
 sbigdb =

@@ -4,10 +4,10 @@ ghost use Rattle.std.specs.Prelude.{◌≡◌, IfSome};
 ghost use Rattle.std.specs.Option.{option_map};
 ghost use Rattle.script_lang.specs.Words.{number_of, seed_of};
 ghost use Rattle.sbigdb.specs.Limits.{IsBounded, IsUpTo};
-ghost use Rattle.sbigdb.specs.Reads.{begin_alone, begin_named, drawn_by, is_true, number_up_to, order_named, ordered_by, row_by, row_named, with_row, without_order};
+ghost use Rattle.sbigdb.specs.Reads.{begin_alone, begin_named, drawn_by, is_true, number_up_to, row_by, row_named, with_row};
 
-use crate::given::{Begin, OrderChoice, ScheduleChoice};
-use crate::help::{MOST_NUMBER, MOST_PREEMPTIONS};
+use crate::given::{Begin, ScheduleChoice};
+use crate::help::MOST_NUMBER;
 use script_lang::{number, seed_of};
 
 /// A number that a word spells, from 1 to `most`.
@@ -35,65 +35,15 @@ fn drawn(number: &str, seed: Option<&str>) -> Option<Begin>
     }
 }
 
-/// Where an order parts, by how many preemptions it has at most, and its number among those that differ.
-fn ordered(most: &str, number: &str) -> Option<Begin>
-    ensures value { result ≡ ordered_by (number_up_to 3 (number_of most.now)) (number_up_to 1000000 (number_of number.now)) }
-    ensures bounded { IfSome result IsBounded }
-{
-    match (
-        number_up_to(MOST_PREEMPTIONS, most),
-        number_up_to(MOST_NUMBER, number),
-    ) {
-        (Some(most), Some(number)) => Some(Begin::Order(OrderChoice { most, number })),
-        (_, _) => None,
-    }
-}
-
-/// Where the session begins without `--schedule`. None where a word is out of its range, or one of the two is missing.
-fn order_named(most: Option<&str>, order: Option<&str>) -> Option<Begin>
-    ensures value { result ≡ order_named (option_map (λ s. s.now) most.entry) (option_map (λ s. s.now) order.entry) }
-    ensures bounded { IfSome result IsBounded }
-{
-    match (most, order) {
-        (None, None) => Some(Begin::End),
-        (None, Some(_)) => None,
-        (Some(_), None) => None,
-        (Some(most), Some(order)) => ordered(most, order),
-    }
-}
-
-/// Where the session begins by `--schedule`. None where a word is out of its range, or an order is named too.
-fn schedule_named(
-    number: &str,
-    seed: Option<&str>,
-    most: Option<&str>,
-    order: Option<&str>,
-) -> Option<Begin>
-    ensures value { result ≡ without_order (option_map (λ s. s.now) most.entry) (option_map (λ s. s.now) order.entry)
-        (drawn_by (number_up_to 1000000 (number_of number.now)) (seed_of (option_map (λ s. s.now) seed.entry))) }
-    ensures bounded { IfSome result IsBounded }
-{
-    match (most, order) {
-        (None, None) => drawn(number, seed),
-        (_, _) => None,
-    }
-}
-
 /// Where the session begins, by the words of its options. None where a word is out of its range, or where they do not go
 /// together.
-pub(crate) fn begin_named(
-    schedule: Option<&str>,
-    seed: Option<&str>,
-    most: Option<&str>,
-    order: Option<&str>,
-) -> Option<Begin>
-    ensures value { result ≡ begin_named (option_map (λ s. s.now) schedule.entry) (option_map (λ s. s.now) seed.entry)
-        (option_map (λ s. s.now) most.entry) (option_map (λ s. s.now) order.entry) }
+pub(crate) fn begin_named(schedule: Option<&str>, seed: Option<&str>) -> Option<Begin>
+    ensures value { result ≡ begin_named (option_map (λ s. s.now) schedule.entry) (option_map (λ s. s.now) seed.entry) }
     ensures bounded { IfSome result IsBounded }
 {
     match (schedule, seed) {
-        (Some(number), _) => schedule_named(number, seed, most, order),
-        (None, None) => order_named(most, order),
+        (Some(number), _) => drawn(number, seed),
+        (None, None) => Some(Begin::End),
         (None, Some(_)) => None,
     }
 }

@@ -10,25 +10,19 @@ ghost use Rattle.script_lang.specs.Spellings.{script_text};
 ghost use Rattle.script_lang.specs.Views.{view};
 ghost use Rattle.script_lang.specs.declared.line.Line.{Line as SaidLine};
 ghost use Rattle.bench_orders.specs.Orders.{AreOrderOf, IsScheduleOf};
-ghost use Rattle.bench_schedules.specs.Numbers.{numbers_of};
-ghost use Rattle.sbigdb.specs.Limits.{IsBounded, IsUpTo};
-ghost use Rattle.sbigdb.specs.declared.given.Begin.TheVariants.{Order, Schedule};
-ghost use Rattle.sbigdb.specs.Begins.{BeginsAt, HasNone, IsDrawn, IsFound, IsRow, NoRow, PartsAt, both_turn, is_same_row, turns_of_both};
+ghost use Rattle.sbigdb.specs.declared.given.Begin.TheVariants.{Schedule};
+ghost use Rattle.sbigdb.specs.Begins.{BeginsAt, HasNone, IsRow, NoRow, PartsAt, both_turn, is_same_row, turns_of_both};
 ghost use Rattle.sbigdb.specs.Strikes.{StopsBefore};
 
-use crate::given::{Begin, OrderChoice, ScheduleChoice};
+use crate::given::{Begin, ScheduleChoice};
 use crate::strikes::before_strike;
-use bench_schedules::{Wanted, show, show_order};
+use bench_schedules::show;
 use bench_sweep::{BenchKind, WantedRow, show_row};
 use board::Payloads;
 use board_model::Refusal;
-use jobs::Jobs;
 use script_lang::{Line, Script, parse_script};
 use std::alloc::{AllocError, Global};
-use std::thread::{self, Threads};
-
-/// The most threads that run the orders of a script.
-const MOST_JOBS: usize = 64;
+use std::thread::Threads;
 
 /// Whether both lines are the same row of turns, or neither is one.
 fn is_same_row(one: &Line, other: &Line) -> bool
@@ -158,48 +152,12 @@ fn schedule_found<R: Threads + Sync>(
     script: &[u8],
     payloads: &Payloads,
 ) -> Result<Script, Refusal>
-    ensures found { IfOk result (λ found. (said : Said) × (script_of script.now ≡ Ok said) × IsScheduleOf said (view found)
-        × IsDrawn drawn said (view found)) }
+    ensures found { IfOk result (λ found. (said : Said) × (script_of script.now ≡ Ok said) × IsScheduleOf said (view found)) }
     ensures ranges { IfOk result (λ found. All (IsLineInRange found.shape) found.lines.items) }
     ensures refused { IfErr result (λ e. (e ≡ Memory) ⊎ (e ≡ Output) ⊎ (script_of script.now ≡ Err e)) }
 {
     let mut text = Vec::new(alloc);
     show::<R, Vec<u8>>(alloc, script, payloads, drawn.seed, drawn.number, &mut text)?;
-    read_back(alloc, &text)
-}
-
-/// How many threads run the orders of a script.
-fn jobs_of<R: Threads>(threads: &R) -> usize
-    ensures { 0 < result }
-{
-    match thread::available_parallelism(threads) {
-        Ok(count) => count.get().min(MOST_JOBS),
-        Err(_) => 1,
-    }
-}
-
-/// The order of a script that [`bench_schedules::show_order`] writes.
-fn order_found<R: Threads + Sync>(
-    threads: &R,
-    alloc: Global,
-    order: OrderChoice,
-    script: &[u8],
-    payloads: &Payloads,
-) -> Result<Script, Refusal>
-    requires bounded { IsUpTo 3 order.most × IsUpTo 1000000 order.number }
-    ensures found { IfOk result (λ found. (said : Said) × (script_of script.now ≡ Ok said) × IsScheduleOf said (view found)
-        × IsFound (Order order) said payloads.now (numbers_of script.now) (view found)) }
-    ensures ranges { IfOk result (λ found. All (IsLineInRange found.shape) found.lines.items) }
-    ensures refused { IfErr result (λ e. (e ≡ Memory) ⊎ (e ≡ Output) ⊎ (script_of script.now ≡ Err e)
-        ⊎ HasNone (Order order) script.now payloads.now e) }
-{
-    let jobs = Jobs::new(threads, jobs_of(threads));
-    let wanted = Wanted {
-        most: order.most,
-        number: order.number,
-    };
-    let mut text = Vec::new(alloc);
-    show_order(&jobs, alloc, script, payloads, wanted, &mut text)?;
     read_back(alloc, &text)
 }
 
@@ -221,26 +179,6 @@ fn schedule_to<R: Threads + Sync>(
     script_to(own, found)
 }
 
-/// A script up to where an order of it parts from it.
-fn order_to<R: Threads + Sync>(
-    threads: &R,
-    alloc: Global,
-    order: OrderChoice,
-    own: &Script,
-    script: &[u8],
-    payloads: &Payloads,
-) -> Result<Script, Refusal>
-    requires bounded { IsUpTo 3 order.most × IsUpTo 1000000 order.number }
-    requires read { script_of script.now ≡ Ok (view own.now) }
-    requires ranges { All (IsLineInRange own.now.shape) own.now.lines.items }
-    ensures begins { IfOk result (λ begun. BeginsAt (Order order) script.now payloads.now (view begun)) }
-    ensures ranges { IfOk result (λ begun. All (IsLineInRange begun.shape) begun.lines.items) }
-    ensures refused { IfErr result (λ e. (e ≡ Memory) ⊎ (e ≡ Output) ⊎ HasNone (Order order) script.now payloads.now e) }
-{
-    let found = order_found(threads, alloc, order, script, payloads)?;
-    script_to(own, found)
-}
-
 /// The script of a row that [`bench_sweep::show_row`] writes.
 fn row_found<R: Threads + Sync>(
     alloc: Global,
@@ -256,7 +194,7 @@ fn row_found<R: Threads + Sync>(
 {
     let mut text = Vec::new(alloc);
     let begins = payloads.copy()?;
-    show_row::<R, Vec<u8>>(alloc, wanted, script, None, begins, &mut text)?;
+    show_row::<R, Vec<u8>>(alloc, wanted, script, begins, &mut text)?;
     read_back(alloc, &text)
 }
 
@@ -281,17 +219,15 @@ fn row_to<R: Threads + Sync>(
 /// A script up to where the session begins: to its end; to where what a bench finds of it, with these payloads in the slots, parts from it;
 /// or to where what a row of a bench arms strikes.
 ///
-/// Refused `Memory`; `BadShape` where so many orders do not differ, the bench has no such row, or the order or the row has more lines than a
-/// script may have; and `NotPlain` where no bench runs the script.
+/// Refused `Memory`; `BadShape` where the bench has no such row, or the row has more lines than a script may have; and `NotPlain` where no
+/// bench runs the script.
 pub fn begun<R: Threads + Sync>(
-    threads: &R,
     alloc: Global,
     begin: Begin,
     own: Script,
     script: &[u8],
     payloads: &Payloads,
 ) -> Result<Script, Refusal>
-    requires bounded { IsBounded begin }
     requires read { script_of script.now ≡ Ok (view own) }
     requires ranges { All (IsLineInRange own.shape) own.lines.items }
     ensures begins { IfOk result (λ begun. BeginsAt begin script.now payloads.now (view begun)) }
@@ -301,7 +237,6 @@ pub fn begun<R: Threads + Sync>(
     match begin {
         Begin::End => Ok(own),
         Begin::Schedule(drawn) => schedule_to::<R>(alloc, drawn, &own, script, payloads),
-        Begin::Order(order) => order_to(threads, alloc, order, &own, script, payloads),
         Begin::Cut(number) => {
             let wanted = WantedRow {
                 bench: BenchKind::Cuts,

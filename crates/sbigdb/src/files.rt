@@ -3,7 +3,6 @@
 ghost use Rattle.std.specs.Prelude.{◌≡◌, ℕ, List, All, length, IfOk};
 ghost use Rattle.script_lang.specs.Lines.{IsLineInRange};
 ghost use Rattle.script_lang.specs.Views.{view};
-ghost use Rattle.sbigdb.specs.Limits.{IsBounded};
 ghost use Rattle.sbigdb.specs.Begins.{BeginsAt};
 
 use crate::begins::begun;
@@ -51,10 +50,8 @@ fn refused_begin(refusal: Refusal) -> FileFault {
 /// What the session begins with: the script up to there, and the payloads. The script is read first.
 pub fn start_read<R: Threads + Sync>(
     rt: &HostRuntime,
-    threads: &R,
     options: &DebugOptions,
 ) -> Result<Start, FileFault>
-    requires bounded { IsBounded options.now.begin }
     ensures ranges { IfOk result (λ start. All (IsLineInRange start.script.shape) start.script.lines.items) }
     ensures four { IfOk result (λ start. length start.payloads ≡ 4) }
     // It is the script of the file's bytes, up to where the options say.
@@ -64,8 +61,6 @@ pub fn start_read<R: Threads + Sync>(
     let bytes = script_bytes(rt, &options.script)?;
     let own = parse_script(alloc, &bytes).map_err(refused_script)?;
     let payloads = read_payloads(alloc, rt, &options.payloads)?;
-    let script = begun(threads, alloc, options.begin, own, &bytes, &payloads).map_err(
-        refused_begin,
-    )?;
+    let script = begun::<R>(alloc, options.begin, own, &bytes, &payloads).map_err(refused_begin)?;
     Ok(Start { script, payloads })
 }

@@ -11,15 +11,6 @@ pub struct ScheduleChoice {
     pub number: u64,
 }
 
-/// An order of the script's turns that differs (docs/SCRIPT.md, "Preemptions").
-#[derive(Clone, Copy, Drop)]
-pub struct OrderChoice {
-    /// How many preemptions an order has at most, 1 to 3.
-    pub most: u64,
-    /// Its number among the orders that differ, 1 to 1,000,000.
-    pub number: u64,
-}
-
 /// Where a session begins.
 #[derive(Clone, Copy, Drop)]
 pub enum Begin {
@@ -27,8 +18,6 @@ pub enum Begin {
     End,
     /// Where a schedule parts from it.
     Schedule(ScheduleChoice),
-    /// Where an order that differs parts from it.
-    Order(OrderChoice),
     /// Where the cut of that row of the power-cut bench strikes, 1 to 1,000,000 (docs/SCRIPT.md, "The benches").
     Cut(u64),
     /// Where the failure of that row of the fault bench strikes, 1 to 1,000,000.

@@ -13,8 +13,7 @@ use std::alloc::{AllocError, Global};
 
 /// How the program is called.
 pub const USAGE: &str =
-    "sbigdb SCRIPT [--schedule K | --preemptions K --order N | --sweep --row R | \
---faults --row R] [--p0 PATH .. --p3 PATH]";
+    "sbigdb SCRIPT [--schedule K | --sweep --row R | --faults --row R] [--p0 PATH .. --p3 PATH]";
 
 const ABOUT: &str = "\
 Debugs the modelled RISC-V board that a script leaves: speaks GDB's Remote Serial
@@ -27,11 +26,11 @@ and suspensions; nothing that it asks changes the board. `monitor LINE` runs a
 line of the script language, `monitor script` prints the session as a script that
 sbibench runs to the same reports, and `monitor help` tells the rest.
 
---schedule and --order take a script that sbibench found: the one that its
---schedules --show K, or --preemptions K --show N, writes. The session begins
-where the turns of that script part from those of SCRIPT. --row takes the one
-that its --sweep --show R, or --faults --show R, writes: the session begins
-before the line, or the turn, in which the cut or the failure strikes.";
+--schedule takes a script that sbibench found: the one that its --schedules
+--show K writes. The session begins where the turns of that script part from
+those of SCRIPT. --row takes the one that its --sweep --show R, or --faults
+--show R, writes: the session begins before the line, or the turn, in which the
+cut or the failure strikes.";
 
 const STATUS: &str = "\
 Status:
@@ -58,12 +57,6 @@ pub const SCHEDULE: &str = "schedule";
 /// What it is drawn from.
 pub const SEED: &str = "seed";
 
-/// How many preemptions an order has at most.
-pub const PREEMPTIONS: &str = "preemptions";
-
-/// An order that differs, by its number.
-pub const ORDER: &str = "order";
-
 /// The flag of the bench of power cuts.
 pub const SWEEP: &str = "sweep";
 
@@ -73,11 +66,8 @@ pub const FAULTS: &str = "faults";
 /// A row of one of them, by its number.
 pub const ROW: &str = "row";
 
-/// The highest number of a schedule, an order, or a row.
+/// The highest number of a schedule or a row.
 pub const MOST_NUMBER: u64 = 1_000_000;
-
-/// The most preemptions of an order.
-pub const MOST_PREEMPTIONS: u64 = 3;
 
 /// The most turns of a hart before the next one's: those of a line of a script.
 pub const MOST_QUANTUM: u64 = 1_000_000;
@@ -130,24 +120,11 @@ fn with_schedules<'a>(alloc: Global, command: Command<'a>) -> Result<Command<'a>
         .arg(option(alloc, SEED, "S", seed))
 }
 
-/// The command with the options that say by which order that differs a session begins.
-fn with_orders<'a>(alloc: Global, command: Command<'a>) -> Result<Command<'a>, AllocError>
-    ensures { IfOk result (λ c. app_of c ≡ with_rule (with_rule (app_of command.entry)
-        (value_rule (codes "preemptions") (Unsigned 1 3))) (value_rule (codes "order") (Unsigned 1 1000000))) }
-{
-    let preemptions = "With --order: orders with at most K preemptions, 1 to 3";
-    let order = "Begins where the N-th order that reports otherwise parts from the script";
-    command
-        .arg(count(alloc, PREEMPTIONS, MOST_PREEMPTIONS, "K", preemptions))?
-        .arg(count(alloc, ORDER, MOST_NUMBER, "N", order))
-}
-
 /// The command with the options that say where a session begins.
 fn with_begins<'a>(alloc: Global, command: Command<'a>) -> Result<Command<'a>, AllocError>
     ensures { IfOk result (λ c. app_of c ≡ with_begins (app_of command.entry)) }
 {
     let command = with_schedules(alloc, command)?;
-    let command = with_orders(alloc, command)?;
     with_rows(alloc, command)
 }
 

@@ -1,4 +1,4 @@
-//! `sbigdb SCRIPT [--schedule K | --preemptions K --order N | --sweep --row R | --faults --row R] [--p0 PATH ..]`: GDB's Remote
+//! `sbigdb SCRIPT [--schedule K | --sweep --row R | --faults --row R] [--p0 PATH ..]`: GDB's Remote
 //! Serial Protocol on standard input and output, over the board that the script leaves (docs/DEBUGGING.md). Status 0; 1 for a
 //! refusal or a file that could not be read; 2 for a fault of the command line.
 #![tactic(auto)]

@@ -11,8 +11,7 @@ ghost use Rattle.sbigdb.specs.Reads.{GivesNone, IsNamedBy, NamesNone, ReadsOptio
 use crate::begin_words::{begin_named, with_row};
 use crate::given::{Begin, DebugOptions};
 use crate::help::{
-    FAULTS, MOST, MOST_QUANTUM, MOST_TURNS, ORDER, PREEMPTIONS, QUANTUM, ROW, SCHEDULE, SCRIPT,
-    SEED, SWEEP, command,
+    FAULTS, MOST, MOST_QUANTUM, MOST_TURNS, QUANTUM, ROW, SCHEDULE, SCRIPT, SEED, SWEEP, command,
 };
 use clap::error::ErrorKind;
 use clap::{ArgMatches, Error};
@@ -23,8 +22,7 @@ use std::convert::AsStr;
 
 /// What is said of options that do not go together.
 const APART: &str =
-    "--order goes with --preemptions, --seed, a number below 2^64, with --schedule alone, and \
---row with --sweep or --faults alone";
+    "--seed, a number below 2^64, goes with --schedule alone, and --row with --sweep or --faults alone";
 
 /// A number that was given, 1 to `most`, in decimal digits.
 fn number(matches: &ArgMatches<'_>, id: &str, most: u64) -> Option<u32>
@@ -51,12 +49,7 @@ fn begin(matches: &ArgMatches<'_>) -> Option<Begin>
     ensures value { result ≡ begin_in (found_of matches.now) }
     ensures bounded { IfSome result IsBounded }
 {
-    let other = begin_named(
-        matches.get_str(SCHEDULE),
-        matches.get_str(SEED),
-        matches.get_str(PREEMPTIONS),
-        matches.get_str(ORDER),
-    );
+    let other = begin_named(matches.get_str(SCHEDULE), matches.get_str(SEED));
     with_row(
         matches.get_str(SWEEP),
         matches.get_str(FAULTS),

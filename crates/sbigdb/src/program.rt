@@ -1,11 +1,10 @@
 //! What the program does: its command line, its files, the talk, and its status (docs/DEBUGGING.md).
 
-ghost use Rattle.std.specs.Prelude.{◌≡◌, IfOk, Result};
+ghost use Rattle.std.specs.Prelude.{◌≡◌, Result};
 ghost use Rattle.std.specs.Process.{exit_status};
 ghost use Rattle.command_line.specs.Faults.{status_after};
 ghost use Rattle.command_line.specs.Told.{fault_of};
 ghost use Rattle.command_line.specs.declared.files.FileFault.{FileFault};
-ghost use Rattle.sbigdb.specs.Limits.{IsBounded};
 
 use crate::files::start_read;
 use crate::given::DebugOptions;
@@ -28,10 +27,8 @@ fn run_session<R: Threads + Wait + Sync>(
     rt: &HostRuntime,
     threads: &R,
     options: &DebugOptions,
-) -> Result<(), FileFault>
-    requires { IsBounded options.now.begin }
-{
-    let start = start_read(rt, threads, options)?;
+) -> Result<(), FileFault> {
+    let start = start_read::<R>(rt, options)?;
     let plan = SessionPlan {
         quantum: options.quantum,
         most: u64::from(options.most),
@@ -40,9 +37,7 @@ fn run_session<R: Threads + Wait + Sync>(
 }
 
 /// Reads the command line, and shows what it asks to be shown, or its fault.
-fn asked(rt: &HostRuntime) -> Result<DebugOptions, NoWork>
-    ensures { IfOk result (λ options. IsBounded options.begin) }
-{
+fn asked(rt: &HostRuntime) -> Result<DebugOptions, NoWork> {
     let words = words(rt, USAGE)?;
     options_of(rt.alloc(), words.as_slice()).map_err(|text| show(rt, &text))
 }

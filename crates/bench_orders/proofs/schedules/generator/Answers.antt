@@ -1,12 +1,12 @@
 use Rattle.std.proofs.Common.{◌≡◌, ◌∙◌, ℕ, List, ap, bit_xor}
-use Rattle.rand_core.specs.Steps.{stream_of}
+use Rattle.rand_core.specs.Steps.{steps_u64_high, stream_of}
 use Rattle.rand_core.specs.Stream.{Stream, next_u64}
 use Rattle.rand_xoshiro.specs.Xoshiro256.{plus_plus}
-use Rattle.bench_orders.specs.Drawn.{answers_from, seeded}
+use Rattle.bench_orders.specs.Drawn.{seeded}
 use Rattle.bench_orders.proofs.schedules.generator.Goals as goal
 
 -- the first word of a generator is that of its state
-first_word : (state : List ℕ) (word : ℕ) (left : Stream) → (word, left) ≡ next_u64 (answers_from state) → word ≡ (plus_plus state).0
+first_word : (state : List ℕ) (word : ℕ) (left : Stream) → (word, left) ≡ next_u64 (stream_of (steps_u64_high plus_plus) state) → word ≡ (plus_plus state).0
 unfolding next_u64 stream_of
 first_word state word left is = ap (λ (p : ℕ × Stream). p.0) is
 

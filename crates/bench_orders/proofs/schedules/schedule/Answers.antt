@@ -1,7 +1,3 @@
-use Rattle.std.proofs.Common.{arith}
-use Rattle.std.proofs.lemmas.Grind.{common_steps}
-use Rattle.bench_orders.specs.Drawn.{drawn_from}
-use Rattle.bench_orders.specs.Orders.{IsOrderFor}
 use Rattle.bench_orders.proofs.Parts.{part_added, part_few}
 use Rattle.std.proofs.lemmas.Result.{IfOk-from_err}
 use Rattle.bench_orders.proofs.schedules.schedule.Goals as goal
@@ -16,16 +12,8 @@ loop-rest-preserved g c =
       few = part_few made rest new c.in_ok-count.count c.more_for-more.result c.loop-rest.left c.loop-rest.invariant.few c.in_ok-count.ensures.taken.1 c.more_for-more.ensures c.in_ok-count.ensures.added;
     }
 
-pub returns-clause-drawn : goal.returns-clause-drawn
-returns-clause-drawn g c =
-    let order : IsOrderFor c.args.lines.now c.loop-rest.made.items = grind (arith, common_steps) in
-    drawn_from (g.R.Rng.stream c.args.rng.now) c.args.fronts.now c.args.lines.now c.loop-rest.made.items order
-
 pub returns-in_err-count-clause-order : goal.returns-in_err-count-clause-order
 returns-in_err-count-clause-order g c = IfOk-from_err c.from_residual.result _ c.from_residual.ensures.0
 
 pub returns-in_err-count-clause-few : goal.returns-in_err-count-clause-few
 returns-in_err-count-clause-few g c = IfOk-from_err c.from_residual.result _ c.from_residual.ensures.0
-
-pub returns-in_err-count-clause-drawn : goal.returns-in_err-count-clause-drawn
-returns-in_err-count-clause-drawn g c = IfOk-from_err c.from_residual.result _ c.from_residual.ensures.0

@@ -12,37 +12,37 @@ use Rattle.bench_program.proofs.streams.run_options.Goals as goal
 pub returns-clause-done : goal.returns-clause-done
 returns-clause-done g c =
     let options = c.args.options.now in
-    let given = c.in_ok-given.given in
+    let payloads = c.in_ok-payloads.payloads in
     let old = writer_contents (pipe_contents g.O.Write.contents) c.args.out.now in
     let now = writer_contents (pipe_contents g.O.Write.contents) c.run_work-done.new.out in
-    let D : Type 0 = IsWritten options given.payloads c.deref-2.result.now c.deref.result.now 0 old now in
+    let D : Type 0 = IsWritten options payloads c.deref-2.result.now 0 old now in
     let E : Type 0 = AreDone options (g.P.PayloadFiles.bytes_at c.args.files.now) (g.I.Read.remaining c.args.input) 0 old now in
     let F : Type 0 = writer_buffer c.run_work-done.new.out ≡ [] in
     done_of c.run_work-done.result D E F
-    (λ is. over options (g.P.PayloadFiles.bytes_at c.args.files.now) (g.I.Read.remaining c.args.input) given.payloads given.recovery.items c.in_ok-script.script.items _ _
-    c.deref.ensures.value c.deref-2.ensures.value c.in_ok-given.ensures.payloads c.in_ok-given.ensures.recovery c.in_ok-script.ensures.bytes 0 old now is) c.run_work-done.ensures.worked
+    (λ is. over options (g.P.PayloadFiles.bytes_at c.args.files.now) (g.I.Read.remaining c.args.input) payloads c.in_ok-script.script.items _
+    c.deref-2.ensures.value c.in_ok-payloads.ensures.read c.in_ok-script.ensures.bytes 0 old now is) c.run_work-done.ensures.worked
 
 pub returns-clause-wrong : goal.returns-clause-wrong
 returns-clause-wrong g c = λ is.
     let options = c.args.options.now in
-    let given = c.in_ok-given.given in
+    let payloads = c.in_ok-payloads.payloads in
     let old = writer_contents (pipe_contents g.O.Write.contents) c.args.out.now in
     let now = writer_contents (pipe_contents g.O.Write.contents) c.run_work-done.new.out in
-    let D : ℕ → Type 0 = λ n. IsWritten options given.payloads c.deref-2.result.now c.deref.result.now n old now in
+    let D : ℕ → Type 0 = λ n. IsWritten options payloads c.deref-2.result.now n old now in
     let E : ℕ → Type 0 = λ n. AreDone options (g.P.PayloadFiles.bytes_at c.args.files.now) (g.I.Read.remaining c.args.input) n old now in
     let F : Type 0 = writer_buffer c.run_work-done.new.out ≡ [] in
     wrong_of D E F
-    (λ n d. over options (g.P.PayloadFiles.bytes_at c.args.files.now) (g.I.Read.remaining c.args.input) given.payloads given.recovery.items c.in_ok-script.script.items _ _
-    c.deref.ensures.value c.deref-2.ensures.value c.in_ok-given.ensures.payloads c.in_ok-given.ensures.recovery c.in_ok-script.ensures.bytes n old now d) (c.run_work-done.ensures.wrong is)
+    (λ n d. over options (g.P.PayloadFiles.bytes_at c.args.files.now) (g.I.Read.remaining c.args.input) payloads c.in_ok-script.script.items _
+    c.deref-2.ensures.value c.in_ok-payloads.ensures.read c.in_ok-script.ensures.bytes n old now d) (c.run_work-done.ensures.wrong is)
 
 pub returns-clause-faults : goal.returns-clause-faults
 returns-clause-faults g c =
     let options = c.args.options.now in
-    let given = c.in_ok-given.given in
+    let payloads = c.in_ok-payloads.payloads in
     let gone = is_closed_pipe (writer_inner c.run_work-done.new.out) in
-    let P : BenchFault → Type 0 = λ fault. IsFaultIn options.work given.payloads c.deref-2.result.now c.deref.result.now gone fault in
+    let P : BenchFault → Type 0 = λ fault. IsFaultIn options.work payloads c.deref-2.result.now gone fault in
     let Q : BenchFault → Type 0 = λ fault. IsUnread options fault ⊎ (fault ≡ Refused Memory)
     ⊎ IsFaultOf options (g.P.PayloadFiles.bytes_at c.args.files.now) (g.I.Read.remaining c.args.input) gone fault in
     IfErr-weaker c.run_work-done.result P Q
-    (λ fault is. inr (inr (fault_over options (g.P.PayloadFiles.bytes_at c.args.files.now) (g.I.Read.remaining c.args.input) given.payloads given.recovery.items c.in_ok-script.script.items _ _
-    c.deref.ensures.value c.deref-2.ensures.value c.in_ok-given.ensures.payloads c.in_ok-given.ensures.recovery c.in_ok-script.ensures.bytes gone fault is))) c.run_work-done.ensures.faults
+    (λ fault is. inr (inr (fault_over options (g.P.PayloadFiles.bytes_at c.args.files.now) (g.I.Read.remaining c.args.input) payloads c.in_ok-script.script.items _
+    c.deref-2.ensures.value c.in_ok-payloads.ensures.read c.in_ok-script.ensures.bytes gone fault is))) c.run_work-done.ensures.faults

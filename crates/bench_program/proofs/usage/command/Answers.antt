@@ -2,7 +2,7 @@ use Rattle.std.proofs.Common.{◌∙◌, ap, ap₂}
 use Rattle.std.proofs.lemmas.Result.{IfOk-weaker}
 use Rattle.clap.specs.Words.{with_rule}
 use Rattle.command_line.specs.Options.{with_payloads}
-use Rattle.bench_program.specs.Usage.{with_manners, with_preemptions, with_schedules}
+use Rattle.bench_program.specs.Usage.{with_manners, with_schedules}
 use Rattle.bench_program.proofs.usage.command.Goals as goal
 
 pub returns : goal.returns
@@ -12,9 +12,7 @@ returns c =
     let one = c.in_ok-arg-2.ensures.shape c.crew.ensures.local ∙ ap₂ with_rule named c.crew.ensures.rule.1 in
     let two = c.in_ok-arg-3.ensures.shape c.flag.ensures.local ∙ ap₂ with_rule one c.flag.ensures.rule in
     let three = c.in_ok-arg-4.ensures.shape c.flag-2.ensures.local ∙ ap₂ with_rule two c.flag-2.ensures.rule in
-    let jobs = c.in_ok-arg-5.ensures.shape c.jobs.ensures.local ∙ ap₂ with_rule three c.jobs.ensures.rule in
-    let recover = c.in_ok-command.ensures.shape c.path.ensures.local ∙ ap₂ with_rule jobs c.path.ensures.rule in
-    let four = c.in_ok-command-2.ensures ∙ ap with_schedules recover in
-    let five = c.in_ok-command-3.ensures ∙ ap with_preemptions four in
-    let six = c.in_ok-command-4.ensures ∙ ap with_manners five in
-    IfOk-weaker c.with_payloads.result _ _ (λ r h. (crews, h ∙ ap with_payloads six)) c.with_payloads.ensures
+    let jobs = c.in_ok-command.ensures.shape c.jobs.ensures.local ∙ ap₂ with_rule three c.jobs.ensures.rule in
+    let four = c.in_ok-command-2.ensures ∙ ap with_schedules jobs in
+    let five = c.in_ok-command-3.ensures ∙ ap with_manners four in
+    IfOk-weaker c.with_payloads.result _ _ (λ r h. (crews, h ∙ ap with_payloads five)) c.with_payloads.ensures

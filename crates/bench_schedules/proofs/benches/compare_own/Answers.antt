@@ -3,7 +3,7 @@ use Rattle.std.specs.Io.KnownBytes.{Appends}
 use Rattle.jobs.specs.Parts.{begin_of}
 use Rattle.script_lang.specs.Scripts.{Script}
 use Rattle.bench_schedules.specs.Numbers.{place_of_other}
-use Rattle.bench_schedules.specs.Schedules.{Source, Wrote, count_text, own_count}
+use Rattle.bench_schedules.specs.Schedules.{Wrote, count_text, own_count}
 use Rattle.bench_schedules.proofs.benches.compare_own.Goals as goal
 
 pub returns-clause-wrote : goal.returns-clause-wrote
@@ -16,19 +16,17 @@ returns-clause-wrote g c =
     let within = c.of_part-within.result in
     let differ = c.in_ok-differ.differ in
     let said : Script = record { size = runner.setting.shape.now; lines = runner.lines.now } in
-    let source : Source = record { seed = runner.seed; fronts = own.stretches.fronts.items } in
     let number : ℕ → ℕ = λ place. slice_index_or runner.numbers.now (1 + place_of_other place runner.lines.now) 0 in
     let first = g.W.Write.contents c.write_own_tight.new.out in
     let last = g.W.Write.contents c.run_schedules.new.out in
-    let F : ℕ → Type 0 = λ from. Wrote said runner.payloads.now source number own.answers.items (1 + from) (within.to - from) first last differ in
-    let T : ℕ → Type 0 = λ to. Wrote said runner.payloads.now source number own.answers.items (1 + begin_of part n) (to - begin_of part n) first last differ in
+    let F : ℕ → Type 0 = λ from. Wrote said runner.payloads.now number own.answers.items (1 + from) (within.to - from) first last differ in
+    let T : ℕ → Type 0 = λ to. Wrote said runner.payloads.now number own.answers.items (1 + begin_of part n) (to - begin_of part n) first last differ in
     let E : ℕ → Type 0 = λ runs. Appends last (g.W.Write.contents c.write_count.new.out) (count_text part runs differ) in
     let count : within.to - within.from ≡ own_count part n = ap₂ (λ (to from : ℕ). to - from) c.of_part-within.ensures.to c.of_part-within.ensures.from in (
       count,
       record {
         own = own.answers.items;
         ran = c.requires.own;
-        fronts = own.stretches.fronts.items;
         tight = tight.0;
         first = first;
         begun = tight.1;

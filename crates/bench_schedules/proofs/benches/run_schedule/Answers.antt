@@ -3,7 +3,7 @@ use Rattle.std.proofs.lemmas.Result.{IfOk-weaker}
 use Rattle.script_lang.specs.Lines.{IsLineInRange}
 use Rattle.script_lang.specs.declared.line.Line.{Line}
 use Rattle.report_lines.specs.declared.printed.Answer.{Answer}
-use Rattle.bench_schedules.specs.Schedules.{RanLike, Source}
+use Rattle.bench_schedules.specs.Schedules.{RanLike}
 use Rattle.bench_schedules.proofs.Lines.{ran_of}
 use Rattle.bench_schedules.proofs.benches.run_schedule.Goals as goal
 
@@ -16,7 +16,6 @@ run_until-requires-clause-ranges g c = λ lives within.
 pub returns-clause-ran : goal.returns-clause-ran
 returns-clause-ran g c =
     let own = c.args.own.now in
-    let from : Source = record { seed = c.args.runner.now.seed; fronts = own.stretches.fronts.items } in
     let size = c.args.runner.now.setting.shape.now in
     let start = c.args.runner.now.payloads.now in
     let drawable = c.requires.drawable in
@@ -24,6 +23,6 @@ returns-clause-ran g c =
     (λ differs ran.
     (let P : List Line → Type 0 = λ ls. RanLike size start ls own.answers.items differs in
     let Q : List Answer → Type 0 = λ said. RanLike size start c.deref.result.now said differs in
-    ran_of size start from c.args.runner.now.lines.now c.in_ok-lines.lines.items own.answers.items c.args.k differs drawable.sized c.in_ok-lines.ensures.drawn c.in_ok-lines.ensures.order c.in_ok-lines.ensures.few drawable.ranges drawable.fits
+    ran_of size start c.args.runner.now.lines.now c.in_ok-lines.lines.items own.answers.items differs drawable.sized c.in_ok-lines.ensures.order c.in_ok-lines.ensures.few drawable.ranges drawable.fits
     (subst P c.deref.ensures.value (subst Q c.deref-2.ensures.value ran))))
     c.run_until.ensures.ran

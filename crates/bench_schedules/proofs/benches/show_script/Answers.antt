@@ -5,5 +5,5 @@ use Rattle.bench_schedules.proofs.benches.show_script.Goals as goal
 
 pub returns-clause-shown : goal.returns-clause-shown
 returns-clause-shown g c =
-    let S : List Line → Type 0 = λ ls. OnOk c.show_lines.result (Shown (record { size = c.args.script.now.shape; lines = ls }) c.args.seed c.args.k (g.W.Write.contents c.args.out.now) (g.W.Write.contents c.show_lines.new.out)) in
+    let S : List Line → Type 0 = λ ls. OnOk c.show_lines.result (Shown (record { size = c.args.script.now.shape; lines = ls }) (g.W.Write.contents c.args.out.now) (g.W.Write.contents c.show_lines.new.out)) in
     subst S c.as_slice.ensures.value c.show_lines.ensures.shown

@@ -1,5 +1,6 @@
-use Rattle.std.proofs.Common.{refl}
+use Rattle.std.proofs.lemmas.Result.{on_ok_weaker}
 use Rattle.bench_sweep.proofs.follows.record_answered.Goals as goal
 
-pub returns-in_ok-record_line-in-Ok-clause-kept : goal.returns-in_ok-record_line-in-Ok-clause-kept
-returns-in_ok-record_line-in-Ok-clause-kept c = rw c.in-Ok.is (refl, c.in_ok-enough_memory-in-Ok.ensures.enough, c.in_ok-record_line-in-Ok.ensures.kept)
+pub returns-in_ok-enough_memory-in-Ok-clause-kept : goal.returns-in_ok-enough_memory-in-Ok-clause-kept
+returns-in_ok-enough_memory-in-Ok-clause-kept c =
+    on_ok_weaker c.record_line.result (λ kept. rw c.in-Ok.is (c.in_ok-enough_memory-in-Ok.ensures.enough, kept)) c.record_line.ensures.kept

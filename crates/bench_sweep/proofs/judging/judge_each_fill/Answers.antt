@@ -26,20 +26,11 @@ returns-clause-judged g c = λ b r.
     (judged_as _ _ _ _ (ap (λ (k : ℕ). map (λ (fill : Fill). cell c.args.point.caller c.args.point.number (Some fill)) (take k (Byte 0 ∷ Byte 255 ∷ Alternating ∷ Old ∷ []))) all) (c.loop-fill.invariant b r))
     (c.in_ok-judge_last.ensures.kept b r)
 
-pub judge_last-requires-clause-lines : goal.judge_last-requires-clause-lines
-judge_last-requires-clause-lines g c κs within = c.requires.lines
-
 pub judge_last-requires-clause-sits : goal.judge_last-requires-clause-sits
 judge_last-requires-clause-sits g c κs within = c.requires.sits
 
-pub judge_run-requires-clause-lines : goal.judge_run-requires-clause-lines
-judge_run-requires-clause-lines g c κs within = c.requires.lines
-
 pub judge_run-requires-clause-sits : goal.judge_run-requires-clause-sits
 judge_run-requires-clause-sits g c κs within = c.requires.sits
-
-pub judge_settled-requires-clause-lines : goal.judge_settled-requires-clause-lines
-judge_settled-requires-clause-lines g c κs within = c.requires.lines
 
 pub judge_settled-requires-clause-sits : goal.judge_settled-requires-clause-sits
 judge_settled-requires-clause-sits g c κs within = c.requires.sits

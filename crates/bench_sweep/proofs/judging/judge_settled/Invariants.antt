@@ -2,7 +2,6 @@ use Rattle.std.proofs.Common.{map, take, Some}
 use Rattle.bench_report.specs.Bench.{Bench}
 use Rattle.simdisk.specs.declared.fill.Fill.{Fill}
 use Rattle.bench_sweep.specs.Reports.{Judged, IsLeftBy}
-use Rattle.bench_sweep.specs.Recovers.{compared}
 use Rattle.bench_sweep.specs.Runs.{RunsAt}
 use Rattle.bench_sweep.specs.Swept.{cell}
 use Rattle.bench_sweep.proofs.judging.judge_settled.Given as goal
@@ -11,4 +10,4 @@ use Rattle.bench_sweep.proofs.judging.judge_settled.Given as goal
 abbrev pub invariant-loop-fill : goal.invariant-loop-fill
 invariant-loop-fill g l =
     (b : Bench) → RunsAt l.runner.setting.shape.now b l.fn.site
-    → Judged (IsLeftBy l.runner.setting.shape.now b l.fn.site.off.disk (compared l.runner.recovery)) l.made (map (λ (fill : Fill). cell l.point.caller l.point.number (Some fill)) (take l.fill-index l.fill-items))
+    → Judged (IsLeftBy l.runner.setting.shape.now b l.fn.site.off.disk) l.made (map (λ (fill : Fill). cell l.point.caller l.point.number (Some fill)) (take l.fill-index l.fill-items))

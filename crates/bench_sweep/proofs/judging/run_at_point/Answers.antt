@@ -1,5 +1,4 @@
 use Rattle.std.proofs.lemmas.Result.{IfOk-weaker}
-use Rattle.bench_sweep.specs.Recovers.{compared}
 use Rattle.bench_sweep.proofs.Made.{over_all}
 use Rattle.bench_sweep.proofs.Reported.{swept_take}
 use Rattle.bench_sweep.proofs.Rowed.{judged_weaker}
@@ -11,7 +10,7 @@ run_to_cut-requires-clause-lines g c κs within = swept_take c.args.runner.now.s
 pub returns-in-Cuts-clause-judged : goal.returns-in-Cuts-clause-judged
 returns-in-Cuts-clause-judged g c = rw c.in-Cuts.is (
     IfOk-weaker c.run_to_cut.result _ _ (λ rows did b l.
-    judged_weaker _ _ rows _ (over_all c.args.runner.now.setting.shape.now c.args.point.before b c.args.runner.now.lines.now c.args.count c.requires.few (compared c.args.runner.now.recovery)) (did b l))
+    judged_weaker _ _ rows _ (over_all c.args.runner.now.setting.shape.now c.args.point.before b c.args.runner.now.lines.now c.args.count c.requires.few) (did b l))
     c.run_to_cut.ensures.judged)
 
 pub returns-in-Fails-clause-judged : goal.returns-in-Fails-clause-judged

@@ -2,9 +2,8 @@ use Rattle.std.proofs.Common.{◌≡◌, [], arith, length}
 use Rattle.bench_sweep.specs.declared.points.BenchKind.TheVariants.{Fails}
 use Rattle.bench_sweep.specs.Points.{fault_at}
 use Rattle.bench_report.specs.Happens.{armed_with, off}
-use Rattle.bench_sweep.specs.Recovers.{compared}
 use Rattle.bench_sweep.proofs.Left.{unstruck}
-use Rattle.bench_sweep.proofs.Made.{past_failure}
+use Rattle.bench_sweep.proofs.Made.{runs_with}
 use Rattle.bench_sweep.proofs.Rowed.{judged_none, judged_more, judged_at}
 use Rattle.std.proofs.lemmas.Result.{IfOk-from_err}
 use Rattle.board_model.proofs.Exits.{err_exit}
@@ -36,11 +35,8 @@ returns-clause-judged g c = λ b l.
     let all : c.in_ok-went.went.count ≡ length lines = omega (arith, c.in_ok-went.ensures.few, c.in_ok-left.ensures.whole) in
     let none = c.none-made.ensures in
     judged_at Fails c.args.point.caller c.args.point.number _ _ _
-    (λ row caller number is. past_failure size c.args.point b lines c.in_ok-went.went.count _ _ _ _ all ran left.0 left.1 left.2 (compared c.args.runner.now.recovery) row caller number is.is)
+    (λ row caller number is. runs_with size Fails c.args.point b lines c.in_ok-went.went.count _ _ _ _ c.in_ok-went.ensures.few ran (all, left.0, left.1, left.2) c.in_ok-left.left.off.disk row caller number is)
     (judged_more _ _ _ [] _ (judged_none _ _ none.rows none.runs none.right) (c.in_ok-judge_last.ensures.kept (off ran.bench) left.3))
-
-pub judge_last-requires-clause-lines : goal.judge_last-requires-clause-lines
-judge_last-requires-clause-lines g c κs within = c.requires.recovery
 
 pub returns-in_err-judge_last-clause-judged : goal.returns-in_err-judge_last-clause-judged
 returns-in_err-judge_last-clause-judged g c = IfOk-from_err c.from_residual-in_err-judge_last.result _ c.from_residual-in_err-judge_last.ensures.0

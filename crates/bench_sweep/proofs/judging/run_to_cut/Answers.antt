@@ -2,9 +2,8 @@ use Rattle.std.proofs.lemmas.Result.{IfOk-weaker}
 use Rattle.bench_sweep.specs.declared.points.BenchKind.TheVariants.{Cuts}
 use Rattle.bench_sweep.specs.Points.{fault_at}
 use Rattle.bench_report.specs.Happens.{armed_with, off}
-use Rattle.bench_sweep.specs.Recovers.{compared}
 use Rattle.bench_sweep.proofs.Left.{unstruck}
-use Rattle.bench_sweep.proofs.Made.{to_cut}
+use Rattle.bench_sweep.proofs.Made.{runs_with}
 use Rattle.bench_sweep.proofs.Rowed.{judged_at}
 use Rattle.bench_sweep.proofs.judging.run_to_cut.Goals as goal
 
@@ -31,6 +30,6 @@ returns-clause-judged g c = IfOk-weaker c.judge_each_fill.result _ _ (λ rows di
     let ran = c.in_ok-went.ensures.ran (armed_with (fault_at Cuts c.args.point.caller c.args.point.call) b) calm in
     let left = c.in_ok-left.ensures.runs size ran.bench ran.runs in
     judged_at Cuts c.args.point.caller c.args.point.number _ _ rows
-    (λ row caller number is. to_cut size c.args.point b lines c.in_ok-went.went.count _ _ _ _ c.in_ok-went.ensures.few ran left.0 left.1 (compared c.args.runner.now.recovery) row caller number is.is)
+    (λ row caller number is. runs_with size Cuts c.args.point b lines c.in_ok-went.went.count _ _ _ _ c.in_ok-went.ensures.few ran (left.0, left.1) c.in_ok-left.left.off.disk row caller number is)
     (did (off ran.bench) left.2)))
     c.judge_each_fill.ensures.judged

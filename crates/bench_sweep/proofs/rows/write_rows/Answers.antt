@@ -1,4 +1,4 @@
-use Rattle.std.proofs.Common.{List, ℕ, subst, arith}
+use Rattle.std.proofs.Common.{List, ℕ, false, subst, arith}
 use Rattle.std.specs.Io.KnownBytes.{Appends}
 use Rattle.board_model.proofs.Written.{appended, unwritten}
 use Rattle.std.proofs.lemmas.List.{take_all}
@@ -12,11 +12,11 @@ loop-row-init g c = unwritten _
 
 pub loop-row-preserved : goal.loop-row-preserved
 loop-row-preserved g c =
-    let A : List ℕ → Type 0 = λ text. Appends (g.W.Write.contents c.args.out.now) (g.W.Write.contents c.write_shown.new.out) text in
-    subst A (rows_one_more c.args.quiet c.args.rows.now c.loop-row.row-index c.row-item.result c.row-item.result c.loop-row-test.true c.row-item.is)
-    (appended _ _ _ _ _ c.loop-row.invariant c.in_ok-write_shown.ensures.ok)
+    let A : List ℕ → Type 0 = λ text. Appends (g.W.Write.contents c.args.out.now) (g.W.Write.contents c.write_row.new.out) text in
+    subst A (rows_one_more c.args.rows.now c.loop-row.row-index c.row-item.result c.row-item.result c.loop-row-test.true c.row-item.is)
+    (appended _ _ _ _ _ c.loop-row.invariant c.in_ok-write_row.ensures.ok)
 
 pub returns-clause-ok : goal.returns-clause-ok
 returns-clause-ok g c =
-    let A : List Row → Type 0 = λ rows. Appends (g.W.Write.contents c.args.out.now) (g.W.Write.contents c.loop-row.out) (rows_text c.args.quiet rows) in
+    let A : List Row → Type 0 = λ rows. Appends (g.W.Write.contents c.args.out.now) (g.W.Write.contents c.loop-row.out) (rows_text false rows) in
     subst A (take_all c.loop-row.row-index c.args.rows.now (omega (arith, c.loop-row-test.false))) c.loop-row.invariant

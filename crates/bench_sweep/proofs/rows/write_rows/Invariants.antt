@@ -1,8 +1,8 @@
-use Rattle.std.proofs.Common.{take}
+use Rattle.std.proofs.Common.{false, take}
 use Rattle.std.specs.Io.KnownBytes.{Appends}
 use Rattle.bench_sweep.specs.Swept.{rows_text}
 use Rattle.bench_sweep.proofs.rows.write_rows.Given as goal
 
 -- the rows so far are written
 abbrev pub invariant-loop-row : goal.invariant-loop-row
-invariant-loop-row g l = Appends (g.W.Write.contents l.fn.out) (g.W.Write.contents l.out) (rows_text l.quiet (take l.row-index l.rows))
+invariant-loop-row g l = Appends (g.W.Write.contents l.fn.out) (g.W.Write.contents l.out) (rows_text false (take l.row-index l.rows))

@@ -1,8 +1,7 @@
 use Rattle.std.proofs.Common.{◌≡◌, ℕ, List, ◌++◌, ◌∷◌, [], ◌+◌, take, sym, subst, arith}
 use Rattle.std.proofs.lemmas.List.{take_more}
 use Rattle.std.specs.List.{AllZip}
-use Rattle.bench_sweep.specs.Points.{MadeCalls}
-use Rattle.bench_sweep.specs.Swept.{callers}
+use Rattle.bench_sweep.specs.Points.{callers, MadeCalls}
 use Rattle.bench_sweep.specs.declared.points.Caller.{Caller}
 use Rattle.bench_sweep.specs.declared.points.Caller.TheVariants.{Disk}
 use Rattle.bench_sweep.proofs.Made.{zip_more}

@@ -1,6 +1,6 @@
 use Rattle.std.proofs.Common.{◌≡◌, ◌+◌, ◌*◌, ◌∙◌, ℕ, take, ap, sym, refl, arith}
 use Rattle.bench_sweep.specs.Shown.{runs_each}
-use Rattle.bench_sweep.specs.Swept.{total}
+use Rattle.bench_sweep.proofs.Written.{total}
 use Rattle.bench_sweep.specs.declared.points.Caller.TheVariants.{Disk}
 use Rattle.bench_sweep.proofs.Nth.{fewer_runs, nth_run}
 use Rattle.bench_sweep.proofs.shown.run_of_number.Goals as goal

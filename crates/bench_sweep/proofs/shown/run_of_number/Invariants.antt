@@ -1,5 +1,5 @@
 use Rattle.std.proofs.Common.{◌≡◌, ◌+◌, take}
-use Rattle.bench_sweep.specs.Swept.{total}
+use Rattle.bench_sweep.proofs.Written.{total}
 use Rattle.bench_sweep.proofs.shown.run_of_number.Given as goal
 
 -- so many points stand before those of this caller

@@ -7,9 +7,6 @@ returns-in_err-add_lines c = IfOk-from_err c.from_residual.result _ c.from_resid
 pub returns-in_err-add_lines-2 : goal.returns-in_err-add_lines-2
 returns-in_err-add_lines-2 c = IfOk-from_err c.from_residual-in_err-add_lines-2.result _ c.from_residual-in_err-add_lines-2.ensures.0
 
-pub returns-in_err-add_lines-3 : goal.returns-in_err-add_lines-3
-returns-in_err-add_lines-3 c = IfOk-from_err c.from_residual-in_err-add_lines-3.result _ c.from_residual-in_err-add_lines-3.ensures.0
-
 pub returns-in_err-push : goal.returns-in_err-push
 returns-in_err-push c = IfOk-from_err c.from_residual-in_err-push.result _ c.from_residual-in_err-push.ensures.0
 

@@ -13,13 +13,13 @@ write_shown-requires-clause-back g c = All-take (IsLineInRange c.args.runner.now
 
 pub returns-clause-shown : goal.returns-clause-shown
 returns-clause-shown g c = on_ok_weaker c.write_shown.result (λ wrote b r.
-    shows_from c.args.runner.now.setting.shape.now c.args.site.now.off.disk (unpowered b) c.args.front.now c.args.runner.now.lines.now c.args.behind.now c.args.number c.in_ok-count.count (run_cell c.in_ok-run.run') c.in_ok-arming.arming _ _
+    shows_from c.args.runner.now.setting.shape.now c.args.site.now.off.disk (unpowered b) c.args.front.now c.args.runner.now.lines.now c.args.number c.in_ok-count.count (run_cell c.in_ok-run.run') c.in_ok-arming.arming _ _
     (c.in_ok-run.ensures.found b r) (c.in_ok-count.ensures.armed b r) c.in_ok-arming.ensures.arms.0 wrote)
     c.write_shown.ensures.wrote
 
 pub returns-clause-refused : goal.returns-clause-refused
 returns-clause-refused g c = refused_so c.write_shown.result (λ long b r.
-    shows_none c.args.runner.now.setting.shape.now c.args.site.now.off.disk (unpowered b) c.args.front.now c.args.runner.now.lines.now c.args.behind.now c.args.number c.in_ok-count.count (run_cell c.in_ok-run.run') c.in_ok-arming.arming
+    shows_none c.args.runner.now.setting.shape.now c.args.site.now.off.disk (unpowered b) c.args.front.now c.args.runner.now.lines.now c.args.number c.in_ok-count.count (run_cell c.in_ok-run.run') c.in_ok-arming.arming
     (c.in_ok-run.ensures.found b r) (c.in_ok-count.ensures.armed b r) c.in_ok-arming.ensures.arms.0 long)
     c.write_shown.ensures.refused
 

@@ -29,8 +29,8 @@ returns-clause-shown g c = on_ok_weaker c.show_from.result (λ did.
     let begin = c.in_ok-begin.begin in
     let site = c.in_ok-begin.site in
     let lines = c.args.lines.now in
-    let S : List Line → Type 0 = λ ls. ShowsFrom c.args.wanted.bench c.args.setting.now.shape.now site.off.disk (unpowered begun.0) (take begin lines) ls c.args.behind.now c.args.wanted.number (g.W.Write.contents c.args.out.now) (g.W.Write.contents c.show_from.new.out) in
-    record { begin = begin; first = begun.0; format = begun.1; origin = site.off.disk; stands = (Off site.off, begun.2.agrees, refl); shows = subst S (rest_is begin lines) (did (off begun.0) begun.2) }))
+    let S : List Line → Type 0 = λ ls. ShowsFrom c.args.wanted.bench c.args.setting.now.shape.now site.off.disk (unpowered begun.0) (take begin lines) ls c.args.wanted.number (g.W.Write.contents c.args.out.now) (g.W.Write.contents c.show_from.new.out) in
+    record { begin = begin; first = begun.0; origin = site.off.disk; begins = record { format = begun.1; stands = (Off site.off, begun.2.agrees, refl) }; shows = subst S (rest_is begin lines) (did (off begun.0) begun.2) }))
     c.show_from.ensures.shown
 
 pub returns-clause-refused : goal.returns-clause-refused
@@ -39,8 +39,8 @@ returns-clause-refused g c = refused_so c.show_from.result (λ did.
     let begin = c.in_ok-begin.begin in
     let site = c.in_ok-begin.site in
     let lines = c.args.lines.now in
-    let S : List Line → Type 0 = λ ls. ShowsNone c.args.wanted.bench c.args.setting.now.shape.now site.off.disk (unpowered begun.0) (take begin lines) ls c.args.behind.now c.args.wanted.number in
-    record { begin = begin; first = begun.0; format = begun.1; origin = site.off.disk; stands = (Off site.off, begun.2.agrees, refl); none = subst S (rest_is begin lines) (did (off begun.0) begun.2) }))
+    let S : List Line → Type 0 = λ ls. ShowsNone c.args.wanted.bench c.args.setting.now.shape.now site.off.disk (unpowered begun.0) (take begin lines) ls c.args.wanted.number in
+    record { begin = begin; first = begun.0; origin = site.off.disk; begins = record { format = begun.1; stands = (Off site.off, begun.2.agrees, refl) }; none = subst S (rest_is begin lines) (did (off begun.0) begun.2) }))
     c.show_from.ensures.refused
 
 pub returns-in_err-begin-clause-refused : goal.returns-in_err-begin-clause-refused
@@ -48,6 +48,3 @@ returns-in_err-begin-clause-refused g c = err_exit _ c.from_residual.result c.in
 
 pub returns-in_err-begin-clause-shown : goal.returns-in_err-begin-clause-shown
 returns-in_err-begin-clause-shown g c = IfOk-from_err c.from_residual.result _ c.from_residual.ensures.0
-
-pub show_from-requires-clause-behind : goal.show_from-requires-clause-behind
-show_from-requires-clause-behind g c κs within = c.requires.behind

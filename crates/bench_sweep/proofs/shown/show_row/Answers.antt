@@ -1,34 +1,19 @@
-use Rattle.std.proofs.Common.{List, inl, inr, ⊎_elim, subst, sym, refl}
+use Rattle.std.proofs.Common.{inl, inr, ⊎_elim, refl}
 use Rattle.std.proofs.lemmas.Result.{on_ok_weaker, IfOk-from_err}
 use Rattle.script_lang.specs.Views.{view}
-use Rattle.script_lang.specs.declared.line.Line.{Line}
-use Rattle.bench_sweep.specs.Shown.{IsBehind}
 use Rattle.bench_sweep.proofs.Scripts.{swept, unswept, no_fault, fault_told, memory_told}
 use Rattle.bench_sweep.proofs.ShownRows.{refused_row}
 use Rattle.board_model.proofs.Exits.{err_exit, err_is}
 use Rattle.bench_sweep.proofs.shown.show_row.Goals as goal
 
-pub returns-in_err-behind-clause-plain : goal.returns-in_err-behind-clause-plain
-returns-in_err-behind-clause-plain g c = λ said is none. swept c.args.script.now (view c.in_ok-script.script) said c.deref.result.now c.in_ok-script.ensures.value is c.deref.ensures.value c.in_ok-check_plain.ensures.runs none
-
 pub returns-clause-plain : goal.returns-clause-plain
 returns-clause-plain g c = λ said is none. swept c.args.script.now (view c.in_ok-script.script) said c.deref.result.now c.in_ok-script.ensures.value is c.deref.ensures.value c.in_ok-check_plain.ensures.runs none
 
 pub returns-clause-shown : goal.returns-clause-shown
-returns-clause-shown g c =
-    let script = view c.in_ok-script.script in
-    let B : List Line → Type 0 = λ ls. IsBehind script.size c.args.recovery ls in
-    on_ok_weaker c.show_plain_script.result
-    (λ did. (script, c.deref-2.result.now, c.in_ok-script.ensures.value, subst B (sym c.deref-2.ensures.value) c.in_ok-behind.ensures.behind, did))
-    c.show_plain_script.ensures.shown
+returns-clause-shown g c = on_ok_weaker c.show_plain_script.result (λ did. (view c.in_ok-script.script, c.in_ok-script.ensures.value, did)) c.show_plain_script.ensures.shown
 
 pub returns-clause-refused : goal.returns-clause-refused
-returns-clause-refused g c =
-    let script = view c.in_ok-script.script in
-    let B : List Line → Type 0 = λ ls. IsBehind script.size c.args.recovery ls in
-    refused_row _ _ _ c.show_plain_script.result
-    (λ none. (script, c.deref-2.result.now, c.in_ok-script.ensures.value, subst B (sym c.deref-2.ensures.value) c.in_ok-behind.ensures.behind, none))
-    c.show_plain_script.ensures.refused
+returns-clause-refused g c = refused_row _ _ c.show_plain_script.result (λ none. (view c.in_ok-script.script, c.in_ok-script.ensures.value, none)) c.show_plain_script.ensures.refused
 
 pub returns-in_err-script-clause-refused : goal.returns-in_err-script-clause-refused
 returns-in_err-script-clause-refused g c = err_exit _ c.from_residual.result c.in_err-script.field-0.0 c.from_residual.ensures.1 (⊎_elim (λ memory. inl memory) (λ told. inr (inr (inl told))) c.in_err-script.ensures.value)
@@ -37,10 +22,6 @@ pub returns-in_err-check_plain-clause-refused : goal.returns-in_err-check_plain-
 returns-in_err-check_plain-clause-refused g c =
     let why = c.in_err-check_plain.ensures.refused in
     err_exit _ c.from_residual-in_err-check_plain.result c.in_err-check_plain.field-0.0 c.from_residual-in_err-check_plain.ensures.1 (inr (inr (inr (inl (why.0, unswept c.args.script.now (view c.in_ok-script.script) c.deref.result.now c.in_ok-script.ensures.value c.deref.ensures.value why.1)))))
-
-pub returns-in_err-behind-clause-refused : goal.returns-in_err-behind-clause-refused
-returns-in_err-behind-clause-refused g c =
-    err_exit _ c.from_residual-in_err-behind.result c.in_err-behind.field-0.0 c.from_residual-in_err-behind.ensures.1 (⊎_elim (λ memory. inl memory) (λ none. inr (inr (inr (inr (inl (view c.in_ok-script.script, c.in_ok-script.ensures.value, none)))))) c.in_err-behind.ensures.refused)
 
 pub returns-in_err-script-clause-nothing : goal.returns-in_err-script-clause-nothing
 returns-in_err-script-clause-nothing g c = λ e fault. (refl, fault_told c.args.script.now c.from_residual.result _ e c.from_residual.ensures.1 c.in_err-script.ensures.value fault)
@@ -60,23 +41,14 @@ returns-clause-nothing g c = λ e fault. no_fault c.args.script.now (view c.in_o
 pub returns-in_err-check_plain-clause-nothing : goal.returns-in_err-check_plain-clause-nothing
 returns-in_err-check_plain-clause-nothing g c = λ e fault. no_fault c.args.script.now (view c.in_ok-script.script) e c.in_ok-script.ensures.value fault
 
-pub returns-in_err-behind-clause-nothing : goal.returns-in_err-behind-clause-nothing
-returns-in_err-behind-clause-nothing g c = λ e fault. no_fault c.args.script.now (view c.in_ok-script.script) e c.in_ok-script.ensures.value fault
-
 pub returns-in_err-script-clause-none : goal.returns-in_err-script-clause-none
 returns-in_err-script-clause-none g c = λ is. refl
 
 pub returns-in_err-check_plain-clause-none : goal.returns-in_err-check_plain-clause-none
 returns-in_err-check_plain-clause-none g c = λ is. refl
 
-pub returns-in_err-behind-clause-none : goal.returns-in_err-behind-clause-none
-returns-in_err-behind-clause-none g c = λ is. refl
-
 pub returns-in_err-script-clause-shown : goal.returns-in_err-script-clause-shown
 returns-in_err-script-clause-shown g c = IfOk-from_err c.from_residual.result _ c.from_residual.ensures.0
 
 pub returns-in_err-check_plain-clause-shown : goal.returns-in_err-check_plain-clause-shown
 returns-in_err-check_plain-clause-shown g c = IfOk-from_err c.from_residual-in_err-check_plain.result _ c.from_residual-in_err-check_plain.ensures.0
-
-pub returns-in_err-behind-clause-shown : goal.returns-in_err-behind-clause-shown
-returns-in_err-behind-clause-shown g c = IfOk-from_err c.from_residual-in_err-behind.result _ c.from_residual-in_err-behind.ensures.0

@@ -18,7 +18,7 @@ returns-clause-wrote g c =
     let few : length xs ≤ 65535 = first_of (grind (arith, nat_tests, same, c.len.ensures, c.if-len-gt-MOST_LINES.false), omega (arith, same, c.len.ensures, c.if-len-gt-MOST_LINES.false)) in
     on_ok_weaker c.write_script.result
     (wrote_script size xs _ (g.W.Write.contents c.args.out.now) (g.W.Write.contents c.write_script.new.out) c.shape_in_range.ensures is few
-    (row_in_range size row.bench row.front.now row.back.now row.behind.now row.arming c.requires.front c.requires.arming c.requires.back c.requires.behind)
+    (row_in_range size row.bench row.front.now row.back.now row.arming c.requires.front c.requires.arming c.requires.back)
     (subst F (c.deref.ensures.value ∙ sym c.deref-2.ensures.value) c.fits.ensures) c.scripts_read_as_written.ensures)
     c.write_script.ensures.ok
 

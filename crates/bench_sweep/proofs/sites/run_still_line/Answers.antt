@@ -1,5 +1,7 @@
-use Rattle.bench_sweep.proofs.Left.{says_moves}
+use Rattle.bench_sweep.proofs.Left.{answered_runs}
 use Rattle.bench_sweep.proofs.sites.run_still_line.Goals as goal
 
-pub returns-clause-runs : goal.returns-clause-runs
-returns-clause-runs g c = λ b r. says_moves _ _ b _ _ _ c.args.ledger.now _ c.requires.no_boot c.say_still_line.ensures.resumed (c.in_ok-power.ensures.says b r)
+pub returns-in-Ok-clause-runs : goal.returns-in-Ok-clause-runs
+returns-in-Ok-clause-runs g c = λ b r.
+    answered_runs c.args.setting.now.shape.now c.args.line.now b c.args.power c.line_alone-power.result.0 c.args.payloads.now c.line_alone-power.new.payloads c.line_alone-power.result.1 c.args.ledger.now c.record_answered.new.ledger c.requires.plain c.requires.of_none c.requires.no_boot c.record_answered.ensures.resumed r
+    (c.line_alone-power.ensures.reported b (r.agrees, r.same, r.calm)) c.in-Ok.ensures.kept

@@ -1,12 +1,11 @@
-use Rattle.std.proofs.Common.{◌≡◌, ℕ, List, [], ◌∷◌, ◌++◌, take, refl, sym, subst, arith}
+use Rattle.std.proofs.Common.{◌≡◌, ◌∙◌, ℕ, List, [], ◌∷◌, ◌++◌, take, refl, sym, subst, arith}
 use Rattle.std.proofs.lemmas.List.{take_more}
 use Rattle.std.specs.List.{AllZip}
-use Rattle.bench_sweep.specs.Points.{MadeCalls}
+use Rattle.bench_sweep.specs.Points.{callers, MadeCalls}
 use Rattle.bench_sweep.specs.declared.points.Caller.{Caller}
 use Rattle.bench_sweep.specs.declared.points.Caller.TheVariants.{Disk}
-use Rattle.bench_sweep.specs.Swept.{callers}
-use Rattle.bench_sweep.proofs.Made.{zip_more}
-use Rattle.bench_sweep.proofs.Written.{total_more}
+use Rattle.bench_sweep.proofs.Made.{zip_long, zip_more}
+use Rattle.bench_sweep.proofs.Written.{all_long, total_more}
 use Rattle.bench_sweep.proofs.sweeps.calls_of_all.Goals as goal
 
 pub loop-caller-init : goal.loop-caller-init
@@ -27,4 +26,5 @@ returns-clause-calls c =
     let w = c.loop-caller.invariant in
     let all : c.loop-caller.caller-index ≡ 5 = omega arith in
     let Z : ℕ → Type 0 = λ k. AllZip (MadeCalls c.args.from.now.off.disk c.args.to.now.off.disk) (take k callers) w.0 in
-    (w.0, subst Z all w.1, w.2)
+    let zip = subst Z all w.1 in
+    (w.0, zip, w.2 ∙ sym (all_long callers w.0 (sym (zip_long (MadeCalls c.args.from.now.off.disk c.args.to.now.off.disk) callers w.0 zip))))

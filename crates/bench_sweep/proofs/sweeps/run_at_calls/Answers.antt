@@ -1,6 +1,5 @@
 use Rattle.std.proofs.Common.{◌≡◌, ◌∙◌, ◌+◌, ◌-◌, ◌≤◌, ◌<◌, ℕ, List, [], ap, subst, sym, arith, min, inl}
 use Rattle.std.proofs.lemmas.Result.{on_ok_weaker, IfOk-from_err}
-use Rattle.bench_sweep.specs.Recovers.{compared}
 use Rattle.bench_sweep.specs.Reports.{IsOfCall, TakesPoint}
 use Rattle.bench_sweep.specs.Swept.{Spot, points_from}
 use Rattle.jobs.specs.Parts.{chunk_from, window}
@@ -17,7 +16,6 @@ hand_on_all-requires-clause-has g c κs within = λ i less. (
       record {
         few = c.requires.few;
         swept = c.requires.lines;
-        recovery = c.requires.recovery;
         sits = c.requires.sits;
         begins = let B : ℕ → Type 0 = λ k. chunk_from c.min-from.result c.chunk_size-each.result k < c.min-to.result in subst B (sym first) (c.chunks-chunks.ensures.some i less);
         room = omega (arith, c.requires.numbers, c.min-to.ensures);
@@ -37,9 +35,9 @@ returns-clause-wrote g c = on_ok_weaker c.hand_on_all.result (λ chunks b r.
     let is : at c.min-from.result c.min-to.result ≡ window within.from within.to (points_from calls.caller (calls.made + 1) calls.count) =
     ap (λ (k : ℕ). at k c.min-to.result) c.min-from.ensures ∙ ap (at (min within.from calls.count)) c.min-to.ensures ∙ window_of_calls calls.caller calls.made calls.count within.from within.to within.order c.requires.numbers in
     let order : c.min-from.result ≤ c.min-to.result = omega (arith, c.min-from.ensures, c.min-to.ensures, within.order) in
-    let handed = chunks_handed (λ (made : _). made.whole) (λ (made : _). made.rows.items) (IsOfCall size runner.bench calls.caller calls.made runner.lines.now (compared runner.recovery) site) (TakesPoint contents) c.min-from.result c.min-to.result c.chunk_size-each.result c.chunks-chunks.result c.args.report.now _ order c.chunks-chunks.ensures.cover chunks in
+    let handed = chunks_handed (λ (made : _). made.whole) (λ (made : _). made.rows.items) (IsOfCall size runner.bench calls.caller calls.made runner.lines.now site) (TakesPoint contents) c.min-from.result c.min-to.result c.chunk_size-each.result c.chunks-chunks.result c.args.report.now _ order c.chunks-chunks.ensures.cover chunks in
     reports_as _ _ _ _ _ _ _ is
-    (all_points contents size runner.bench calls.caller calls.made _ runner.lines.now (compared runner.recovery) site b r _ _ _ (omega (arith, c.requires.numbers, c.min-from.ensures, c.min-to.ensures, within.order)) handed)))
+    (all_points contents size runner.bench calls.caller calls.made _ runner.lines.now site b r _ _ _ (omega (arith, c.requires.numbers, c.min-from.ensures, c.min-to.ensures, within.order)) handed)))
     c.hand_on_all.ensures.handed
 
 pub returns-then-from-to-clause-wrote : goal.returns-then-from-to-clause-wrote

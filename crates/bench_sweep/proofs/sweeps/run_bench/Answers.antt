@@ -1,24 +1,15 @@
 use Rattle.std.proofs.Common.{inr, inl, ⊎_elim, refl}
-use Rattle.std.proofs.lemmas.Result.{IfOk-from_err}
+use Rattle.std.proofs.lemmas.Result.{IfErr-weaker, IfOk-from_err, IfOk-weaker}
 use Rattle.script_lang.specs.Views.{view}
 use Rattle.bench_sweep.proofs.Scripts.{swept, unswept, no_fault, fault_told, memory_told}
-use Rattle.bench_sweep.proofs.Written.{wrote_all}
 use Rattle.board_model.proofs.Exits.{err_exit, err_is}
 use Rattle.bench_sweep.proofs.sweeps.run_bench.Goals as goal
 
 pub returns-clause-plain : goal.returns-clause-plain
 returns-clause-plain g c = λ said is none. swept c.args.script.now (view c.in_ok-script.script) said c.deref.result.now c.in_ok-script.ensures.value is c.deref.ensures.value c.in_ok-check_plain.ensures.runs none
 
-pub returns-in_err-done-clause-plain : goal.returns-in_err-done-clause-plain
-returns-in_err-done-clause-plain g c = λ said is none. swept c.args.script.now (view c.in_ok-script.script) said c.deref.result.now c.in_ok-script.ensures.value is c.deref.ensures.value c.in_ok-check_plain.ensures.runs none
-
-pub returns-in_err-write_sweep-clause-plain : goal.returns-in_err-write_sweep-clause-plain
-returns-in_err-write_sweep-clause-plain g c = λ said is none. swept c.args.script.now (view c.in_ok-script.script) said c.deref.result.now c.in_ok-script.ensures.value is c.deref.ensures.value c.in_ok-check_plain.ensures.runs none
-
 pub returns-clause-wrote : goal.returns-clause-wrote
-returns-clause-wrote g c =
-    let script = c.in_ok-script.script in
-    (view script, c.in_ok-script.ensures.value, wrote_all c.args.plan script.shape c.args.payloads script.lines.items _ _ _ c.in_ok-done.done c.in_ok-done.ensures.wrote c.in_ok-write_sweep.ensures.ok)
+returns-clause-wrote g c = IfOk-weaker c.sweep_plain_script.result _ _ (λ sweep did. (view c.in_ok-script.script, c.in_ok-script.ensures.value, did)) c.sweep_plain_script.ensures.wrote
 
 pub returns-in_err-script-clause-refused : goal.returns-in_err-script-clause-refused
 returns-in_err-script-clause-refused g c = err_exit _ c.from_residual.result c.in_err-script.field-0.0 c.from_residual.ensures.1 (⊎_elim (λ memory. inl memory) (λ told. inr (inr (inl told))) c.in_err-script.ensures.value)
@@ -28,14 +19,8 @@ returns-in_err-check_plain-clause-refused g c =
     let why = c.in_err-check_plain.ensures.refused in
     err_exit _ c.from_residual-in_err-check_plain.result c.in_err-check_plain.field-0.0 c.from_residual-in_err-check_plain.ensures.1 (inr (inr (inr (why.0, unswept c.args.script.now (view c.in_ok-script.script) c.deref.result.now c.in_ok-script.ensures.value c.deref.ensures.value why.1))))
 
-pub returns-in_err-done-clause-refused : goal.returns-in_err-done-clause-refused
-returns-in_err-done-clause-refused g c = err_exit _ c.from_residual-in_err-done.result c.in_err-done.field-0.0 c.from_residual-in_err-done.ensures.1 (⊎_elim (λ memory. inl memory) (λ output. inr (inl output)) c.in_err-done.ensures.refused)
-
-pub returns-in_err-write_sweep-clause-refused : goal.returns-in_err-write_sweep-clause-refused
-returns-in_err-write_sweep-clause-refused g c = err_exit _ c.from_residual-in_err-write_sweep.result c.in_err-write_sweep.field-0.0 c.from_residual-in_err-write_sweep.ensures.1 (⊎_elim (λ memory. inl memory) (λ output. inr (inl output)) c.in_err-write_sweep.ensures.err)
-
 pub returns-clause-refused : goal.returns-clause-refused
-returns-clause-refused g c = tt
+returns-clause-refused g c = IfErr-weaker c.sweep_plain_script.result _ _ (λ e. ⊎_elim (λ memory. inl memory) (λ output. inr (inl output))) c.sweep_plain_script.ensures.refused
 
 pub returns-in_err-script-clause-nothing : goal.returns-in_err-script-clause-nothing
 returns-in_err-script-clause-nothing g c = λ e fault. (refl, fault_told c.args.script.now c.from_residual.result _ e c.from_residual.ensures.1 c.in_err-script.ensures.value fault)
@@ -52,20 +37,8 @@ returns-clause-nothing g c = λ e fault. no_fault c.args.script.now (view c.in_o
 pub returns-in_err-check_plain-clause-nothing : goal.returns-in_err-check_plain-clause-nothing
 returns-in_err-check_plain-clause-nothing g c = λ e fault. no_fault c.args.script.now (view c.in_ok-script.script) e c.in_ok-script.ensures.value fault
 
-pub returns-in_err-done-clause-nothing : goal.returns-in_err-done-clause-nothing
-returns-in_err-done-clause-nothing g c = λ e fault. no_fault c.args.script.now (view c.in_ok-script.script) e c.in_ok-script.ensures.value fault
-
-pub returns-in_err-write_sweep-clause-nothing : goal.returns-in_err-write_sweep-clause-nothing
-returns-in_err-write_sweep-clause-nothing g c = λ e fault. no_fault c.args.script.now (view c.in_ok-script.script) e c.in_ok-script.ensures.value fault
-
 pub returns-in_err-script-clause-wrote : goal.returns-in_err-script-clause-wrote
 returns-in_err-script-clause-wrote g c = IfOk-from_err c.from_residual.result _ c.from_residual.ensures.0
 
 pub returns-in_err-check_plain-clause-wrote : goal.returns-in_err-check_plain-clause-wrote
 returns-in_err-check_plain-clause-wrote g c = IfOk-from_err c.from_residual-in_err-check_plain.result _ c.from_residual-in_err-check_plain.ensures.0
-
-pub returns-in_err-done-clause-wrote : goal.returns-in_err-done-clause-wrote
-returns-in_err-done-clause-wrote g c = IfOk-from_err c.from_residual-in_err-done.result _ c.from_residual-in_err-done.ensures.0
-
-pub returns-in_err-write_sweep-clause-wrote : goal.returns-in_err-write_sweep-clause-wrote
-returns-in_err-write_sweep-clause-wrote g c = IfOk-from_err c.from_residual-in_err-write_sweep.result _ c.from_residual-in_err-write_sweep.ensures.0

@@ -1,15 +1,15 @@
 use Rattle.std.proofs.Common.{◌≡◌, ◌∙◌, ℕ, List, [], ◌∷◌, ◌++◌, take, length, refl, sym, ap, subst, arith, inl}
 use Rattle.std.proofs.lemmas.List.{take_more, length-take-le}
 use Rattle.std.specs.List.{AllZip}
-use Rattle.bench_sweep.specs.Points.{MadeCalls}
+use Rattle.bench_sweep.specs.Points.{callers, MadeCalls}
 use Rattle.bench_sweep.specs.declared.points.Caller.{Caller}
 use Rattle.bench_sweep.specs.declared.points.Caller.TheVariants.{Disk}
-use Rattle.bench_sweep.specs.Swept.{callers, all_points, total}
+use Rattle.bench_sweep.specs.Swept.{all_points}
 use Rattle.jobs.specs.Parts.{window, begin_of, end_of}
 use Rattle.jobs.proofs.Pieces.{window_none, window_at, own_is}
 use Rattle.bench_sweep.proofs.Made.{zip_long, zip_more, zip_same}
 use Rattle.bench_sweep.proofs.Reported.{reports_none, reports_more, reports_as}
-use Rattle.bench_sweep.proofs.Written.{next_caller, total_more, all_long}
+use Rattle.bench_sweep.proofs.Written.{next_caller, total_more}
 use Rattle.board_model.proofs.Exits.{err_exit}
 use Rattle.std.proofs.lemmas.Result.{IfOk-from_err}
 use Rattle.bench_sweep.proofs.sweeps.sweep_all_callers.Goals as goal
@@ -43,14 +43,13 @@ returns-clause-wrote g c = λ b r.
     let zip = subst Z all w.1 in
     let made = c.in_ok-all.ensures.calls in
     let counts : w.0 ≡ made.0 = zip_same c.args.site.now.off.disk c.args.end.now.off.disk callers w.0 made.0 zip made.1 in
-    let made_calls : Caller → ℕ → Type 0 = λ who n. MadeCalls c.args.site.now.off.disk c.args.end.now.off.disk who n in
-    let long : length callers ≡ length w.0 = sym (zip_long made_calls callers w.0 zip) in
-    let many : c.in_ok-all.all ≡ length (all_points callers w.0) = made.2 ∙ ap total (sym counts) ∙ sym (all_long callers w.0 long) in
+    let many : c.in_ok-all.all ≡ length (all_points callers w.0) = made.2 ∙ ap (λ (ns : List ℕ). length (all_points callers ns)) (sym counts) in
     let part = c.args.part in
     let from : c.of_part-within.result.from ≡ begin_of part (length (all_points callers w.0)) = c.of_part-within.ensures.from ∙ ap (begin_of part) many in
     let to : c.of_part-within.result.to ≡ end_of part (length (all_points callers w.0)) = c.of_part-within.ensures.to ∙ ap (end_of part) many in (
       w.0,
       zip,
+      many,
       reports_as _ _ _ _ _ _ _
           (ap (λ (k : ℕ). window c.of_part-within.result.from c.of_part-within.result.to (all_points (take k callers) w.0)) all
           ∙ window_at _ _ _ _ (all_points callers w.0) from to ∙ sym (own_is part (all_points callers w.0)))
@@ -86,9 +85,6 @@ returns-then-made-calls-clause-wrote g c = tt
 
 pub sweep_caller-requires-clause-lines : goal.sweep_caller-requires-clause-lines
 sweep_caller-requires-clause-lines g c κs within = c.requires.lines
-
-pub sweep_caller-requires-clause-recovery : goal.sweep_caller-requires-clause-recovery
-sweep_caller-requires-clause-recovery g c κs within = c.requires.recovery
 
 pub sweep_caller-requires-clause-sits : goal.sweep_caller-requires-clause-sits
 sweep_caller-requires-clause-sits g c κs within = c.requires.sits

@@ -3,10 +3,11 @@ use Rattle.std.specs.List.{AllZip}
 use Rattle.bench_report.specs.Bench.{Bench}
 use Rattle.bench_report.specs.Happens.{unpowered}
 use Rattle.bench_sweep.specs.Points.{MadeCalls}
-use Rattle.bench_sweep.specs.Reports.{Reports, IsRow}
-use Rattle.bench_sweep.specs.Recovers.{compared}
+use Rattle.bench_sweep.specs.Made.{IsRunOf}
+use Rattle.bench_sweep.specs.Reports.{Reports}
 use Rattle.bench_sweep.specs.Runs.{RunsAt}
-use Rattle.bench_sweep.specs.Swept.{all_points, total}
+use Rattle.bench_sweep.specs.Swept.{all_points}
+use Rattle.bench_sweep.proofs.Written.{total}
 use Rattle.jobs.specs.Parts.{window}
 use Rattle.bench_sweep.proofs.sweeps.sweep_all_callers.Given as goal
 
@@ -16,5 +17,5 @@ invariant-loop-caller g l =
     (b : Bench) → RunsAt l.runner.setting.shape.now b l.site
     → (counts : List ℕ) × AllZip (MadeCalls l.site.off.disk l.end.off.disk) (take l.caller-index l.caller-items) counts
     × (l.within.from ≡ l.initial.within.from - total counts) × (l.within.to ≡ l.initial.within.to - total counts)
-    × Reports g.W.Write.contents l.runner.bench (IsRow l.runner.setting.shape.now l.runner.bench l.site.off.disk (unpowered b) l.runner.lines.now (compared l.runner.recovery)) l.fn.report l.report
+    × Reports g.W.Write.contents l.runner.bench (IsRunOf l.runner.setting.shape.now l.runner.bench l.site.off.disk (unpowered b) l.runner.lines.now) l.fn.report l.report
     (window l.initial.within.from l.initial.within.to (all_points (take l.caller-index l.caller-items) counts))

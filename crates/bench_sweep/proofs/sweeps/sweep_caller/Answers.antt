@@ -1,6 +1,5 @@
 use Rattle.std.proofs.Common.{arith, sym, inl}
 use Rattle.bench_report.specs.Happens.{unpowered}
-use Rattle.bench_sweep.specs.Recovers.{compared}
 use Rattle.bench_sweep.proofs.Left.{off_sits}
 use Rattle.bench_sweep.proofs.Made.{none_yet, sits_at, went_more, rest_is, row_of, took_on}
 use Rattle.bench_sweep.proofs.Reported.{reports_none, reports_more, reports_as, reports_weaker, swept_take, swept_drop, stays_within}
@@ -55,7 +54,7 @@ loop-from-preserved g c =
       wrote = λ b r.
           (let f = sits_at size (unpowered b) lines from _ c.loop-from-test.true (i.lives b r) in
           reports_as _ _ _ _ _ _ _ (next_window c.args.caller c.args.within.from c.args.within.to made calls _ _ c.args.within.order i.from i.to (omega (arith, i.counts, did.ensures.calls, did.ensures.below)))
-          (reports_more _ _ _ _ _ _ _ _ (i.wrote b r) (reports_weaker _ _ _ _ _ _ _ (row_of size kind c.args.caller made c.args.begin.now.off.disk (unpowered b) lines _ from c.loop-from.site rest f i.took i.counts (compared c.args.runner.now.recovery)) (did.ensures.wrote f.bench f.site))));
+          (reports_more _ _ _ _ _ _ _ _ (i.wrote b r) (reports_weaker _ _ _ _ _ _ _ (row_of size kind c.args.caller made c.args.begin.now.off.disk (unpowered b) lines _ from c.loop-from.site rest f i.took i.counts) (did.ensures.wrote f.bench f.site))));
       from = omega (arith, i.from, c.behind-left.ensures.from);
       to = omega (arith, i.to, c.behind-left.ensures.to);
     }
@@ -68,6 +67,3 @@ returns-in_err-site-clause-refused g c = err_exit _ c.from_residual.result c.in_
 
 pub returns-in_err-site-clause-wrote : goal.returns-in_err-site-clause-wrote
 returns-in_err-site-clause-wrote g c = IfOk-from_err c.from_residual.result _ c.from_residual.ensures.0
-
-pub sweep_stretch-requires-clause-recovery : goal.sweep_stretch-requires-clause-recovery
-sweep_stretch-requires-clause-recovery g c κs within = c.requires.recovery

@@ -2,8 +2,8 @@ use Rattle.std.proofs.Common.{◌≡◌, ◌≤◌, ◌+◌, ◌-◌, length, ta
 use Rattle.bench_report.specs.Bench.{Bench}
 use Rattle.bench_report.specs.Happens.{unpowered}
 use Rattle.bench_sweep.specs.Points.{calls_of}
-use Rattle.bench_sweep.specs.Reports.{Reports, IsRow}
-use Rattle.bench_sweep.specs.Recovers.{compared}
+use Rattle.bench_sweep.specs.Made.{IsRunOf}
+use Rattle.bench_sweep.specs.Reports.{Reports}
 use Rattle.bench_sweep.specs.Runs.{RunsAt, Sits}
 use Rattle.bench_sweep.specs.Swept.{points_from}
 use Rattle.bench_sweep.specs.Took.{RunTook}
@@ -20,7 +20,7 @@ invariant-loop-from g l = record {
   counts : calls_of l.caller l.site.off.disk ≡ calls_of l.caller l.begin.off.disk + l.made;
   lives : (b : Bench) → RunsAt l.runner.setting.shape.now b l.begin → Went l.runner.setting.shape.now (unpowered b) l.runner.lines.now l.from l.site;
   wrote : (b : Bench) → RunsAt l.runner.setting.shape.now b l.begin
-      → Reports g.W.Write.contents l.runner.bench (IsRow l.runner.setting.shape.now l.runner.bench l.begin.off.disk (unpowered b) l.runner.lines.now (compared l.runner.recovery)) l.fn.report l.report (window l.fn.within.from l.fn.within.to (points_from l.caller 1 l.made));
+      → Reports g.W.Write.contents l.runner.bench (IsRunOf l.runner.setting.shape.now l.runner.bench l.begin.off.disk (unpowered b) l.runner.lines.now) l.fn.report l.report (window l.fn.within.from l.fn.within.to (points_from l.caller 1 l.made));
   from : l.left.from ≡ l.fn.within.from - l.made;
   to : l.left.to ≡ l.fn.within.to - l.made;
 }

@@ -91,9 +91,6 @@ returns-in_err-count-clause-wrote g c = IfOk-from_err c.from_residual.result _ c
 pub run_at_calls-requires-clause-lines : goal.run_at_calls-requires-clause-lines
 run_at_calls-requires-clause-lines g c κs within = c.requires.lines
 
-pub run_at_calls-requires-clause-recovery : goal.run_at_calls-requires-clause-recovery
-run_at_calls-requires-clause-recovery g c κs within = c.requires.recovery
-
 pub run_at_calls-requires-clause-sits : goal.run_at_calls-requires-clause-sits
 run_at_calls-requires-clause-sits g c κs within = c.requires.sits
 

@@ -13,6 +13,21 @@ parts-init g c = record {
   resting = omega (arith, c.requires.rested);
 }
 
+pub returns-then-is_line-clause-went : goal.returns-then-is_line-clause-went
+returns-then-is_line-clause-went g c = left_went (λ h. slice_index_or c.args.round.harts h false ≡ true) c.parts.round.left c.args.round.left c.args.setting.now.shape.now c.args.timeline.now c.parts.timeline c.parts.invariant.went
+
+pub returns-then-is_line-clause-first : goal.returns-then-is_line-clause-first
+returns-then-is_line-clause-first g c = other_halt c.args.setting.now.shape.now c.args.stops.now c.args.first c.args.first _ c.args.timeline.now c.parts.timeline refl c.parts.invariant.first
+
+pub returns-then-is_line-clause-there : goal.returns-then-is_line-clause-there
+returns-then-is_line-clause-there g c = c.requires.first
+
+pub returns-then-is_line-clause-refused : goal.returns-then-is_line-clause-refused
+returns-then-is_line-clause-refused g c = tt
+
+pub round_part-requires-clause-most : goal.round_part-requires-clause-most
+round_part-requires-clause-most g c κs within = (omega (arith, c.in-Some.ensures.most.0, c.in-Some.ensures.left), c.in-Some.ensures.most.1)
+
 pub returns-then-harts-round-clause-went : goal.returns-then-harts-round-clause-went
 returns-then-harts-round-clause-went g c = left_went (λ h. slice_index_or c.args.round.harts h false ≡ true) c.parts.round.left c.args.round.left c.args.setting.now.shape.now c.args.timeline.now c.parts.timeline c.parts.invariant.went
 
@@ -20,17 +35,17 @@ pub returns-in-Some-2-clause-went : goal.returns-in-Some-2-clause-went
 returns-in-Some-2-clause-went g c =
     let size = c.args.setting.now.shape.now in
     let May : ℕ → Type 0 = λ h. slice_index_or c.args.round.harts h false ≡ true in
-    let may : May c.in-Some.hart = ap (λ (hs : List Bool). slice_index_or hs c.in-Some.hart false) (sym c.parts.invariant.harts) ∙ c.in-Some.ensures.hart.1 in
-    left_went May c.round_part.new.round.left c.args.round.left size c.args.timeline.now c.round_part.new.timeline (part_more May c.in-Some.hart c.parts.round.left c.next.new.self.left c.round_part.new.round.left c.args.round.left size c.args.timeline.now c.parts.timeline c.round_part.new.timeline may c.in-Some.ensures.left c.parts.invariant.went c.in_ok-halt.ensures.went)
+    let may : May c.in-Some.part.hart = ap (λ (hs : List Bool). slice_index_or hs c.in-Some.part.hart false) (sym c.parts.invariant.harts) ∙ c.in-Some.ensures.hart.1 in
+    left_went May c.round_part.new.round.left c.args.round.left size c.args.timeline.now c.round_part.new.timeline (part_more May c.in-Some.part.hart c.parts.round.left c.next.new.self.left c.round_part.new.round.left c.args.round.left size c.args.timeline.now c.parts.timeline c.round_part.new.timeline may c.in-Some.ensures.left c.parts.invariant.went c.in_ok-halt.ensures.went)
 
 pub parts-preserved : goal.parts-preserved
 parts-preserved g c =
     let size = c.args.setting.now.shape.now in
     let May : ℕ → Type 0 = λ h. slice_index_or c.args.round.harts h false ≡ true in
-    let may : May c.in-Some.hart = ap (λ (hs : List Bool). slice_index_or hs c.in-Some.hart false) (sym c.parts.invariant.harts) ∙ c.in-Some.ensures.hart.1 in
+    let may : May c.in-Some.part.hart = ap (λ (hs : List Bool). slice_index_or hs c.in-Some.part.hart false) (sym c.parts.invariant.harts) ∙ c.in-Some.ensures.hart.1 in
     record {
-      went = part_more May c.in-Some.hart c.parts.round.left c.next.new.self.left c.round_part.new.round.left c.args.round.left size c.args.timeline.now c.parts.timeline c.round_part.new.timeline may c.in-Some.ensures.left c.parts.invariant.went c.in_ok-halt.ensures.went;
-      first = none_along c.args.setting.now.shape.now c.args.stops.now c.in-Some.hart c.args.first c.args.timeline.now c.round_part.new.timeline (halt_then c.args.setting.now.shape.now c.args.stops.now c.args.first c.in-Some.hart c.in_ok-halt.field-0 None c.args.timeline.now c.parts.timeline c.round_part.new.timeline c.in_default-2.is c.parts.invariant.first c.in_ok-halt.ensures.first);
+      went = part_more May c.in-Some.part.hart c.parts.round.left c.next.new.self.left c.round_part.new.round.left c.args.round.left size c.args.timeline.now c.parts.timeline c.round_part.new.timeline may c.in-Some.ensures.left c.parts.invariant.went c.in_ok-halt.ensures.went;
+      first = none_along c.args.setting.now.shape.now c.args.stops.now c.in-Some.part.hart c.args.first c.args.timeline.now c.round_part.new.timeline (halt_then c.args.setting.now.shape.now c.args.stops.now c.args.first c.in-Some.part.hart c.in_ok-halt.field-0 None c.args.timeline.now c.parts.timeline c.round_part.new.timeline c.in_default-2.is c.parts.invariant.first c.in_ok-halt.ensures.first);
       harts = c.in_ok-halt.ensures.harts ∙ c.in-Some.ensures.harts ∙ c.parts.invariant.harts;
       resting = omega (arith, c.in_ok-halt.ensures.resting, c.in-Some.ensures.resting, c.if-harts-round.false, c.harts.ensures.range);
     }
@@ -39,7 +54,7 @@ pub returns-clause-went : goal.returns-clause-went
 returns-clause-went g c = left_went (λ h. slice_index_or c.args.round.harts h false ≡ true) c.parts.round.left c.args.round.left c.args.setting.now.shape.now c.args.timeline.now c.parts.timeline c.parts.invariant.went
 
 pub returns-in-Some-2-clause-first : goal.returns-in-Some-2-clause-first
-returns-in-Some-2-clause-first g c = halt_then c.args.setting.now.shape.now c.args.stops.now c.args.first c.in-Some.hart c.in_ok-halt.field-0 (Some c.in-Some-2.halt) c.args.timeline.now c.parts.timeline c.round_part.new.timeline c.in-Some-2.is c.parts.invariant.first c.in_ok-halt.ensures.first
+returns-in-Some-2-clause-first g c = halt_then c.args.setting.now.shape.now c.args.stops.now c.args.first c.in-Some.part.hart c.in_ok-halt.field-0 (Some c.in-Some-2.halt) c.args.timeline.now c.parts.timeline c.round_part.new.timeline c.in-Some-2.is c.parts.invariant.first c.in_ok-halt.ensures.first
 
 pub returns-then-harts-round-clause-first : goal.returns-then-harts-round-clause-first
 returns-then-harts-round-clause-first g c = other_halt c.args.setting.now.shape.now c.args.stops.now c.args.first c.args.first _ c.args.timeline.now c.parts.timeline refl c.parts.invariant.first
@@ -48,7 +63,7 @@ pub returns-clause-first : goal.returns-clause-first
 returns-clause-first g c = other_halt c.args.setting.now.shape.now c.args.stops.now c.args.first c.args.first _ c.args.timeline.now c.parts.timeline refl c.parts.invariant.first
 
 pub returns-then-swap-clause-first : goal.returns-then-swap-clause-first
-returns-then-swap-clause-first g c = other_halt c.args.setting.now.shape.now c.args.stops.now c.args.first c.in-Some.hart _ c.args.timeline.now c.parts.timeline refl c.parts.invariant.first
+returns-then-swap-clause-first g c = other_halt c.args.setting.now.shape.now c.args.stops.now c.args.first c.in-Some.part.hart _ c.args.timeline.now c.parts.timeline refl c.parts.invariant.first
 
 pub returns-then-harts-round-clause-there : goal.returns-then-harts-round-clause-there
 returns-then-harts-round-clause-there g c = c.requires.first

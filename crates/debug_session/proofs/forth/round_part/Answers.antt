@@ -9,7 +9,7 @@ pub run_part-requires-clause-hart : goal.run_part-requires-clause-hart
 run_part-requires-clause-hart g c κs within = c.requires.hart
 
 pub run_part-requires-clause-most : goal.run_part-requires-clause-most
-run_part-requires-clause-most g c κs within = c.turns.ensures.few
+run_part-requires-clause-most g c κs within = c.requires.most.1
 
 pub returns-clause-first : goal.returns-clause-first
 returns-clause-first g c = c.in_ok-did.ensures.first

@@ -16,10 +16,6 @@ pub returns-in-Schedule-clause-begins : goal.returns-in-Schedule-clause-begins
 returns-in-Schedule-clause-begins g c =
     subst (λ (b : Begin). IfOk c.schedule_to.result (λ s. BeginsAt b c.args.script.now c.args.payloads.now (view s))) (sym c.in-Schedule.is) c.schedule_to.ensures.begins
 
-pub returns-in-Order-clause-begins : goal.returns-in-Order-clause-begins
-returns-in-Order-clause-begins g c =
-    subst (λ (b : Begin). IfOk c.order_to.result (λ s. BeginsAt b c.args.script.now c.args.payloads.now (view s))) (sym c.in-Order.is) c.order_to.ensures.begins
-
 pub returns-in-Cut-clause-begins : goal.returns-in-Cut-clause-begins
 returns-in-Cut-clause-begins g c =
     subst (λ (b : Begin). IfOk c.row_to.result (λ s. BeginsAt b c.args.script.now c.args.payloads.now (view s))) (sym c.in-Cut.is)

@@ -3,7 +3,6 @@ use Rattle.std.proofs.lemmas.Result.{IfErr-weaker, IfOk-weaker}
 use Rattle.script_lang.specs.Scripts.{Script}
 use Rattle.script_lang.specs.Spellings.{script_text}
 use Rattle.bench_orders.specs.Orders.{IsScheduleOf}
-use Rattle.sbigdb.specs.Begins.{IsDrawn}
 use Rattle.sbigdb.proofs.begins.schedule_found.Goals as goal
 
 pub returns-clause-found : goal.returns-clause-found
@@ -15,7 +14,6 @@ returns-clause-found g c =
       shown.0,
       shown.1,
       subst (λ (s : Script). IsScheduleOf shown.0 s) (sym is) shown.2.order,
-      subst (λ (s : Script). IsDrawn c.args.drawn shown.0 s) (sym is) (shown.2.fronts, shown.2.drawn, shown.2.order),
     ))
     (c.read_back.ensures.read shown.2.schedule shown.2.reads text)
 

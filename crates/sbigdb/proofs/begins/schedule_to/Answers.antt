@@ -15,4 +15,4 @@ pub returns-clause-begins : goal.returns-clause-begins
 returns-clause-begins g c =
     let found = c.in_ok-found.ensures.found in
     let told = c.script_to.ensures in
-    begins_schedule c.args.drawn c.args.script.now c.args.payloads.now c.args.own.now c.in_ok-found.found found.0 c.script_to.result found.1 c.requires.read found.3 told.board told.parts
+    begins_schedule c.args.drawn c.args.script.now c.args.payloads.now c.args.own.now c.in_ok-found.found found.0 c.script_to.result found.1 c.requires.read found.2 told.board told.parts

@@ -46,9 +46,6 @@ rows_at-requires-clause-few g c κs within = c.requires.few
 pub rows_at-requires-clause-lines : goal.rows_at-requires-clause-lines
 rows_at-requires-clause-lines g c κs within = c.requires.lines
 
-pub rows_at-requires-clause-recovery : goal.rows_at-requires-clause-recovery
-rows_at-requires-clause-recovery g c κs within = c.requires.recovery
-
 pub rows_at-requires-clause-room : goal.rows_at-requires-clause-room
 rows_at-requires-clause-room g c κs within = c.requires.room
 

@@ -1,6 +1,5 @@
 use Rattle.std.proofs.Common.{◌+◌, refl}
 use Rattle.std.proofs.lemmas.Result.{IfOk-weaker, IfOk-from_err}
-use Rattle.bench_sweep.specs.Recovers.{compared}
 use Rattle.bench_sweep.proofs.Along.{along, came_again}
 use Rattle.bench_sweep.proofs.Made.{rest_is}
 use Rattle.bench_sweep.proofs.Reported.{swept_take, swept_drop}
@@ -32,7 +31,7 @@ returns-clause-judged g c = IfOk-weaker c.run_at_point.result _ _ (λ rows did b
     let lines = runner.lines.now in
     let since = c.in_ok-made.ensures.calls in
     judged_at runner.bench self.caller (self.before + c.args.done + 1) _ _ rows
-    (λ row who number is. along size runner.bench self.site.now self.before b lines _ (compared runner.recovery) c.args.moment.now told since.0 self.caller c.in_ok-made.made since.1 since.2 (rest_is c.args.moment.now.count lines) row who is)
+    (λ row who number is. along size runner.bench self.site.now self.before b lines _ c.args.moment.now told since.0 self.caller c.in_ok-made.made since.1 since.2 (rest_is c.args.moment.now.count lines) row who is)
     (did told.came.at (c.in_ok-going.ensures.runs size told.came.at told.came.runs))))
     c.run_at_point.ensures.judged
 
@@ -70,6 +69,3 @@ returns-then-done-made-clause-judged g c = tt
 
 pub returns-then-done-made-clause-refused : goal.returns-then-done-made-clause-refused
 returns-then-done-made-clause-refused g c = refl
-
-pub run_at_point-requires-clause-recovery : goal.run_at_point-requires-clause-recovery
-run_at_point-requires-clause-recovery g c κs within = c.requires.recovery

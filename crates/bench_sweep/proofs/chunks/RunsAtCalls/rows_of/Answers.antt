@@ -2,7 +2,6 @@ use Rattle.std.proofs.Common.{◌≡◌, ◌≤◌, ◌∷◌, ◌++◌, [], Lis
 use Rattle.std.proofs.lemmas.List.{length-append}
 use Rattle.bench_report.specs.Happens.{unpowered}
 use Rattle.jobs.specs.Handed.{AreRows}
-use Rattle.bench_sweep.specs.Recovers.{compared}
 use Rattle.bench_sweep.specs.Reports.{IsOfCall}
 use Rattle.bench_sweep.specs.declared.judging.PointRows.{PointRows}
 use Rattle.bench_sweep.proofs.Along.{rows_more}
@@ -14,7 +13,7 @@ pub loop-done-init : goal.loop-done-init
 loop-done-init g c =
     let self = c.args.self.now in
     let runner = self.runner.now in
-    let is = IsOfCall runner.setting.shape.now runner.bench self.caller self.before runner.lines.now (compared runner.recovery) self.site.now in
+    let is = IsOfCall runner.setting.shape.now runner.bench self.caller self.before runner.lines.now self.site.now in
     let items : c.args.rows.now.items ≡ [] = c.requires.none in
     let A : List PointRows → Type 0 = λ rows. AreRows is c.args.window.from rows in
     let none : length c.args.rows.now.items ≡ 0 = ap (λ (rows : List PointRows). length rows) items in record {
@@ -34,7 +33,7 @@ loop-done-preserved g c =
     let i = c.loop-done.invariant in
     let from = c.args.window.from in
     let next = c.in_ok-next in
-    let is = IsOfCall runner.setting.shape.now runner.bench self.caller self.before runner.lines.now (compared runner.recovery) self.site.now in
+    let is = IsOfCall runner.setting.shape.now runner.bench self.caller self.before runner.lines.now self.site.now in
     let long = length-append c.loop-done.rows.items (next.made ∷ []) in
     let items : c.push.new.self.items ≡ c.loop-done.rows.items ++ next.made ∷ [] = c.in-Ok.ensures.items in
     let as_many : length c.push.new.self.items ≡ length (c.loop-done.rows.items ++ next.made ∷ []) = ap (λ (rows : List PointRows). length rows) items in
@@ -51,9 +50,6 @@ next_rows-requires-clause-few g c κs within = c.requires.few
 
 pub next_rows-requires-clause-lines : goal.next_rows-requires-clause-lines
 next_rows-requires-clause-lines g c κs within = c.requires.lines
-
-pub next_rows-requires-clause-recovery : goal.next_rows-requires-clause-recovery
-next_rows-requires-clause-recovery g c κs within = c.requires.recovery
 
 pub returns-in-Err-clause-refused : goal.returns-in-Err-clause-refused
 returns-in-Err-clause-refused g c = refl

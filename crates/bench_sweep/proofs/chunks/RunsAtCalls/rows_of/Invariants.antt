@@ -2,7 +2,6 @@ use Rattle.std.proofs.Common.{◌≡◌, ◌≤◌, ◌-◌, length}
 use Rattle.bench_report.specs.Bench.{Bench}
 use Rattle.bench_report.specs.Happens.{unpowered}
 use Rattle.jobs.specs.Handed.{AreRows}
-use Rattle.bench_sweep.specs.Recovers.{compared}
 use Rattle.bench_sweep.specs.Reports.{IsOfCall}
 use Rattle.bench_sweep.specs.Along.{CameTold}
 use Rattle.bench_sweep.specs.Runs.{RunsAt}
@@ -14,5 +13,5 @@ invariant-loop-done g l = record {
   few : l.moment.count ≤ l.self.count;
   came : (b : Bench) → RunsAt l.self.runner.now.setting.shape.now b l.self.site.now → CameTold l.self.runner.now.setting.shape.now (unpowered b) l.self.runner.now.lines.now l.self.site.now l.moment;
   many : length l.rows.items ≡ l.done - l.from;
-  are : AreRows (IsOfCall l.self.runner.now.setting.shape.now l.self.runner.now.bench l.self.caller l.self.before l.self.runner.now.lines.now (compared l.self.runner.now.recovery) l.self.site.now) l.from l.rows.items;
+  are : AreRows (IsOfCall l.self.runner.now.setting.shape.now l.self.runner.now.bench l.self.caller l.self.before l.self.runner.now.lines.now l.self.site.now) l.from l.rows.items;
 }

@@ -22,10 +22,10 @@ pub returns-clause-plan : goal.returns-clause-plan
 returns-clause-plan g c = refl
 
 pub returns-clause-points : goal.returns-clause-points
-returns-clause-points g c = c.new.ensures.points
+returns-clause-points g c = c.new-2.ensures.points
 
 pub returns-clause-watches : goal.returns-clause-watches
-returns-clause-watches g c = c.new.ensures.watches
+returns-clause-watches g c = c.new-2.ensures.watches
 
 pub returns-clause-refused : goal.returns-clause-refused
 returns-clause-refused g c = tt

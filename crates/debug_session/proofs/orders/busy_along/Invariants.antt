@@ -1,0 +1,5 @@
+use Rattle.debug_session.specs.Lives.{IsSound}
+use Rattle.debug_session.proofs.orders.busy_along.Given as goal
+
+abbrev pub invariant-loop-line : goal.invariant-loop-line
+invariant-loop-line g l = record { sound : IsSound l.bench }
