@@ -143,7 +143,7 @@ fn own_of(task: Task<'_>) -> Result<OwnOrder, Refusal>
 fn searched(task: Task<'_>, switches: Option<u32>) -> Result<Explored, Refused>
     requires { vec_len task.kernel.now.payload ≤ ram_bytes_of task.shape.now }
     ensures { IfOk result (λ e. e ≡ record {
-      asked = asked_in task.options.now task.shape.now task.kernel.now.payload.items;
+      asked = asked_in task.entry.options.now task.entry.shape.now task.entry.kernel.now.payload.items;
       switches = switches;
     }) }
 {
@@ -170,7 +170,8 @@ fn judged(task: Task<'_>, own: &OwnOrder, switches: Option<u32>) -> Result<Judge
     requires looks { AreIn (ram_bytes_of task.shape.now) task.looks.now }
     // Where nothing is wrong, each order that was followed ends with the one kind of ends that is told.
     ensures says { IfOk result (λ judged. SaysAs judged.verdict
-        (asked_in task.options.now task.shape.now task.kernel.now.payload.items) task.looks.now judged.kinds.items) }
+        (asked_in task.entry.options.now task.entry.shape.now task.entry.kernel.now.payload.items)
+        task.entry.looks.now judged.kinds.items) }
 {
     let Ok(mut explored) = searched(task, switches) else {
         return Err(Refusal::Memory);
@@ -196,7 +197,8 @@ fn followed<W: Write>(
     requires fits { vec_len task.kernel.now.payload ≤ ram_bytes_of task.shape.now }
     requires looks { AreIn (ram_bytes_of task.shape.now) task.looks.now }
     ensures says { IfOk result (λ judged. SaysAs judged.verdict
-        (asked_in task.options.now task.shape.now task.kernel.now.payload.items) task.looks.now judged.kinds.items) }
+        (asked_in task.entry.options.now task.entry.shape.now task.entry.kernel.now.payload.items)
+        task.entry.looks.now judged.kinds.items) }
 {
     let judged = judged(task, own, switches)?;
     if task.options.tells_all() {
@@ -216,10 +218,11 @@ fn followed_few<W: Write>(
 ) -> Result<Judged, Refusal>
     requires fits { vec_len task.kernel.now.payload ≤ ram_bytes_of task.shape.now }
     requires looks { AreIn (ram_bytes_of task.shape.now) task.looks.now }
-    requires before { SaysAs before.verdict (asked_in task.options.now task.shape.now task.kernel.now.payload.items) task.looks.now
-        before.kinds.items }
+    requires before { SaysAs before.verdict
+        (asked_in task.options.now task.shape.now task.kernel.now.payload.items) task.looks.now before.kinds.items }
     ensures says { IfOk result (λ judged. SaysAs judged.verdict
-        (asked_in task.options.now task.shape.now task.kernel.now.payload.items) task.looks.now judged.kinds.items) }
+        (asked_in task.entry.options.now task.entry.shape.now task.entry.kernel.now.payload.items)
+        task.entry.looks.now judged.kinds.items) }
 {
     let mut best = before;
     for switches in 0..=MOST_PREEMPTIONS as u32 {
@@ -234,12 +237,13 @@ fn followed_few<W: Write>(
     Ok(best)
 }
 
-/// Follows the orders that are asked for. Where the search of every order is given up before anything was found, those with few preemptions.
+/// Follows the orders that are asked for; where that of every order is given up before anything was found, those with few preemptions.
 fn followed_all<W: Write>(task: Task<'_>, own: &OwnOrder, out: &mut W) -> Result<Judged, Refusal>
     requires fits { vec_len task.kernel.now.payload ≤ ram_bytes_of task.shape.now }
     requires looks { AreIn (ram_bytes_of task.shape.now) task.looks.now }
     ensures says { IfOk result (λ judged. SaysAs judged.verdict
-        (asked_in task.options.now task.shape.now task.kernel.now.payload.items) task.looks.now judged.kinds.items) }
+        (asked_in task.entry.options.now task.entry.shape.now task.entry.kernel.now.payload.items)
+        task.entry.looks.now judged.kinds.items) }
 {
     let judged = followed(task, own, task.options.preemptions, out)?;
     if task.options.preemptions.is_some() || !is_given_up(judged.verdict) {
@@ -254,8 +258,8 @@ fn tell_all<W: Write>(task: Task<'_>, out: &mut W) -> Result<Verdict, CheckFault
     requires fits { vec_len task.kernel.now.payload ≤ ram_bytes_of task.shape.now }
     requires looks { AreIn (ram_bytes_of task.shape.now) task.looks.now }
     // Where nothing is wrong, each order that was followed ends with the same, which is as expected.
-    ensures says { IfOk result (λ verdict. Says verdict (asked_in task.options.now task.shape.now task.kernel.now.payload.items)
-        task.looks.now) }
+    ensures says { IfOk result (λ verdict. Says verdict
+        (asked_in task.entry.options.now task.entry.shape.now task.entry.kernel.now.payload.items) task.entry.looks.now) }
 {
     let own = own_of(task)?;
     if task.options.tells_all() {

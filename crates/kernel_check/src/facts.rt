@@ -69,6 +69,8 @@ pub struct SearchFacts {
     pub boards: usize,
     /// Why it was not closed.
     pub stop: Option<Stop>,
+    /// Where it was not closed, what counted on and on by the look of it: names of words and registers.
+    pub counting: Vec<String>,
     /// The words that harts share.
     pub shared: Vec<SharedWord>,
     /// How many images of a sleep stood on the disk.

@@ -132,12 +132,17 @@ pub fn search_value(alloc: Global, search: &SearchFacts) -> Result<Value, AllocE
         let name = name_value(alloc, &word.name)?;
         shared.push(json!(in alloc; {"address": address, "name": name})?)?;
     }
+    let mut counting = Vec::new(alloc);
+    for name in &search.counting {
+        counting.push(Value::from(name.as_str().to_string(alloc)?))?;
+    }
     let stop = stop_value(alloc, search.stop)?;
     json!(in alloc; {
         "line": "search",
         "preemptions": number_value(search.preemptions),
         "boards": search.boards,
         "stopped": stop,
+        "counting": Value::Array(counting),
         "shared": Value::Array(shared),
         "images": search.images,
         "ends": search.ends

@@ -6,6 +6,7 @@ ghost use Rattle.kernel_check.specs.Shown.{AreIn};
 ghost use Rattle.kernel_check.specs.Tells.{SaysAs};
 ghost use Rattle.kernel_check.specs.Verdicts.{verdict_of};
 
+use crate::counting::counting;
 use crate::expected::is_as_expected;
 use crate::facts::{
     EndKind, EndShown, Failure, OwnEnd, OwnOrder, SearchFacts, SharedWord, Stop, Verdict,
@@ -346,10 +347,15 @@ pub fn judge(
     }
     let stop = stop_of(explored);
     let preemptions = explored.switches();
+    let counting = match stop {
+        Some(_) => counting(setting, explored)?,
+        None => Vec::new(setting.alloc),
+    };
     let search = SearchFacts {
         preemptions,
         boards: explored.count(),
         stop,
+        counting,
         shared: shared_words(setting, explored)?,
         images: scan.images,
         ends: ends.count,

@@ -1,8 +1,9 @@
-//! What the program `sbicheck` does: a kernel in every order of its harts, or with few preemptions, wherever power fails, and what it comes to
+//! What the program `sbicheck` does: a kernel in every order of its harts, or in those with few preemptions, and what it comes to
 //! (docs/CHECKING.md).
 #![tactic(auto)]
 
 mod checks;
+mod counting;
 mod expected;
 mod facts;
 mod faults;

@@ -183,7 +183,27 @@ pub fn write_search<W: Write>(out: &mut W, search: &SearchFacts) -> io::Result<(
     let names = SharedText(search);
     let images = Count(search.images as u64, "image");
     let ends = Count(search.ends as u64, "end");
-    writeln!(out, "{boards}, {shared}{names}, {images}, {ends}")
+    writeln!(out, "{boards}, {shared}{names}, {images}, {ends}")?;
+    write_counting(out, search)
+}
+
+/// Writes what counted on where a search was given up, if anything did.
+fn write_counting<W: Write>(out: &mut W, search: &SearchFacts) -> io::Result<()> {
+    if search.counting.is_empty() {
+        return Ok(());
+    }
+    let no_end = if search.ends == 0 {
+        "no end was found; "
+    } else {
+        ""
+    };
+    write!(out, "  endless: {no_end}these count on, by the look of it:")?;
+    let mut mark = " ";
+    for name in &search.counting {
+        write!(out, "{mark}{name}")?;
+        mark = ", ";
+    }
+    writeln!(out, "")
 }
 
 /// Writes what some ends show.

@@ -1,0 +1,153 @@
+//! What counts on and on in a kernel that is not followed to its end: a guess, by the boards on the way to the last one that was found.
+
+ghost use Rattle.std.specs.Prelude.{◌≡◌};
+
+use crate::places::data_text;
+use crate::walks::Setting;
+use board_model::{RAM_BASE, Refusal};
+use board_space::Explored;
+use model_board::{Board, Status, TouchMap};
+use rv_decode::Reg;
+use std::alloc::{AllocError, Global};
+
+/// How often the way is looked at: what is greater each time counts on.
+const LOOKS: usize = 6;
+
+/// The most that are named.
+const MOST_NAMES: usize = 8;
+
+/// The names of the registers from x1 on (the RISC-V calling convention).
+const REGISTERS: [&str; 31] = [
+    "ra", "sp", "gp", "tp", "t0", "t1", "t2", "s0", "s1", "a0", "a1", "a2", "a3", "a4", "a5", "a6",
+    "a7", "s2", "s3", "s4", "s5", "s6", "s7", "s8", "s9", "s10", "s11", "t3", "t4", "t5", "t6",
+];
+
+/// What was read of a board last, and what was greater each time.
+#[derive(Drop)]
+struct Readings {
+    values: Vec<u64>,
+    greater: Vec<bool>,
+    looks: usize,
+}
+
+/// The word of 8 bytes of that number; 0 where there is none.
+fn word_at(ram: &[u8], number: u64) -> u64 {
+    let mut value = 0u64;
+    for place in 0..8u64 {
+        let place = number.saturating_mul(8).saturating_add(7 - place);
+        value = value << 8 | u64::from(ram.get(place as usize).copied().unwrap_or(0));
+    }
+    value
+}
+
+/// The values of the words that some hart writes, and those of the registers of each hart.
+fn values_of(alloc: Global, map: &TouchMap, board: &Board) -> Result<Vec<u64>, AllocError> {
+    let mut values = Vec::new(alloc);
+    for word in 0..map.words() {
+        if map.writers(word) != 0 {
+            values.push(word_at(board.machine().ram().bytes(), word))?;
+        }
+    }
+    for number in 0..8u64 {
+        if let Some(hart) = board.machine().shape().hart(number) {
+            for register in 1..32u8 {
+                let value = board.machine().hart(hart).reg(Reg::new(register));
+                values.push(value)?;
+            }
+        }
+    }
+    Ok(values)
+}
+
+/// Looks at a board once more.
+fn look(
+    alloc: Global,
+    map: &TouchMap,
+    board: &Board,
+    readings: &mut Readings,
+) -> Result<(), AllocError> {
+    let values = values_of(alloc, map, board)?;
+    let mut greater = Vec::new(alloc);
+    for (place, value) in values.iter().enumerate() {
+        let before = readings.values.get(place).copied();
+        let was = readings.greater.get(place).copied().unwrap_or(true);
+        greater.push(was && before.is_none_or(|before| before < *value))?;
+    }
+    readings.values = values;
+    readings.greater = greater;
+    readings.looks = readings.looks.saturating_add(1);
+    Ok(())
+}
+
+/// Lets an event come to the board, and the turns by which it settles.
+fn step(explored: &Explored, board: &mut Board, event: u8)
+    requires { board.old.size ≡ explored.now.asked.size }
+    ensures { board.new.size ≡ board.old.size }
+{
+    explored.replay(board, event);
+    for number in 0..8u64 {
+        let _turns = explored.settle(board, number);
+    }
+}
+
+/// The names of what was greater each time.
+fn names_of(
+    setting: Setting<'_>,
+    map: &TouchMap,
+    greater: &[bool],
+) -> Result<Vec<String>, AllocError> {
+    let mut names = Vec::new(setting.alloc);
+    let mut place = 0usize;
+    for word in 0..map.words() {
+        if map.writers(word) == 0 {
+            continue;
+        }
+        if greater.get(place).copied().unwrap_or(false) && names.len() < MOST_NAMES {
+            let address = RAM_BASE.saturating_add(word.saturating_mul(8));
+            let name = data_text(setting.alloc, setting.elf, address)?;
+            names.push(match name {
+                Some(name) => name,
+                None => format!(in setting.alloc; "{address:#x}")?,
+            })?;
+        }
+        place = place.saturating_add(1);
+    }
+    for number in place..greater.len() {
+        if greater.get(number).copied().unwrap_or(false) && names.len() < MOST_NAMES {
+            let hart = (number - place) / 31;
+            let register = REGISTERS[(number - place) % 31];
+            names.push(format!(in setting.alloc; "{register} of hart {hart}")?)?;
+        }
+    }
+    Ok(names)
+}
+
+/// What counts on: words of memory and registers that are greater each time that the way to the last board is looked at.
+pub fn counting(setting: Setting<'_>, explored: &Explored) -> Result<Vec<String>, Refusal> {
+    let way = match explored.way(explored.count().saturating_sub(1)) {
+        Ok(Some(way)) => way,
+        Ok(None) => Vec::new(setting.alloc),
+        Err(_) => return Err(Refusal::Memory),
+    };
+    let Ok(mut board) = explored.first_board() else {
+        return Err(Refusal::Memory);
+    };
+    let mut readings = Readings {
+        values: Vec::new(setting.alloc),
+        greater: Vec::new(setting.alloc),
+        looks: 0,
+    };
+    let apart = way.len() / LOOKS;
+    let mut next = apart;
+    for (made, event) in way.iter().enumerate() {
+        step(explored, &mut board, *event);
+        if next <= made && board.status() == Status::On {
+            look(setting.alloc, explored.map(), &board, &mut readings)?;
+            next = made.saturating_add(apart);
+        }
+    }
+    if readings.looks < LOOKS - 1 {
+        return Ok(Vec::new(setting.alloc));
+    }
+    Ok(names_of(setting, explored.map(), readings.greater.as_slice())?)
+}
