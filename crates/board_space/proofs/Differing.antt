@@ -32,6 +32,7 @@ use Rattle.board_space.specs.Rows.{Stands}
 use Rattle.board_space.specs.Tracked.{segment, segment_count}
 use Rattle.board_space.specs.declared.board_rows.BoardRows.{BoardRows}
 use Rattle.board_space.specs.OneBoard.{one_at}
+use Rattle.board_space.proofs.Senders.{one_senders}
 
 -- ---- states
 told_one : (a b : Standing) → state_told a ≡ state_told b → a ≡ b
@@ -161,6 +162,13 @@ module _ (rows : BoardRows) (row : List ℕ) (b : Sized) (rest own : Rest) (rest
         ∙ (same_state h told.Stopped low fits size
         ∙ (ap (λ (k : ℕ). get_or own.tables.states k told.Stopped) (sym at)
         ∙ sym (get_or_read own.tables.states place s (omega (arith, there, right)) other told.Stopped))))
+
+    pub same_pending : (place h : ℕ) → place ≡ h → h < (size_of rows.layout).harts → Fits b.machine.size.harts own → b.machine.size ≡ size_of rows.layout → get_or rest.tables.pending place 0 ≡ get_or own.tables.pending place 0
+    same_pending place h at low fits size =
+        let n : ℕ = b.machine.size.harts in
+        let stood : Fits n rest = subst (λ (t : Rest). Fits n t) same_rest (subst (λ (m : Machine). Fits m.size.harts x.rest) (sym machines) x.fits) in
+        let there : place < n = subst (λ (k : ℕ). k < n) (sym at) (subst (λ (t : Size). h < t.harts) (sym size) low) in
+        one_senders n place rest.tables own.tables there stood.tables fits.tables (sym tables)
 
 -- ---- harts that can't stand for one hart
 pc_for : (s t u : ArchState) → HartFor s u → HartFor t u → s.pc ≡ t.pc

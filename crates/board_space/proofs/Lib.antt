@@ -1,3 +1,4 @@
+pub mod Senders
 pub mod Differing
 pub mod Kept
 pub mod Numbers

@@ -13,7 +13,7 @@ ghost use Rattle.board_space.specs.Tracked.{IsTracked, AreWithin, segment_count}
 ghost use Rattle.board_space.specs.Records.{IsAt, Stays};
 ghost use Rattle.board_space.specs.Rows.{IsShownByParts, Hold, AreSegments, AreHarts, Stands, Extends, Grows, no_tables, seen_rest, seen_harts, seen_memory};
 
-use crate::differs::{doze_differs, hart_differs, power_differs, state_differs};
+use crate::differs::{doze_differs, hart_differs, pending_differs, power_differs, state_differs};
 use crate::records::Records;
 use crate::row_layout::Layout;
 use board_model::HartId;
@@ -336,8 +336,13 @@ impl BoardRows {
         ensures { result ≡ true → (n d : AnyBoard) → Stands self.now row.now n → StandsFor n d → StandsFor board.now.board d → ⊥ }
     {
         let place = hart.index();
-        state_differs(rest.tables.states[place], own.tables.states[place])
-            || hart_differs(self.harts.get(row[1 + place]), board.machine().hart(hart))
+        if state_differs(rest.tables.states[place], own.tables.states[place]) {
+            return true;
+        }
+        if pending_differs(rest.tables.pending[place], own.tables.pending[place]) {
+            return true;
+        }
+        hart_differs(self.harts.get(row[1 + place]), board.machine().hart(hart))
     }
 
     /// Whether a word of a segment of a board that is on differs.

@@ -78,3 +78,10 @@ pub(crate) fn state_differs(state: Standing, other: Standing) -> bool
 {
     state != other
 }
+
+/// Whether the senders of a hart's pending interrupts differ.
+pub(crate) fn pending_differs(senders: u8, others: u8) -> bool
+    ensures { result ≡ true → senders ≡ others → ⊥ }
+{
+    senders != others
+}

@@ -4,20 +4,27 @@ use Rattle.hart.specs.State.{ArchState}
 use Rattle.machine.specs.Machine.{Machine, hart_at}
 use Rattle.model_board.specs.LeftOut.{HartFor}
 use Rattle.board_space.specs.Records.{IsAt}
-use Rattle.board_space.proofs.Differing.{same_read, same_hart}
+use Rattle.board_space.proofs.Differing.{same_read, same_pending, same_hart}
 use Rattle.board_space.proofs.board_rows.BoardRows.hart_differs.Goals as goal
 
 pub returns-then-state_differs : goal.returns-then-state_differs
 returns-then-state_differs c is n d x first second =
-    c.state_differs.ensures is
+    c.state_differs.ensures c.if-state_differs.true
     (sym c.index-rest-place.is
     ∙ (same_read c.args.self.now c.args.row.now c.args.board.now c.args.rest.now c.args.own.now c.requires.rested c.requires.on n d x first second c.requires.own
     c.index-place.result c.args.hart c.index-rest-place.result c.index-own-place.result
     c.index-place.ensures.value c.requires.within c.requires.fits c.requires.size c.index-rest-place.is c.index-own-place.is
     ∙ c.index-own-place.is))
 
-pub returns-else-state_differs : goal.returns-else-state_differs
-returns-else-state_differs c is n d x first second =
+pub returns-then-pending_differs : goal.returns-then-pending_differs
+returns-then-pending_differs c is n d x first second =
+    c.pending_differs.ensures c.if-pending_differs.true
+    (same_pending c.args.self.now c.args.row.now c.args.board.now c.args.rest.now c.args.own.now c.requires.rested c.requires.on n d x first second c.requires.own
+    c.index-place.result c.args.hart
+    c.index-place.ensures.value c.requires.within c.requires.fits c.requires.size)
+
+pub returns-else-pending_differs : goal.returns-else-pending_differs
+returns-else-pending_differs c is n d x first second =
     let board = c.args.board.now in
     let place : c.index-place.result ≡ c.args.hart = c.index-place.ensures.value in
     let at : IsAt c.args.self.now.harts.records.items (slice_index c.args.row.now (1 + c.args.hart)) c.get.result.now = subst (λ (k : ℕ). IsAt c.args.self.now.harts.records.items (slice_index c.args.row.now (1 + k)) c.get.result.now) place c.get.ensures in
