@@ -6,7 +6,7 @@ use Rattle.board_space.specs.Rows.{Stands}
 use Rattle.board_space.specs.Settings.{asked_of}
 use Rattle.board_space.specs.Space.{Steps}
 use Rattle.board_space.proofs.Waiting.{turns_more, turn_step, away_more}
-use Rattle.board_space.proofs.returning.BoardSpace.waits_at.Goals as goal
+use Rattle.board_space.proofs.space.BoardSpace.waits_at.Goals as goal
 
 pub loop-turn-preserved : goal.loop-turn-preserved
 loop-turn-preserved c =

@@ -7,7 +7,7 @@ use Rattle.board_space.specs.OneBoard.{one_board}
 use Rattle.board_space.specs.Rows.{Stands}
 use Rattle.board_space.proofs.Covered.{change_for}
 use Rattle.board_space.proofs.Ready.{based_outside}
-use Rattle.board_space.proofs.resting.BoardSpace.changes.Goals as goal
+use Rattle.board_space.proofs.space.BoardSpace.changes.Goals as goal
 
 pub differs-requires-clause-based : goal.differs-requires-clause-based
 differs-requires-clause-based c =

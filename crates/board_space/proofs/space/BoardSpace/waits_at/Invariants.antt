@@ -5,7 +5,7 @@ use Rattle.board_space.specs.Few.{turn_number}
 use Rattle.board_space.specs.Rows.{Stands}
 use Rattle.board_space.specs.Settings.{asked_of, setting_of, RowsStay}
 use Rattle.board_space.specs.Space.{Steps}
-use Rattle.board_space.proofs.returning.BoardSpace.waits_at.Given as goal
+use Rattle.board_space.proofs.space.BoardSpace.waits_at.Given as goal
 
 abbrev pub invariant-loop-turn : goal.invariant-loop-turn
 invariant-loop-turn l = record {

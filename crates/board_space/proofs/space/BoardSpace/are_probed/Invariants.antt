@@ -3,7 +3,7 @@ use Rattle.model_board.specs.Boards.{Board}
 use Rattle.model_board.specs.LeftOut.{IsLeftOut, IsProbed}
 use Rattle.board_space.specs.Rows.{Stands}
 use Rattle.board_space.specs.Settings.{setting_of}
-use Rattle.board_space.proofs.resting.BoardSpace.are_probed.Given as goal
+use Rattle.board_space.proofs.space.BoardSpace.are_probed.Given as goal
 
 abbrev pub invariant-loop-register : goal.invariant-loop-register
 invariant-loop-register l = record {

@@ -7,7 +7,7 @@ use Rattle.board_space.specs.Space.{KeepsSure}
 use Rattle.board_space.specs.declared.board_rows.BoardRows.{BoardRows}
 use Rattle.board_space.proofs.Covered.{left_small}
 use Rattle.board_space.proofs.Searching.{each_below}
-use Rattle.board_space.proofs.resting.BoardSpace.are_probed.Goals as goal
+use Rattle.board_space.proofs.space.BoardSpace.are_probed.Goals as goal
 
 pub is_probed-requires-clause-known : goal.is_probed-requires-clause-known
 is_probed-requires-clause-known c =

@@ -8,7 +8,7 @@ use Rattle.board_space.specs.OneBoard.{one_board}
 use Rattle.board_space.specs.Settings.{Setting}
 use Rattle.board_space.specs.Space.{IsFor, KeepsSure}
 use Rattle.board_space.proofs.Covered.{rest_for}
-use Rattle.board_space.proofs.resting.BoardSpace.rests.Goals as goal
+use Rattle.board_space.proofs.space.BoardSpace.rests.Goals as goal
 
 pub changes_by-requires-clause-keeps : goal.changes_by-requires-clause-keeps
 changes_by-requires-clause-keeps c b stands h lt =

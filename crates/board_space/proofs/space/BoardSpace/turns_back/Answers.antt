@@ -9,7 +9,7 @@ use Rattle.board_space.specs.Rows.{Stands}
 use Rattle.board_space.specs.Settings.{Setting}
 use Rattle.board_space.specs.declared.board_rows.BoardRows.{BoardRows}
 use Rattle.board_space.proofs.Ready.{based_outside}
-use Rattle.board_space.proofs.returning.BoardSpace.turns_back.Goals as goal
+use Rattle.board_space.proofs.space.BoardSpace.turns_back.Goals as goal
 
 pub differs-requires-clause-based : goal.differs-requires-clause-based
 differs-requires-clause-based c =

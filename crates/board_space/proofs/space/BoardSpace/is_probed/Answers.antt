@@ -7,7 +7,7 @@ use Rattle.model_board.specs.Registers.{board_holding}
 use Rattle.board_space.specs.Mapped.{map_in}
 use Rattle.board_space.specs.Space.{KeepsSure}
 use Rattle.board_space.proofs.Ready.{based_outside, based_same}
-use Rattle.board_space.proofs.resting.BoardSpace.is_probed.Goals as goal
+use Rattle.board_space.proofs.space.BoardSpace.is_probed.Goals as goal
 
 pub returns-then-not-put_probe-clause-probed : goal.returns-then-not-put_probe-clause-probed
 returns-then-not-put_probe-clause-probed c is b stands left =

@@ -1,6 +1,6 @@
 use Rattle.std.proofs.Common.{◌≡◌}
 use Rattle.board_space.specs.Settings.{setting_of}
-use Rattle.board_space.proofs.resting.BoardSpace.stand.Given as goal
+use Rattle.board_space.proofs.space.BoardSpace.stand.Given as goal
 
 abbrev pub invariant-loop-number : goal.invariant-loop-number
 invariant-loop-number l = record {

@@ -3,7 +3,7 @@ use Rattle.model_board.specs.Boards.{Board}
 use Rattle.model_board.specs.LeftOut.{AreProbed}
 use Rattle.board_space.specs.Rows.{Stands}
 use Rattle.board_space.proofs.Answered.{ok_on}
-use Rattle.board_space.proofs.resting.BoardSpace.are_probed_by.Goals as goal
+use Rattle.board_space.proofs.space.BoardSpace.are_probed_by.Goals as goal
 
 pub returns-in-Some-clause-probed : goal.returns-in-Some-clause-probed
 returns-in-Some-clause-probed c =

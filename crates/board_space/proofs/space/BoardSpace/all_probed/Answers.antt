@@ -7,7 +7,7 @@ use Rattle.board_space.specs.Settings.{Setting}
 use Rattle.board_space.specs.Space.{KeepsSure}
 use Rattle.board_space.specs.declared.board_rows.BoardRows.{BoardRows}
 use Rattle.board_space.proofs.Searching.{each_below}
-use Rattle.board_space.proofs.resting.BoardSpace.all_probed.Goals as goal
+use Rattle.board_space.proofs.space.BoardSpace.all_probed.Goals as goal
 
 pub are_probed_by-requires-clause-known : goal.are_probed_by-requires-clause-known
 are_probed_by-requires-clause-known c =

@@ -8,7 +8,7 @@ use Rattle.model_board.specs.Events.{IsEnd}
 use Rattle.board_space.specs.Space.{IsFor}
 use Rattle.board_space.proofs.Covered.{on_for, same_off, same_ended}
 use Rattle.board_space.proofs.Ends.{ended_ends, off_goes, life_of_on, doze_goes, rest_ends, move_goes}
-use Rattle.board_space.proofs.resting.BoardSpace.is_end.Goals as goal
+use Rattle.board_space.proofs.space.BoardSpace.is_end.Goals as goal
 
 pub returns-in-Ended-clause-ends : goal.returns-in-Ended-clause-ends
 returns-in-Ended-clause-ends c is b stands =

@@ -1,5 +1,5 @@
 use Rattle.std.proofs.Common.{◌<◌, arith}
-use Rattle.board_space.proofs.resting.BoardSpace.changes_by.Goals as goal
+use Rattle.board_space.proofs.space.BoardSpace.changes_by.Goals as goal
 
 pub returns-in-Some-clause-changes : goal.returns-in-Some-clause-changes
 returns-in-Some-clause-changes c is b d stands for all =
