@@ -141,7 +141,7 @@ races: 80 bytes at 0x80000000, 2 harts, 1 page
 own order: ends after 16 turns: 0x80000048 02
 3 boards, 1 shared word (0x80000048), 0 images, 0 ends
 the search of every order stopped at so many boards as --boards says
-at most 0 preemptions: 3 boards, 1 shared word (0x80000048), 0 images, 0 ends
+at most 0 preemptions: 4 boards, 1 shared word (0x80000048), 0 images, 0 ends
 open: nothing was found until the search stopped at so many boards as --boards says, and nothing is said of other orders
 ",
     },

@@ -4,7 +4,7 @@ use Rattle.model_board.specs.Boards.{Board, On, Off, Ended}
 use Rattle.board_space.specs.Few.{AskedOrders}
 use Rattle.board_space.specs.Space.{Asked}
 use Rattle.kernel_check.specs.Tells.{EveryOrder, Holds, HoldsAs, IsOnWith, Says, SaysAs}
-use Rattle.kernel_check.specs.Verdicts.{fine_by, untold_by, verdict_of}
+use Rattle.kernel_check.specs.Verdicts.{fine_by, verdict_of}
 use Rattle.kernel_check.specs.declared.facts.EndKind.{EndKind}
 use Rattle.kernel_check.specs.declared.facts.EndShown.{EndShown}
 use Rattle.kernel_check.specs.declared.facts.Stop.{Stop}

@@ -23,9 +23,8 @@ returns-then-pending_differs c is n d x first second =
     c.index-place.result c.args.hart
     c.index-place.ensures.value c.requires.within c.requires.fits c.requires.size)
 
-pub returns-else-pending_differs : goal.returns-else-pending_differs
-returns-else-pending_differs c is n d x first second =
-    let board = c.args.board.now in
+pub returns : goal.returns
+returns c is n d x first second =
     let place : c.index-place.result ≡ c.args.hart = c.index-place.ensures.value in
     let at : IsAt c.args.self.now.harts.records.items (slice_index c.args.row.now (1 + c.args.hart)) c.get.result.now = subst (λ (k : ℕ). IsAt c.args.self.now.harts.records.items (slice_index c.args.row.now (1 + k)) c.get.result.now) place c.get.ensures in
     let met = same_hart c.args.self.now c.args.row.now c.args.board.now c.args.rest.now c.args.own.now c.requires.rested c.requires.on n d x first second c.requires.own
