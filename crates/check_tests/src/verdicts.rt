@@ -159,8 +159,8 @@ open: nothing was found until the search stopped at so many boards as --boards s
         verdict: Verdict::Within(1),
         told: r#"{"bytes":4,"cuts":true,"harts":1,"lanes":1,"line":"kernel","name":"rests","pages":1,"reason":0,"refusals":true}
 {"harts":null,"line":"own","looks":[{"bytes":"6f000000","name":"0x80000000"}],"reboots":0,"shutdown":null,"sleeps":0,"turns":0}
-{"boards":2,"counting":[],"ends":1,"images":0,"line":"search","preemptions":1,"shared":[],"stopped":null}
-{"ends":1,"expected":true,"line":"end","looks":[{"bytes":"6f000000","name":"0x80000000"}],"own":true,"shutdown":null}
+{"boards":4,"counting":[],"ends":2,"images":0,"line":"search","preemptions":1,"shared":[],"stopped":null}
+{"ends":2,"expected":true,"line":"end","looks":[{"bytes":"6f000000","name":"0x80000000"}],"own":true,"shutdown":null}
 {"line":"verdict","preemptions":1,"status":4,"verdict":"within"}
 "#,
     },
