@@ -2,7 +2,7 @@
 //! is his goal. There is no way down but a fall, which is a failure: so who is past the third comes to no end.
 
 use state_space::{
-    Expansion, Limits, Refused, Successors, System, Verdict, explore, first_dead, way_to,
+    Expansion, Limits, Refused, Successors, System, Verdict, at_end, explore, first_dead, way_to,
 };
 use std::alloc::Global;
 use std::test::Fail;
