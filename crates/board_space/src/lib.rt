@@ -22,8 +22,6 @@ mod seeds;
 mod settling;
 mod showing;
 mod space;
-#[cfg(test)]
-mod tests;
 
 pub use board_rows::BoardRows;
 pub use explored::{Explored, Question, explore_board};
