@@ -21,3 +21,7 @@ pub mod ByOrders
 pub mod Answered
 pub mod Few
 pub mod Waiting
+pub mod Carried
+pub mod Seen
+pub mod Skipped
+pub mod PutOver

@@ -8,7 +8,7 @@ use Rattle.state_space.specs.Successors.{found_count, found_event, found_row}
 use Rattle.state_space.specs.Systems.{Moves, IsExpanded}
 use Rattle.state_space.specs.declared.found.Successors.{Successors}
 use Rattle.board_space.specs.Space.{Asked, IsOne, Happens, KeepsEach, KeepsSure, ReadsKept, number_of, SettlesSure, sure_rules}
-use Rattle.board_space.specs.Expanding.{IsTold, IsMove, AreTold, IsTeller}
+use Rattle.board_space.specs.Expanding.{IsTold, IsMove, AreTold, IsTeller, IsPushed}
 
 module _ (asked : Asked) (map : Map) (leaves : Bool) where
   told_lifted : (old new : List ℕ → Board → Type 0) (found grown : Successors) (b : Board) (e : Event) (mid : Board) → ((r : List ℕ) (c : Board) → old r c → new r c) → found_count found ≤ found_count grown → ((k : ℕ) → k < found_count found → found_event grown k ≡ found_event found k) → ((k : ℕ) → k < found_count found → found_row grown k ≡ found_row found k) → IsTold asked map leaves old found b e mid → IsTold asked map leaves new grown b e mid
@@ -91,6 +91,18 @@ module _ (asked : Asked) (map : Map) (leaves : Bool) where
             let at : found_count old ≡ i = omega arith in
             subst (λ (n : ℕ). IsMove asked map leaves stands new b n) at (to, (mid, (e, sym event, did), settles), has_new);
       }
+
+  -- one successor more tells it
+  pub teller_by : (stands : List ℕ → Board → Type 0) (old new : Successors) (b mid : Board) (e : Event) (n : ℕ) → IsPushed asked map leaves stands old new mid n → n ≡ number_of e → Happens asked e b mid → ((c : Board) → Happens asked e b c → c ≡ mid) → IsTeller asked map leaves stands old new b e
+  teller_by stands old new b mid e n pushed is did only =
+      teller_pushed stands old new b mid pushed.to e (found_row new (found_count old)) pushed.counted (pushed.event ∙ is) refl pushed.events pushed.rows did only pushed.settles pushed.has
+
+  -- no event of the next numbers happens
+  pub told_skipped : (stands : List ℕ → Board → Type 0) (found : Successors) (b : Board) (n m : ℕ) → ((f : Event) (c : Board) → n ≤ number_of f → number_of f < m → Happens asked f b c → ⊥) → AreTold asked map leaves stands found b n → AreTold asked map leaves stands found b m
+  told_skipped stands found b n m none told = record {
+    complete = λ f mid lt did. ⊎_elim (λ below. told.complete f mid below did) (λ above. absurd (none f mid above lt did)) (cases_lt (number_of f) n);
+    sound = told.sound;
+  }
 
   -- its event could not happen
   pub teller_none : (stands : List ℕ → Board → Type 0) (found : Successors) (b : Board) (e : Event) → ((c : Board) → Happens asked e b c → ⊥) → IsTeller asked map leaves stands found found b e

@@ -19,15 +19,15 @@ module _ (asked : Asked) where
   turn_step h b c low few turn = (Turn h, sym (turn_below h (omega (arith, low, few))), ((low, tt), turn))
 
   module _ (few : asked.size.harts ≤ 8) (one : (e : Event) (b c d : Board) → Does asked.payload asked.size e b c → Does asked.payload asked.size e b d → c ≡ d) where
-    one_step : (n : ℕ) (b c d : Board) → Steps asked n b c → Steps asked n b d → c ≡ d
-    one_step n b c d x y =
+    state_determines_step : (n : ℕ) (b c d : Board) → Steps asked n b c → Steps asked n b d → c ≡ d
+    state_determines_step n b c d x y =
         let same : x.0 ≡ y.0 = same_event x.0 y.0 (small asked x.0 few x.2.0) (small asked y.0 few y.2.0) (x.1 ∙ sym y.1) in
         one y.0 b c d (subst (λ (e : Event). Does asked.payload asked.size e b c) same x.2.1) y.2.1
 
     pub one_turns : (h n : ℕ) (b c d : Board) → Turns (Steps asked) turn_number h n b c → Turns (Steps asked) turn_number h n b d → c ≡ d
     one_turns h zero b c d x y = x ∙ sym y
     one_turns h (suc n) b c d x y =
-        let same : y.0 ≡ x.0 = one_step (turn_number h) b y.0 x.0 y.1 x.1 in
+        let same : y.0 ≡ x.0 = state_determines_step (turn_number h) b y.0 x.0 y.1 x.1 in
         one_turns h n x.0 c d x.2 (subst (λ (z : Board). Turns (Steps asked) turn_number h n z d) same y.2)
 
     -- so many turns were made, and none of them led back

@@ -1,7 +1,7 @@
 -- The successors of a board that are told so far.
-use Rattle.std.specs.Prelude.{◌≡◌, ℕ, Bool, ◌<◌, ◌≤◌, List}
+use Rattle.std.specs.Prelude.{◌≡◌, ℕ, ◌+◌, Bool, ◌<◌, ◌≤◌, List}
 use Rattle.model_board.specs.Boards.{Board}
-use Rattle.model_board.specs.Events.{Event}
+use Rattle.model_board.specs.Events.{Event, Refused}
 use Rattle.model_board.specs.Maps.{Map}
 use Rattle.state_space.specs.Successors.{found_count, found_event, found_row}
 use Rattle.state_space.specs.Systems.{Moves}
@@ -31,3 +31,17 @@ pub record IsTeller (asked : Asked) (map : Map) (leaves : Bool) (stands : List �
   pub rows : (k : ℕ) → k < found_count old → found_row new k ≡ found_row old k
   pub told : (mid : Board) → Happens asked e b mid → IsTold asked map leaves stands new b e mid
   pub sound : (i : ℕ) → found_count old ≤ i → i < found_count new → IsMove asked map leaves stands new b i
+
+-- what a board has settled to is told by one successor more, under that number
+pub record IsPushed (asked : Asked) (map : Map) (leaves : Bool) (stands : List ℕ → Board → Type 0) (old new : Successors) (mid : Board) (number : ℕ) : Type 0 where
+  pub to : Board
+  pub settles : SettlesSure asked.size map leaves mid to
+  pub has : stands (found_row new (found_count old)) to
+  pub counted : found_count new ≡ found_count old + 1
+  pub event : found_event new (found_count old) ≡ number
+  pub events : (k : ℕ) → k < found_count old → found_event new k ≡ found_event old k
+  pub rows : (k : ℕ) → k < found_count old → found_row new k ≡ found_row old k
+
+-- no refusal of the store that is asked for happens in the next turn of that hart
+abbrev pub AsksNone : Asked → ℕ → Board → Type 0
+AsksNone asked h b = (down : Bool) (c : Board) → Happens asked (Refused h down) b c → ⊥

@@ -29,3 +29,12 @@ pub record IsOnBase (layout : Layout) (memory : List ℕ) : Type 0 where
 pub record IsBased (layout : Layout) (board : Sized) : Type 0 where
   pub size : board.machine.size ≡ size_of layout
   pub memory : IsOnBase layout board.machine.memory
+
+-- what a layout has beside the board's size: the words of all segments, end to end; where each segment ends; and the base
+pub record Laid : Type 0 where
+  pub words : List ℕ
+  pub ends : List ℕ
+  pub base : List ℕ
+
+abbrev pub laid_by : Layout → Laid
+laid_by layout = record { words = layout.tracked.words.items; ends = layout.tracked.ends.items; base = layout.base.items }

@@ -18,3 +18,4 @@ pub mod WaysOf
 pub mod Moving
 pub mod Few
 pub mod Searches
+pub mod Carried

@@ -3,7 +3,7 @@ use Rattle.std.specs.Prelude.{◌≡◌, ℕ, ◌+◌, ◌*◌, ◌<◌, List, l
 use Rattle.hart.specs.State.{ArchState, never_started}
 use Rattle.hsm.specs.declared.standings.Standing.TheVariants.{Stopped}
 use Rattle.machine.specs.Machine.{Machine, hart_at, stopped_harts}
-use Rattle.model_board.specs.Boards.{Board}
+use Rattle.model_board.specs.Boards.{Board, Life, On}
 use Rattle.model_board.specs.Plain.{Sized, board_shown, with_machine}
 use Rattle.model_board.specs.Rests.{Fits, table_copied}
 use Rattle.model_board.specs.declared.powers.Power.{Power}
@@ -58,6 +58,10 @@ pub record Stands (rows : BoardRows) (row : List ℕ) (b : Board) : Type 0 where
   pub fits : Fits machine.size.harts rest
   pub is : IsMachine rows row rest machine
   pub shown : b ≡ board_shown rest.power rest.reason rest.down machine
+
+-- it is on and does not doze
+abbrev pub IsAwake : Board → Type 0
+IsAwake b = (l : Life) × (b ≡ On l) × (l.machine.doze ≡ None)
 
 -- ---- what is seen of a board
 -- the tables of harts that are all STOPPED

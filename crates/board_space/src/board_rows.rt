@@ -3,17 +3,14 @@
 ghost use Rattle.std.specs.Prelude.{◌≡◌, ◌<◌, ◌≤◌, ◌+◌, ◌*◌, ◌/◌, ℕ, List, length, slice_index, get_or, true, false, None, IfOk};
 ghost use Rattle.hart.specs.State.{ArchState, never_started};
 ghost use Rattle.model_board.specs.Boards.{Board as AnyBoard};
-ghost use Rattle.model_board.specs.LeftOut.{StandsFor};
 ghost use Rattle.model_board.specs.Plain.{with_machine};
-ghost use Rattle.model_board.specs.Rests.{Fits, IsRest};
 ghost use Rattle.ram.specs.Memory.{value};
 ghost use Rattle.state_space.specs.Numbered.{word_count, words_of};
 ghost use Rattle.board_space.specs.Layouts.{IsBased, size_of, tracked_of, base_of};
 ghost use Rattle.board_space.specs.Tracked.{IsTracked, AreWithin, segment_count};
 ghost use Rattle.board_space.specs.Records.{IsAt, Stays};
-ghost use Rattle.board_space.specs.Rows.{IsShownByParts, Hold, AreSegments, AreHarts, Stands, Extends, Grows, no_tables, seen_rest, seen_harts, seen_memory};
+ghost use Rattle.board_space.specs.Rows.{IsAwake, IsShownByParts, Hold, AreSegments, AreHarts, Stands, Extends, Grows, no_tables, seen_rest, seen_harts, seen_memory};
 
-use crate::differs::{doze_differs, hart_differs, pending_differs, power_differs, state_differs};
 use crate::records::Records;
 use crate::row_layout::Layout;
 use board_model::HartId;
@@ -28,11 +25,11 @@ use std::alloc::Global;
 /// is as a boot left it.
 #[derive(Drop)]
 pub struct BoardRows {
-    layout: Layout,
-    rests: Records<Rest>,
-    harts: Records<Hart>,
+    pub(crate) layout: Layout,
+    pub(crate) rests: Records<Rest>,
+    pub(crate) harts: Records<Hart>,
     /// The values of segments.
-    words: Interner,
+    pub(crate) words: Interner,
     /// The values of the segment that was told last.
     values: Vec<u64>,
 }
@@ -97,8 +94,24 @@ fn gather(bytes: &[u8], words: &[u64], values: &mut Vec<u64>) -> Result<(), Refu
     Ok(())
 }
 
+/// Whether those words hold these values.
+fn are_held(bytes: &[u8], words: &[u64], values: &[u64]) -> bool
+    requires { (j : ℕ) → j < length words.now → 8 * slice_index words.now j + 8 ≤ length bytes.now }
+    ensures { result ≡ true → Hold bytes.now words.now values.now }
+{
+    if values.len() != words.len() {
+        return false;
+    }
+    for place in 0..words.len() {
+        if word_at(bytes, words[place] as usize) != values[place] {
+            return false;
+        }
+    }
+    true
+}
+
 /// A number of a row.
-fn told(number: usize) -> Result<u32, Refused>
+pub(crate) fn told(number: usize) -> Result<u32, Refused>
     ensures { IfOk result (λ n. n ≡ number) }
 {
     match u32::try_from(number) {
@@ -107,12 +120,13 @@ fn told(number: usize) -> Result<u32, Refused>
     }
 }
 
-/// The number of a hart of a board, of which none is seen where it is not on.
+/// The number of a hart of a board, of which none is seen where it is not on. It is likely to be `near`.
 fn tell_hart(
     harts: &mut Records<Hart>,
     board: &Board,
     power: Power,
     hart: HartId,
+    near: u32,
 ) -> Result<u32, Refused>
     requires { hart < board.now.machine.size.harts }
     ensures put { IfOk result (λ n. IsAt harts.new.records.items n
@@ -120,18 +134,28 @@ fn tell_hart(
     ensures stay { Stays harts.old.records.items harts.new.records.items }
 {
     match power {
-        Power::On => harts.put(board.machine().hart(hart)),
+        Power::On => harts.put_near(board.machine().hart(hart), near),
         Power::Off(_) => harts.put(&Hart::stopped(hart)),
         Power::Ended => harts.put(&Hart::stopped(hart)),
     }
 }
 
-/// The numbers of the harts of a board, after what is in the row.
+/// The number in a place of a row, where the row has it.
+#[inline]
+fn near_at(near: &[u32], place: usize) -> u32 {
+    match near.get(place) {
+        Some(number) => *number,
+        None => 0,
+    }
+}
+
+/// The numbers of the harts of a board, after what is in the row. They are likely to be those of the row `near`.
 fn tell_harts(
     harts: &mut Records<Hart>,
     board: &Board,
     power: Power,
     count: usize,
+    near: &[u32],
     row: &mut Vec<u32>,
 ) -> Result<(), Refused>
     requires count { count ≡ board.now.machine.size.harts }
@@ -143,33 +167,39 @@ fn tell_harts(
 {
     for number in 0..count {
         let hart = HartId::new(number as u64).unwrap();
-        row.push(tell_hart(harts, board, power, hart)?)?;
+        let likely = near_at(near, 1 + number);
+        row.push(tell_hart(harts, board, power, hart, likely)?)?;
     }
     Ok(())
 }
 
-/// The number of the values of a segment in a memory.
+/// The number of the values of a segment in a memory. It is likely to be `near`.
 fn tell_segment(
     words: &mut Interner,
     values: &mut Vec<u64>,
     bytes: &[u8],
     segment: &[u64],
+    near: u32,
 ) -> Result<u32, Refused>
     requires { (j : ℕ) → j < length segment.now → 8 * slice_index segment.now j + 8 ≤ length bytes.now }
     ensures within { IfOk result (λ n. n < word_count words.new) }
     ensures hold { IfOk result (λ n. Hold bytes.now segment.now (words_of words.new n)) }
     ensures grows { Grows words.old words.new }
 {
+    if (near as usize) < words.count() && are_held(bytes, segment, words.get(near as usize)) {
+        return Ok(near);
+    }
     gather(bytes, segment, values)?;
     told(words.put(values)?)
 }
 
-/// The numbers of the segments of a memory, after what is in the row.
+/// The numbers of the segments of a memory, after what is in the row. They are likely to be those of the row `near`.
 fn tell_segments(
     words: &mut Interner,
     values: &mut Vec<u64>,
     bytes: &[u8],
     layout: &Layout,
+    near: &[u32],
     row: &mut Vec<u32>,
 ) -> Result<(), Refused>
     requires { AreWithin (tracked_of layout.now) (length bytes.now) }
@@ -178,7 +208,8 @@ fn tell_segments(
     ensures grows { Grows words.old words.new }
 {
     for segment in 0..layout.segments() {
-        let number = tell_segment(words, values, bytes, layout.segment(segment))?;
+        let likely = near_at(near, (1 + layout.harts()).saturating_add(segment));
+        let number = tell_segment(words, values, bytes, layout.segment(segment), likely)?;
         row.push(number)?;
     }
     Ok(())
@@ -204,7 +235,7 @@ fn put_harts(harts: &Records<Hart>, count: usize, row: &[u32], board: &mut Board
 }
 
 /// Puts values into words of a board's memory.
-fn put_values(words: &[u64], values: &[u64], board: &mut Board)
+pub(crate) fn put_values(words: &[u64], values: &[u64], board: &mut Board)
     requires shown { IsShownByParts board.old }
     requires long { length values.now ≡ length words.now }
     requires within { (j : ℕ) → j < length words.now → 8 * slice_index words.now j + 8 ≤ length board.old.machine.memory }
@@ -243,7 +274,7 @@ fn put_segments(layout: &Layout, words: &Interner, from: usize, row: &[u32], boa
 }
 
 /// Each number in a slice of bytes is a byte.
-fn bytes_in(bytes: &[u8])
+pub(crate) fn bytes_in(bytes: &[u8])
     ensures { (i : ℕ) → i < length bytes.now → slice_index bytes.now i < 256 }
 {
     let _ = bytes;
@@ -278,9 +309,25 @@ impl BoardRows {
             .saturating_add(self.layout.bytes())
     }
 
+    /// Whether the board of a row is on and does not doze. That it is not is not said.
+    #[inline]
+    pub fn is_awake(&self, row: &[u32]) -> bool
+        requires known { (b : AnyBoard) × Stands self.now row.now b }
+        ensures { result ≡ true → (b : AnyBoard) → Stands self.now row.now b → IsAwake b }
+    {
+        let rest = self.rests.get(row[0]);
+        if rest.power != Power::On {
+            return false;
+        }
+        match rest.doze {
+            Some(_) => false,
+            None => true,
+        }
+    }
+
     /// The row of a board, in place of what was in the row. Boards that differ have rows that differ. At `Err` each row stands
-    /// for what it stood for.
-    pub fn row_of(&mut self, board: &Board, row: &mut Vec<u32>) -> Result<(), Refused>
+    /// for what it stood for. It is found sooner where it is much like the row `near`.
+    pub fn row_of(&mut self, board: &Board, near: &[u32], row: &mut Vec<u32>) -> Result<(), Refused>
         requires { IsBased self.old.layout board.now }
         ensures stands { IfOk result (λ _. Stands self.new row.new.items board.now.board) }
         ensures stay { (r : List ℕ) (b : AnyBoard) → Stands self.old r b → Stands self.new r b }
@@ -291,12 +338,20 @@ impl BoardRows {
         bytes_in(self.layout.base());
         row.clear();
         row.push(self.rests.put(&rest)?)?;
-        tell_harts(&mut self.harts, board, rest.power, self.layout.harts(), row)?;
+        tell_harts(
+            &mut self.harts,
+            board,
+            rest.power,
+            self.layout.harts(),
+            near,
+            row,
+        )?;
         tell_segments(
             &mut self.words,
             &mut self.values,
             seen_memory(board, &self.layout, rest.power),
             &self.layout,
+            near,
             row,
         )?;
         Ok(())
@@ -315,109 +370,5 @@ impl BoardRows {
         put_harts(&self.harts, harts, row, board);
         put_segments(&self.layout, &self.words, 1 + harts, row, board);
         bytes_in(board.machine().ram().bytes());
-    }
-
-    /// Whether a hart of a board that is on differs from that of the row, or its state does.
-    fn hart_differs(
-        &self,
-        rest: &Rest,
-        own: &Rest,
-        row: &[u32],
-        board: &Board,
-        hart: HartId,
-    ) -> bool
-        requires known { (b : AnyBoard) × Stands self.now row.now b }
-        requires rested { IsAt self.now.rests.records.items (slice_index row.now 0) rest.now }
-        requires on { rest.now.power ≡ Power.On }
-        requires own { IsRest own.now board.now }
-        requires fits { Fits board.now.machine.size.harts own.now }
-        requires size { board.now.machine.size ≡ size_of self.now.layout }
-        requires within { hart < (size_of self.now.layout).harts }
-        ensures { result ≡ true → (n d : AnyBoard) → Stands self.now row.now n → StandsFor n d → StandsFor board.now.board d → ⊥ }
-    {
-        let place = hart.index();
-        if state_differs(rest.tables.states[place], own.tables.states[place]) {
-            return true;
-        }
-        if pending_differs(rest.tables.pending[place], own.tables.pending[place]) {
-            return true;
-        }
-        hart_differs(self.harts.get(row[1 + place]), board.machine().hart(hart))
-    }
-
-    /// Whether a word of a segment of a board that is on differs.
-    fn segment_differs(
-        &self,
-        rest: &Rest,
-        own: &Rest,
-        row: &[u32],
-        board: &Board,
-        segment: usize,
-    ) -> bool
-        requires known { (b : AnyBoard) × Stands self.now row.now b }
-        requires rested { IsAt self.now.rests.records.items (slice_index row.now 0) rest.now }
-        requires on { rest.now.power ≡ Power.On }
-        requires own { IsRest own.now board.now }
-        requires based { IsBased self.now.layout board.now }
-        requires within { segment < segment_count (tracked_of self.now.layout) }
-        ensures { result ≡ true → (n d : AnyBoard) → Stands self.now row.now n → StandsFor n d → StandsFor board.now.board d → ⊥ }
-    {
-        let words = self.layout.segment(segment);
-        let values = self
-            .words
-            .get(row[1 + self.layout.harts() + segment] as usize);
-        for place in 0..words.len() {
-            if board.word(words[place] as usize) != values[place] {
-                return true;
-            }
-        }
-        false
-    }
-
-    /// Whether a board is not on, other than that of the row, or dozes otherwise.
-    fn rest_differs(&self, rest: &Rest, own: &Rest, row: &[u32], board: &Board) -> bool
-        requires known { (b : AnyBoard) × Stands self.now row.now b }
-        requires rested { IsAt self.now.rests.records.items (slice_index row.now 0) rest.now }
-        requires on { rest.now.power ≡ Power.On }
-        requires own { IsRest own.now board.now }
-        ensures { result ≡ true → (n d : AnyBoard) → Stands self.now row.now n → StandsFor n d → StandsFor board.now.board d → ⊥ }
-    {
-        let _ = row;
-        let _ = board;
-        if power_differs(own.power, rest.power) {
-            return true;
-        }
-        if doze_differs(own.doze, rest.doze) {
-            return true;
-        }
-        false
-    }
-
-    /// Whether a board is shown to differ from that of a row, which is on: they stand for no board both.
-    pub fn differs(&self, row: &[u32], board: &Board) -> bool
-        requires known { (b : AnyBoard) × Stands self.now row.now b }
-        requires based { IsBased self.now.layout board.now }
-        ensures { result ≡ true → (n d : AnyBoard) → Stands self.now row.now n → StandsFor n d → StandsFor board.now.board d → ⊥ }
-    {
-        let rest = self.rests.get(row[0]);
-        let own = board.rest();
-        if rest.power != Power::On {
-            return false;
-        }
-        if self.rest_differs(rest, &own, row, board) {
-            return true;
-        }
-        for number in 0..self.layout.harts() {
-            let hart = HartId::new(number as u64).unwrap();
-            if self.hart_differs(rest, &own, row, board, hart) {
-                return true;
-            }
-        }
-        for segment in 0..self.layout.segments() {
-            if self.segment_differs(rest, &own, row, board, segment) {
-                return true;
-            }
-        }
-        false
     }
 }

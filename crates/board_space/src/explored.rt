@@ -1,4 +1,5 @@
 //! What a program asks of a kernel: all boards that its boot may lead to, and what they say of every order.
+//! A law runs nothing, and tells the prover a fact: `every_order`.
 
 ghost use Rattle.std.specs.Prelude.{◌≡◌, ◌≤◌, ◌<◌, ℕ, List, IfOk, IfSome, IfNone, OnOk, Ok, Some, true, false, length};
 ghost use Rattle.board_model.specs.Shapes.{ram_bytes_of};
@@ -16,17 +17,18 @@ use crate::guesses::Guess;
 use crate::happenings::Happening;
 use crate::orders::{StandsFor, every_order};
 use crate::outcomes::Outcome;
-use crate::seeds::seed;
+use crate::seeds::{seed, seed_on};
 use crate::settling::settle_one;
-use crate::showing::{board_part, shown_by_all};
+use crate::showing::{board_part, shown_at, shown_by_all};
 use crate::space::{BoardSpace, Failures};
 use board_model::{HartId, Reason, Shape};
 use model_board::{Board, TouchMap};
 use state_space::{
-    Graph, Limits, Refused, Switching, Verdict, at_end, explore, first_dead, way_to,
+    Graph, Limits, Refused, Switching, Verdict, at_end, explore_by, first_dead, way_to,
 };
 use std::alloc::Global;
 use std::marker::Model;
+use std::thread::Threads;
 
 /// What is asked of a kernel.
 #[derive(Drop)]
@@ -44,6 +46,8 @@ pub struct Question<'a> {
     pub switches: Option<u32>,
     /// Where the search is given up.
     pub limits: Limits,
+    /// How many threads search. What is found is the same by any number of them; each has tables of its own, which count to no limit.
+    pub threads: usize,
 }
 
 /// How often a search starts over with a wider map before it is given up.
@@ -88,22 +92,35 @@ struct Searched {
 }
 
 /// Searches every order.
-fn search_all(alloc: Global, space: BoardSpace, limits: Limits) -> Searched
+fn search_all<R: Threads + Sync>(
+    rt: &R,
+    alloc: Global,
+    threads: usize,
+    space: BoardSpace,
+    limits: Limits,
+) -> Searched
     ensures asked { asked_of result.space ≡ asked_of space }
     ensures search { IfOk result.found (λ found. IsSearchOf result.space None found.0) }
 {
     let mut space = space;
-    let found = explore(alloc, &mut space, limits);
+    let found = explore_by(rt, alloc, threads, &mut space, limits);
     Searched { space, found }
 }
 
 /// Searches the orders in which at most so many harts are preempted.
-fn search_few(alloc: Global, space: BoardSpace, switches: u32, limits: Limits) -> Searched
+fn search_few<R: Threads + Sync>(
+    rt: &R,
+    alloc: Global,
+    threads: usize,
+    space: BoardSpace,
+    switches: u32,
+    limits: Limits,
+) -> Searched
     ensures asked { asked_of result.space ≡ asked_of space }
     ensures search { IfOk result.found (λ found. IsSearchOf result.space (Some switches) found.0) }
 {
     let mut switching = Switching::new(alloc, space, switches);
-    let found = explore(alloc, &mut switching, limits);
+    let found = explore_by(rt, alloc, threads, &mut switching, limits);
     Searched {
         space: switching.into_system(),
         found,
@@ -111,18 +128,28 @@ fn search_few(alloc: Global, space: BoardSpace, switches: u32, limits: Limits) -
 }
 
 /// Searches the orders that are asked for.
-fn search(alloc: Global, space: BoardSpace, switches: Option<u32>, limits: Limits) -> Searched
+fn search<R: Threads + Sync>(
+    rt: &R,
+    alloc: Global,
+    question: &Question,
+    space: BoardSpace,
+) -> Searched
     ensures asked { asked_of result.space ≡ asked_of space }
-    ensures search { IfOk result.found (λ found. IsSearchOf result.space switches found.0) }
+    ensures search { IfOk result.found (λ found. IsSearchOf result.space question.now.switches found.0) }
 {
-    match switches {
-        None => search_all(alloc, space, limits),
-        Some(switches) => search_few(alloc, space, switches, limits),
+    let threads = question.threads;
+    match question.switches {
+        None => search_all(rt, alloc, threads, space, question.limits),
+        Some(switches) => search_few(rt, alloc, threads, space, switches, question.limits),
     }
 }
 
 /// Explores a kernel. Refused where there is no room, and where more than 10,000 guesses were tried.
-pub fn explore_board(alloc: Global, question: &Question) -> Result<Explored, Refused>
+pub fn explore_board<R: Threads + Sync>(
+    rt: &R,
+    alloc: Global,
+    question: &Question,
+) -> Result<Explored, Refused>
     requires { length question.now.payload.now ≤ ram_bytes_of question.now.shape }
     ensures { IfOk result (λ e. e ≡ record {
       asked = record {
@@ -147,7 +174,7 @@ pub fn explore_board(alloc: Global, question: &Question) -> Result<Explored, Ref
             guess,
             question.switches.is_none(),
         )?;
-        let Searched { space, found } = search(alloc, space, question.switches, question.limits);
+        let Searched { space, found } = search(rt, alloc, question, space);
         let Some(broke) = space.broke() else {
             let (graph, verdict) = found?;
             return Ok(Explored {
@@ -158,8 +185,10 @@ pub fn explore_board(alloc: Global, question: &Question) -> Result<Explored, Ref
                 verdict,
             });
         };
-        guess = space.into_guess();
+        let (wrong, mut board) = space.into_guess();
+        guess = wrong;
         guess.widen(broke);
+        seed_on(alloc, question, &mut board, &mut guess)?;
     }
     Err(Refused::Numbers)
 }
@@ -261,6 +290,38 @@ impl Explored {
         self.space
             .show(board_part(self.graph.row(row), self.switches));
         true
+    }
+
+    /// What an end shows in the bytes `from..to` of RAM: some events lead to a board that is at an end and shows it. `None` where the row is
+    /// none of an end.
+    pub fn shown(&mut self, row: usize, from: usize, to: usize) -> Result<Option<Outcome>, Refused>
+        requires order { from ≤ to }
+        requires within { to ≤ ram_bytes_of self.old.asked.size }
+        ensures ends { IfOk result (λ found. IfSome found (λ outcome. (b : AnyBoard)
+            × Leads (Happens self.old.asked) (start_of self.old.asked) b × IsEnd b × Shows from to outcome b)) }
+        ensures same { self.new ≡ self.old }
+    {
+        every_order::<BoardSpace>();
+        if self.graph.expanded() <= row {
+            return Ok(None);
+        }
+        if !self.graph.is_end(row) {
+            return Ok(None);
+        }
+        shown_at(
+            &mut self.space,
+            self.switches,
+            self.graph.row(row),
+            from,
+            to,
+        )
+    }
+
+    /// The bytes of RAM of the boards.
+    pub fn ram_bytes(&self) -> usize
+        ensures { result ≡ ram_bytes_of self.now.asked.size }
+    {
+        self.space.ram_bytes()
     }
 
     /// The board that was put last.

@@ -1,4 +1,5 @@
 //! Registers that are left out of a board.
+//! A law runs nothing, and tells the prover a fact: `model_board::left_out_registers_change_nothing`.
 
 ghost use Rattle.std.specs.Prelude.{◌≡◌, ◌<◌, true, false};
 ghost use Rattle.model_board.specs.Events.{Turn};
@@ -19,7 +20,7 @@ use rv_decode::Reg;
 pub(crate) fn boards_stand()
     ensures { Standing }
 {
-    model_board::one_for_all();
+    model_board::left_out_registers_change_nothing();
 }
 
 /// Whether the next turn of a hart reads no register that is left out, if any may be.
@@ -53,15 +54,22 @@ fn left_out(own: &Hart, live: u32) -> Hart
     left
 }
 
-/// Those of the registers of a hart that are left out and are bits of a number, as the bits of one.
-fn missed(own: &Hart, live: u32) -> u32 {
+/// Which registers of a hart are left out and are bits of a number, as the bits of one; and whether some is none of its bits and is not left
+/// out.
+fn missed(own: &Hart, live: u32) -> (u32, bool) {
     let mut missed = 0;
+    let mut has_more = false;
     for number in 1..32u8 {
-        if live >> number & 1 == 1 && own.reg(Reg::new(number)) == LEFT_OUT {
+        let is_live = live >> number & 1 == 1;
+        let is_left = own.reg(Reg::new(number)) == LEFT_OUT;
+        if is_live && is_left {
             missed |= 1 << number;
         }
+        if !is_live && !is_left {
+            has_more = true;
+        }
     }
-    missed
+    (missed, has_more)
 }
 
 /// Leaves out those registers of a hart that are not read again, as it is guessed. Answers which were left out before and are read again, as
@@ -73,13 +81,16 @@ fn leave_out(board: &mut Board, lives: &Lives, hart: HartId) -> u32
     ensures size { board.new.size ≡ board.old.size }
     ensures raw { board.new.machine.size ≡ board.old.machine.size }
 {
-    let _plain = board.rest();
     match board.status() {
         Status::On => {
             let own = board.machine().hart(hart);
             let live = lives.at(own.pc());
-            let missed = missed(own, live);
+            let (missed, has_more) = missed(own, live);
+            if !has_more {
+                return missed;
+            }
             let left = left_out(own, live);
+            let _plain = board.rest();
             board.put_hart(left);
             missed
         }

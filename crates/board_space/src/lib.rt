@@ -3,7 +3,9 @@
 #![tactic(auto)]
 
 mod board_rows;
+mod carrying;
 mod differs;
+mod expanding;
 mod explored;
 mod followed;
 mod guesses;
@@ -17,7 +19,9 @@ mod preempted;
 mod records;
 mod resting;
 mod returning;
+mod row_differs;
 mod row_layout;
+mod row_puts;
 mod seeds;
 mod settling;
 mod showing;

@@ -18,6 +18,13 @@ impl Lives {
         })
     }
 
+    /// The same registers are read again.
+    pub fn copy(&self, alloc: Global) -> Result<Lives, Refused> {
+        Ok(Lives {
+            masks: self.masks.as_slice().to_vec(alloc)?,
+        })
+    }
+
     /// The number of the word at a pc, past all where RAM has none there.
     fn place(pc: u64) -> u64 {
         if pc % 4 != 0 || pc < RAM_BASE {

@@ -1,4 +1,5 @@
 //! Every order of the turns of the harts of a board, and of what else may happen to it; or those in which few harts are preempted.
+//! A law runs nothing, and tells the prover a fact: `model_board::local_turns_change_places`.
 
 ghost use Rattle.std.specs.Prelude.{◌≡◌, ◌<◌, ◌≤◌, ℕ, List, Option, Bool};
 ghost use Rattle.model_board.specs.Boards.{Board};
@@ -27,7 +28,7 @@ pub trait StandsFor {
 fn board_moves()
     ensures { Moving }
 {
-    model_board::one_hart_moves();
+    model_board::local_turns_change_places();
 }
 
 /// A search speaks of the boards that the orders that are asked for lead to, from a board that was never on: every order, or those in which

@@ -74,10 +74,30 @@ impl<T: Recorded> Records<T> {
         &self.records[number as usize]
     }
 
+    /// Whether that number is of the same record.
+    #[inline]
+    pub fn is_at(&self, number: u32, item: &T) -> bool
+        ensures { result ≡ true → IsAt self.now.records.items number item.now }
+    {
+        (number as usize) < self.records.len() && item.is_as(&self.records[number as usize])
+    }
+
     /// How much memory they take, in bytes.
     pub fn bytes(&self) -> u64 {
         let records = (self.records.capacity() as u64).saturating_mul(T::size() as u64);
         self.keys.bytes().saturating_add(records)
+    }
+
+    /// The same as `put`, where the record is likely to be that of a number.
+    #[inline]
+    pub fn put_near(&mut self, item: &T, near: u32) -> Result<u32, Refused>
+        ensures put { IfOk result (λ n. IsAt self.new.records.items n item.now) }
+        ensures stay { Stays self.old.records.items self.new.records.items }
+    {
+        if (near as usize) < self.records.len() && item.is_as(&self.records[near as usize]) {
+            return Ok(near);
+        }
+        self.put(item)
     }
 
     /// The number of the record that equals this one. Where there is none it is added at the end. At `Err` the records are as

@@ -1,4 +1,5 @@
 //! Whether the boards of a row are at an end.
+//! A law runs nothing, and tells the prover a fact: `boards_stand`, `model_board::event_determines_board`.
 
 ghost use Rattle.std.specs.Prelude.{◌≡◌, ◌<◌, ℕ, IfOk, Ok, true, false};
 ghost use Rattle.model_board.specs.Boards.{Board as AnyBoard};
@@ -20,6 +21,7 @@ use state_space::Refused;
 impl BoardSpace {
     /// Notes where the harts of the board stand.
     pub(crate) fn stand(&mut self)
+        ensures board { self.new.board ≡ self.old.board }
         ensures rows { self.new.rows ≡ self.old.rows }
         ensures setting { setting_of self.new ≡ setting_of self.old }
     {
@@ -29,6 +31,18 @@ impl BoardSpace {
                 self.stood[hart.index()] = self.board.machine().hart(hart).pc();
             }
         }
+    }
+
+    /// Notes a row.
+    pub(crate) fn note(&mut self, row: &[u32]) -> Result<(), Refused>
+        ensures row { IfOk result (λ _. self.new.row.items ≡ row.now) }
+        ensures board { self.new.board ≡ self.old.board }
+        ensures rows { self.new.rows ≡ self.old.rows }
+        ensures setting { setting_of self.new ≡ setting_of self.old }
+    {
+        self.row.clear();
+        self.row.extend_from_slice(row)?;
+        Ok(())
     }
 
     /// Whether a turn of a hart changes the board of a row, which is on.
@@ -49,7 +63,7 @@ impl BoardSpace {
         if self.rows.differs(row, &self.board) {
             return Ok(true);
         }
-        self.rows.row_of(&self.board, &mut self.row)?;
+        self.rows.row_of(&self.board, row, &mut self.row)?;
         if self.row.as_slice() == row {
             return Ok(false);
         }
@@ -163,7 +177,7 @@ impl BoardSpace {
         ensures setting { setting_of self.new ≡ setting_of self.old }
     {
         boards_stand();
-        model_board::one_event();
+        model_board::event_determines_board();
         let _harts = self.shape.harts();
         for number in 0..8u64 {
             if self.changes_by(row, number)? {
@@ -174,16 +188,20 @@ impl BoardSpace {
         Ok(true)
     }
 
-    /// Whether the board of a row is at an end.
-    pub(crate) fn is_end(&mut self, row: &[u32]) -> Result<bool, Refused>
+    /// Whether the board of a row is at an end. Whether it is known that a turn changes it.
+    pub(crate) fn is_end(&mut self, row: &[u32], moves: bool) -> Result<bool, Refused>
         requires known { (b : AnyBoard) × Stands self.old.rows row.now b }
         requires keeps { (b : AnyBoard) → Stands self.old.rows row.now b → (h : ℕ) → h < self.old.shape.harts
             → KeepsSure (map_in self.old.map) self.old.leaves h b }
+        requires moves { moves ≡ true → (b : AnyBoard) → StandsAll self.old.leaves self.old.rows row.now b → IsEnd b → ⊥ }
         ensures ends { result ≡ Ok true → (b : AnyBoard) → StandsAll self.old.leaves self.old.rows row.now b → IsEnd b }
         ensures goes { result ≡ Ok false → (b : AnyBoard) → StandsAll self.old.leaves self.old.rows row.now b → IsEnd b → ⊥ }
         ensures stay { RowsStay self.old self.new }
         ensures setting { setting_of self.new ≡ setting_of self.old }
     {
+        if moves {
+            return Ok(false);
+        }
         self.rows.put(row, &mut self.board);
         let _sized = self.board.machine();
         match self.board.status() {

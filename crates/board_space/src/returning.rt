@@ -1,4 +1,5 @@
 //! Turns of one hart that lead back to the board of a row.
+//! A law runs nothing, and tells the prover a fact: `model_board::event_determines_board`.
 
 ghost use Rattle.std.specs.Prelude.{◌≡◌, ◌<◌, ◌≤◌, IfOk, IfSome, IfNone, Ok, true, false};
 ghost use Rattle.model_board.specs.Boards.{Board as AnyBoard};
@@ -34,7 +35,7 @@ impl BoardSpace {
         if self.rows.differs(row, &self.board) {
             return Ok(false);
         }
-        self.rows.row_of(&self.board, &mut self.row)?;
+        self.rows.row_of(&self.board, row, &mut self.row)?;
         if self.row.as_slice() == row {
             return Ok(true);
         }
@@ -50,7 +51,7 @@ impl BoardSpace {
         ensures stay { RowsStay self.old self.new }
         ensures setting { setting_of self.new ≡ setting_of self.old }
     {
-        model_board::one_event();
+        model_board::event_determines_board();
         let _harts = self.shape.harts();
         self.rows.put(row, &mut self.board);
         for turn in 0..MOST_WAITED {

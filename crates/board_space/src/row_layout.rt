@@ -141,7 +141,7 @@ fn booted(alloc: Global, shape: &Shape, payload: &[u8]) -> Result<Vec<u8>, Refus
 
 impl Layout {
     ghost use Rattle.board_space.specs.Tracked.{segment, segment_count};
-    ghost use Rattle.board_space.specs.Layouts.{size_of, tracked_of, base_of, width_of};
+    ghost use Rattle.board_space.specs.Layouts.{size_of, tracked_of, base_of, width_of, laid_by};
 
     /// The rows of boards of that shape whose boot slot holds the payload, and of which each word is written by no hart but
     /// by those of its bits.
@@ -169,6 +169,19 @@ impl Layout {
             tracked,
             base: booted(alloc, shape, payload)?,
             width,
+        })
+    }
+
+    /// The same layout.
+    pub fn copy(&self, alloc: Global) -> Result<Layout, Refused>
+        ensures size { IfOk result (λ layout. size_of layout ≡ size_of self.now) }
+        ensures laid { IfOk result (λ layout. laid_by layout ≡ laid_by self.now) }
+    {
+        Ok(Layout {
+            shape: self.shape,
+            tracked: self.tracked.copy(alloc)?,
+            base: self.base.as_slice().to_vec(alloc)?,
+            width: self.width,
         })
     }
 

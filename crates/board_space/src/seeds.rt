@@ -11,8 +11,10 @@ use model_board::{Board, Status};
 use state_space::Refused;
 use std::alloc::Global;
 
-/// How many turns a run has.
+/// How many turns a run from a boot has, and one that goes on from where a search was given up.
 const TURNS: u64 = 50_000;
+
+const TURNS_ON: u64 = 20_000;
 
 /// In how many turns power fails once, one is made that the store refuses if it is asked, and one of a store that is down from then on.
 const CUT_IN: u64 = 8191;
@@ -109,51 +111,120 @@ fn look_back(uses: &[Use], guess: &mut Guess) {
     }
 }
 
-/// A run of turns of harts that are drawn, each for a number of turns that is drawn below `longest`.
+/// How the harts of a run are drawn.
+#[derive(Clone, Copy, Drop)]
+struct Draws {
+    /// How many turns it has.
+    turns: u64,
+    /// A hart makes fewer turns in a row, and one at least.
+    longest: u64,
+    /// What may fail.
+    failures: Failures,
+}
+
+/// Nothing fails.
+const NONE_FAILS: Failures = Failures {
+    cuts: false,
+    refusals: false,
+};
+
+/// A run of turns of harts that are drawn.
 fn run(
     board: &mut Board,
     question: &Question,
     guess: &mut Guess,
-    longest: u64,
+    draws: Draws,
     state: &mut u64,
     uses: &mut Vec<Use>,
 ) -> Result<(), Refused>
     requires fits { length question.now.payload.now ≤ ram_bytes_of question.now.shape }
     requires size { board.old.size ≡ question.now.shape }
-    requires some { 0 < longest }
+    requires some { 0 < draws.longest }
+    ensures { board.new.size ≡ board.old.size }
 {
     let harts = u64::from(question.shape.harts());
     let mut left = 0;
     let mut turning = None;
-    for turn in 0..TURNS {
+    for turn in 0..draws.turns {
         if left == 0 {
             if !bring_on(board, question.payload) {
                 return Ok(());
             }
             turning = question.shape.hart(draw(state) % harts);
-            left = 1 + draw(state) % longest;
+            left = 1 + draw(state) % draws.longest;
         }
         left -= 1;
         if let Some(hart) = turning {
             widen(board, guess, hart);
             trace(board, hart, uses)?;
-            make_turn(board, question.failures, hart, draw(state));
+            make_turn(board, draws.failures, hart, draw(state));
         }
     }
     Ok(())
 }
 
-/// Widens a guess by what some runs from a boot do.
+/// Widens a guess by what a run from a boot does.
+fn seed_by(
+    alloc: Global,
+    question: &Question,
+    guess: &mut Guess,
+    draws: Draws,
+    state: &mut u64,
+) -> Result<(), Refused>
+    requires fits { length question.now.payload.now ≤ ram_bytes_of question.now.shape }
+    requires some { 0 < draws.longest }
+{
+    let Ok(mut board) = Board::new(alloc, &question.shape, question.reason) else {
+        return Err(Refused::Memory);
+    };
+    let mut uses = Vec::new(alloc);
+    run(&mut board, question, guess, draws, state, &mut uses)?;
+    look_back(uses.as_slice(), guess);
+    Ok(())
+}
+
+/// Widens a guess by what some runs from a boot do, of which in the first nothing fails.
 pub(crate) fn seed(alloc: Global, question: &Question, guess: &mut Guess) -> Result<(), Refused>
     requires { length question.now.payload.now ≤ ram_bytes_of question.now.shape }
 {
     let mut state = 0x9e37_79b9_7f4a_7c15;
+    let whole = Draws {
+        turns: TURNS,
+        longest: 1,
+        failures: NONE_FAILS,
+    };
+    seed_by(alloc, question, guess, whole, &mut state)?;
     for longest in [1, 10, 100, 1000] {
-        let Ok(mut board) = Board::new(alloc, &question.shape, question.reason) else {
-            return Err(Refused::Memory);
+        let draws = Draws {
+            turns: TURNS,
+            longest,
+            failures: question.failures,
+        };
+        seed_by(alloc, question, guess, draws, &mut state)?;
+    }
+    Ok(())
+}
+
+/// Widens a guess by what some runs do that go on from the board at which a search found it wrong. What comes after such a board is likely to
+/// be guessed wrong too, and would cost a search each time.
+pub(crate) fn seed_on(
+    alloc: Global,
+    question: &Question,
+    board: &mut Board,
+    guess: &mut Guess,
+) -> Result<(), Refused>
+    requires fits { length question.now.payload.now ≤ ram_bytes_of question.now.shape }
+    requires size { board.old.size ≡ question.now.shape }
+{
+    let mut state = 0x9e37_79b9_7f4a_7c15;
+    for longest in [1000, 100] {
+        let draws = Draws {
+            turns: TURNS_ON,
+            longest,
+            failures: question.failures,
         };
         let mut uses = Vec::new(alloc);
-        run(&mut board, question, guess, longest, &mut state, &mut uses)?;
+        run(board, question, guess, draws, &mut state, &mut uses)?;
         look_back(uses.as_slice(), guess);
     }
     Ok(())

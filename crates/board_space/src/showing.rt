@@ -38,7 +38,7 @@ pub(crate) fn board_part(row: &[u32], switches: Option<u32>) -> &[u32]
 }
 
 /// What the board of a row shows that is at an end.
-fn shown_at(
+pub(crate) fn shown_at(
     space: &mut BoardSpace,
     switches: Option<u32>,
     row: &[u32],

@@ -1,4 +1,5 @@
 //! A model board as a system that `state_space` searches.
+//! A law runs nothing, and tells the prover a fact: `boards_stand`.
 
 ghost use Rattle.std.specs.Prelude.{◌≡◌, ◌<◌, ◌≤◌, ◌*◌, ℕ, List, IfOk, IfSome, IfNone, Some, None, Ok, true, false, length};
 ghost use Rattle.board_model.specs.Shapes.{Size, ram_bytes_of};
@@ -16,12 +17,11 @@ ghost use Rattle.board_space.specs.Mapped.{map_in};
 
 use crate::board_rows::BoardRows;
 use crate::guesses::{Broke, Guess};
-use crate::happenings::{HAPPENINGS, Happening};
-use crate::leaving::{boards_stand, leave_all, reads_kept};
+use crate::happenings::Happening;
+use crate::leaving::{boards_stand, reads_kept};
 use crate::lives::Lives;
 use crate::outcomes::Outcome;
 use crate::row_layout::Layout;
-use crate::settling::settle;
 use board_model::{HartId, Reason, Shape};
 use model_board::{Board, Status, TouchMap};
 use state_space::{Expansion, Refused, Successors, System};
@@ -156,6 +156,13 @@ impl BoardSpace {
         self.shape.harts()
     }
 
+    /// The bytes of RAM of the board.
+    pub(crate) fn ram_bytes(&self) -> usize
+        ensures { result ≡ ram_bytes_of self.now.shape }
+    {
+        self.shape.ram_bytes()
+    }
+
     /// Whether registers are left out of rows.
     pub fn leaves_out(&self) -> bool
         ensures { result ≡ self.now.leaves }
@@ -170,10 +177,18 @@ impl BoardSpace {
         &self.map
     }
 
-    /// The guess, to be mended.
-    pub fn into_guess(self) -> Guess {
-        let BoardSpace { map, lives, .. } = self;
-        Guess { map, lives }
+    /// The guess, to be mended, and the board on which a row was put last.
+    pub fn into_guess(self) -> (Guess, Board)
+        ensures { result.1.size ≡ self.shape }
+    {
+        let BoardSpace {
+            map,
+            lives,
+            board,
+            ..
+        } = self;
+        let _sized = board.machine();
+        (Guess { map, lives }, board)
     }
 
     /// The board with which the search begins: it is off, and no image stands.
@@ -321,64 +336,6 @@ impl BoardSpace {
         }
         None
     }
-
-    /// Adds what a happening leads to from the board of a row, where it can happen.
-    fn add(
-        &mut self,
-        row: &[u32],
-        happening: &Happening,
-        found: &mut Successors,
-    ) -> Result<(), Refused>
-        requires known { (b : AnyBoard) × Stands self.old.rows row.now b }
-        requires one { IsOne (asked_of self.old) (event_of happening.now) }
-        requires keeps { (b : AnyBoard) → Stands self.old.rows row.now b → (e : Event) → KeepsEach (asked_of self.old) (map_in self.old.map) e b }
-        requires width { found_width found.old ≡ width_of self.old.rows.layout }
-        ensures teller { IfOk result (λ _. (b : AnyBoard) → Stands self.old.rows row.now b
-            → IsTeller (asked_of self.old) (map_in self.old.map) self.old.leaves (StandsAll self.old.leaves self.new.rows) found.old found.new b
-            (event_of happening.now)) }
-        ensures stay { RowsStay self.old self.new }
-        ensures setting { setting_of self.new ≡ setting_of self.old }
-        ensures width { found_width found.new ≡ found_width found.old }
-    {
-        model_board::one_event();
-        let number = happening.number();
-        self.rows.put(row, &mut self.board);
-        let _sized = self.board.machine();
-        if !happening.happen(&mut self.board, self.payload.as_slice()) {
-            return Ok(());
-        }
-        settle(&mut self.board, &self.map, self.leaves);
-        self.broke = leave_all(
-            &mut self.board,
-            &self.lives,
-            &self.stood,
-            self.leaves,
-            self.broke,
-        );
-        self.rows.row_of(&self.board, &mut self.row)?;
-        found.push(number, &self.row)?;
-        Ok(())
-    }
-
-    /// Adds what the happenings lead to from the board of a row.
-    fn add_all(&mut self, row: &[u32], found: &mut Successors) -> Result<(), Refused>
-        requires known { (b : AnyBoard) × Stands self.old.rows row.now b }
-        requires keeps { (b : AnyBoard) → Stands self.old.rows row.now b → (e : Event) → KeepsEach (asked_of self.old) (map_in self.old.map) e b }
-        requires width { found_width found.old ≡ width_of self.old.rows.layout }
-        requires none { found_count found.old ≡ 0 }
-        ensures told { IfOk result (λ _. (b : AnyBoard) → Stands self.old.rows row.now b
-            → AreTold (asked_of self.old) (map_in self.old.map) self.old.leaves (StandsAll self.old.leaves self.new.rows) found.new b 27) }
-        ensures stay { RowsStay self.old self.new }
-        ensures setting { setting_of self.new ≡ setting_of self.old }
-        ensures width { found_width found.new ≡ found_width found.old }
-    {
-        for number in 0..HAPPENINGS {
-            if let Some(happening) = self.happening(number) {
-                self.add(row, &happening, found)?;
-            }
-        }
-        Ok(())
-    }
 }
 
 impl System for BoardSpace {
@@ -402,7 +359,7 @@ impl System for BoardSpace {
 
     fn start(&mut self) -> Result<Vec<u32>, Refused> {
         let board = self.first_board()?;
-        self.rows.row_of(&board, &mut self.row)?;
+        self.rows.row_of(&board, &[], &mut self.row)?;
         Ok(self.row.as_slice().to_vec(self.alloc)?)
     }
 
@@ -415,8 +372,9 @@ impl System for BoardSpace {
             return Ok(Expansion::Halts);
         }
         self.stand();
-        self.add_all(row, found)?;
-        let is_end = self.is_end(row)?;
+        self.note(row)?;
+        let moves = self.add_all(row, found)?;
+        let is_end = self.is_end(row, moves)?;
         if self.broke.is_some() {
             return Ok(Expansion::Halts);
         }

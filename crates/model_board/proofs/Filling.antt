@@ -15,7 +15,7 @@ use Rattle.model_board.specs.Events.{Event, Turn, Refused, Wake, Cut, PowerOn, D
 use Rattle.model_board.specs.Maps.{Map, Keeps, Local}
 use Rattle.model_board.specs.Registers.{with_register, machine_holding, board_holding, IsUnread, TurnUnread, TurnsUnread, EventUnread, KnowsHart, MovesPc}
 use Rattle.model_board.specs.LeftOut.{LEFT_OUT, PROBE, IsLeftOut, Filled, StandsFor, ReadsNone, HartFor, LifeFor, held_at, IsProbed, AreProbed}
-use Rattle.model_board.proofs.Once.{one_event}
+use Rattle.model_board.proofs.Once.{event_determines_board}
 use Rattle.model_board.proofs.Swaps.{IsOneTurn, turns, one}
 use Rattle.model_board.proofs.UnreadEvents.{event_unread, other_turns, own_hart, other_hart}
 use Rattle.model_board.proofs.UnreadTouches.{keeps_unread, local_unread}
@@ -206,10 +206,10 @@ module _ (law : HasOne) (single : IsOneTurn) (payload : List ℕ) (size : Size) 
       let kept_c : Board = board_holding h k x c in
       ⊎_elim
       (λ again.
-      let same : c ≡ board_holding h k LEFT_OUT (board_holding h k x c) = one_event single payload size e b c _ did (subst (λ (a : Board). Does payload size e a (board_holding h k LEFT_OUT (board_holding h k x c))) back again) in
+      let same : c ≡ board_holding h k LEFT_OUT (board_holding h k x c) = event_determines_board single payload size e b c _ did (subst (λ (a : Board). Does payload size e a (board_holding h k LEFT_OUT (board_holding h k x c))) back again) in
       (board_holding h k x c, kept, subst (λ (a : Board). StandsFor a (board_holding h k x c)) (sym same) (fills_set h k (not_zero h k b is) (small h k b is) (board_holding h k x c))))
       (λ again.
-      let same : c ≡ board_holding h k x c = one_event single payload size e b c _ did (subst (λ (a : Board). Does payload size e a (board_holding h k x c)) back again) in
+      let same : c ≡ board_holding h k x c = event_determines_board single payload size e b c _ did (subst (λ (a : Board). Does payload size e a (board_holding h k x c)) back again) in
       (board_holding h k x c, kept, stands_one c (board_holding h k x c) same))
       (event_unread h k LEFT_OUT law payload size e (board_holding h k x b) (board_holding h k x c) (knows_on h k x b is) (event_unread_on h k x e h k b has none) kept))
       (λ hidden. (c, hidden, stands_one c c refl))
@@ -495,8 +495,8 @@ module _ (law : HasOne) (single : IsOneTurn) (payload : List ℕ) (size : Size) 
       subst (λ (d : Board). Turns d d) (sym same) rests)
       (set_reads g k x probe.0) in
       ⊎_elim
-      (λ kept. by_set (one_event single payload size (Turn g) a b (board_holding g k x probe.0) hidden (subst (λ (d : Board). Turns d (board_holding g k x probe.0)) at kept)))
-      (λ lost. absurd (not_same (one_event single payload size (Turn g) a b probe.0 hidden (subst (λ (d : Board). Turns d probe.0) at lost))))
+      (λ kept. by_set (event_determines_board single payload size (Turn g) a b (board_holding g k x probe.0) hidden (subst (λ (d : Board). Turns d (board_holding g k x probe.0)) at kept)))
+      (λ lost. absurd (not_same (event_determines_board single payload size (Turn g) a b probe.0 hidden (subst (λ (d : Board). Turns d probe.0) at lost))))
       (event_unread g k x law payload size (Turn g) (board_holding g k PROBE b) probe.0 (knows_on g k PROBE b left) (event_unread_on g k PROBE (Turn g) g k b (knows g k b left) (none g k left)) probe.1)
     where
       again_left : (g k : ℕ) (b : Board) → IsLeftOut g k b → board_holding g k LEFT_OUT b ≡ b

@@ -65,17 +65,17 @@ one_board single granted h l c d x y =
     let e = single h l.machine x.0 y.0 x.1 y.1 x.2 y.2 in
     one_told granted h l y.0 y.1 c d (subst (λ (w : Turned). ToldBy granted h l y.0 w c) e.1 (subst (λ (m : Machine). ToldBy granted h l m x.1 c) e.0 x.3)) y.3
 
-pub one_event : IsOneTurn → (payload : List ℕ) (size : Size) (e : Event) (b c d : Board) → Does payload size e b c → Does payload size e b d → c ≡ d
-one_event single payload size (Turn h) (On l) c d x y = one_board single (not l.down) h l c d x y
-one_event single payload size (Turn h) (Off s) c d x y = x ∙ sym y
-one_event single payload size (Turn h) (Ended s) c d x y = x ∙ sym y
-one_event single payload size (Refused h down) (On l) c d x y = one_board single false h (record l { down = down }) c d x.2 y.2
-one_event single payload size (Refused h down) (Off s) c d x y = absurd x
-one_event single payload size (Refused h down) (Ended s) c d x y = absurd x
-one_event single payload size Wake (On l) c d x y = x.1 ∙ sym y.1
-one_event single payload size Wake (Off s) c d x y = absurd x
-one_event single payload size Wake (Ended s) c d x y = absurd x
-one_event single payload size Cut b c d x y = x ∙ sym y
-one_event single payload size PowerOn (On l) c d x y = absurd x
-one_event single payload size PowerOn (Off s) c d x y = x ∙ sym y
-one_event single payload size PowerOn (Ended s) c d x y = absurd x
+pub event_determines_board : IsOneTurn → (payload : List ℕ) (size : Size) (e : Event) (b c d : Board) → Does payload size e b c → Does payload size e b d → c ≡ d
+event_determines_board single payload size (Turn h) (On l) c d x y = one_board single (not l.down) h l c d x y
+event_determines_board single payload size (Turn h) (Off s) c d x y = x ∙ sym y
+event_determines_board single payload size (Turn h) (Ended s) c d x y = x ∙ sym y
+event_determines_board single payload size (Refused h down) (On l) c d x y = one_board single false h (record l { down = down }) c d x.2 y.2
+event_determines_board single payload size (Refused h down) (Off s) c d x y = absurd x
+event_determines_board single payload size (Refused h down) (Ended s) c d x y = absurd x
+event_determines_board single payload size Wake (On l) c d x y = x.1 ∙ sym y.1
+event_determines_board single payload size Wake (Off s) c d x y = absurd x
+event_determines_board single payload size Wake (Ended s) c d x y = absurd x
+event_determines_board single payload size Cut b c d x y = x ∙ sym y
+event_determines_board single payload size PowerOn (On l) c d x y = absurd x
+event_determines_board single payload size PowerOn (Off s) c d x y = x ∙ sym y
+event_determines_board single payload size PowerOn (Ended s) c d x y = absurd x

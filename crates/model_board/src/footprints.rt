@@ -1,4 +1,5 @@
 //! What the next step of a hart touches.
+//! A law runs nothing, and tells the prover a fact: `word_determines_instruction`.
 
 ghost use Rattle.std.specs.Prelude.{◌≡◌, ◌≤◌, ◌<◌, ◌/◌, ◌%◌, ◌==◌, true, false};
 ghost use Rattle.hart.specs.State.{reg};
@@ -12,7 +13,7 @@ ghost use Rattle.model_board.specs.Touches.{IsOpen};
 use board_model::RAM_BASE;
 use hart::Hart;
 use ram::Ram;
-use rv_decode::{CsrNumber, FlatInstr, FlatOp, one_reading};
+use rv_decode::{CsrNumber, FlatInstr, FlatOp, word_determines_instruction};
 
 /// What the next step of a hart touches, by the hart and the memory before it. Words are numbered from the start of RAM, 8
 /// bytes each.
@@ -178,7 +179,7 @@ pub fn footprint_of(hart: &Hart, ram: &mut Ram, pending: bool) -> Footprint
     let pc = hart.pc();
     match ram.flat_instr(pc) {
         Ok(flat) => {
-            one_reading();
+            word_determines_instruction();
             with_word(touched(hart, flat), ram, (pc - RAM_BASE) / 8, opened)
         }
         Err(_) => quiet(opened, false),

@@ -1,4 +1,5 @@
 //! A durable call of the model board, where the store acknowledges what it is asked, or refuses it.
+//! A law runs nothing, and tells the prover a fact: `machine::machine_determines_turn`.
 
 ghost use Rattle.std.specs.Prelude.{◌≡◌, ◌<◌, true, false};
 ghost use Rattle.sbi_abi.specs.Calls.{call_of};
@@ -206,7 +207,7 @@ pub fn turn_refused(machine: &mut PlainMachine, hart: HartId, down: bool) -> (Se
     ensures fell { result.1 ≡ true → result.2 ≡ down }
     ensures up { result.1 ≡ false → result.2 ≡ false }
 {
-    machine::one_turn();
+    machine::machine_determines_turn();
     match machine.turn(hart) {
         Turned::Made(_) => (Settled::GoesOn, false, false),
         Turned::Durable => {

@@ -18,7 +18,7 @@ ghost use Rattle.model_board.specs.Maps.{Map, Keeps, KeepsMap, Local, SameOutsid
 /// - `keeps_own`: so does the local turn itself.
 /// - `swaps`: another event that keeps the map after the local turn leads to the same board without it, which is off, since
 ///   what the turn did is lost; or the turn is local after the event too, and both orders meet.
-pub fn one_hart_moves()
+pub fn local_turns_change_places()
     ensures turns { (payload : List ℕ) (size : Size) (map : Map) (h : ℕ) (b b' : Board) → Local map h b b'
         → Does payload size (Turn h) b b' }
     ensures one { (payload : List ℕ) (size : Size) (map : Map) (h : ℕ) (b b' c : Board) → Local map h b b'
@@ -32,15 +32,15 @@ pub fn one_hart_moves()
         → (e ≡ Turn h → ⊥) → Keeps map e b' → Does payload size e b c
         → (Does payload size e b' c × IsOff c) ⊎ ((c' : Board) × Does payload size e b' c' × Local map h c c') }
 {
-    machine::one_turn();
+    machine::machine_determines_turn();
 }
 
 /// An event leads from a board to one board at most.
-pub fn one_event()
+pub fn event_determines_board()
     ensures { (payload : List ℕ) (size : Size) (e : Event) (b c d : Board) → Does payload size e b c
         → Does payload size e b d → c ≡ d }
 {
-    machine::one_turn();
+    machine::machine_determines_turn();
 }
 
 /// What a turn that keeps a map leaves of the memory: each byte of a word that no hart may write by the map.

@@ -1,4 +1,5 @@
 //! Registers that are left out: a board stands for each that holds something else in them.
+//! A law runs nothing, and tells the prover a fact: `rv_decode::word_determines_instruction`, `machine::machine_determines_turn`.
 
 ghost use Rattle.std.specs.Prelude.{◌≡◌, ◌⊎◌, ◌<◌, ℕ, List, None, false};
 ghost use Rattle.board_model.specs.Shapes.{Size};
@@ -167,7 +168,7 @@ pub fn uses(hart: &Hart, ram: &mut Ram) -> (u32, u32)
 /// - `local`: a local turn that changes the pc is local at the other too.
 /// - `rests`: where a turn leads back to it, and leaves a probe in each register that is left out of the hart, the turn leads from the other
 ///   back to that.
-pub fn one_for_all()
+pub fn left_out_registers_change_nothing()
     ensures event { (payload : List ℕ) (size : Size) (n : ℕ) (e : Event) (b c d : Board) → Filled n b d → ReadsNone e b
         → Does payload size e b c → (f : Board) × Does payload size e d f × StandsFor c f }
     ensures back { (payload : List ℕ) (size : Size) (n : ℕ) (e : Event) (b d f : Board) → Filled n b d → ReadsNone e b
@@ -178,6 +179,6 @@ pub fn one_for_all()
     ensures rests { (payload : List ℕ) (size : Size) (n g : ℕ) (b d : Board) → Filled n b d → ReadsNone (Turn g) b
         → AreProbed g b → TurnOn g b b → TurnOn g d d }
 {
-    rv_decode::one_reading();
-    machine::one_turn();
+    rv_decode::word_determines_instruction();
+    machine::machine_determines_turn();
 }

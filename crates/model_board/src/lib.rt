@@ -17,8 +17,8 @@ mod touches;
 mod whole;
 
 pub use board::Board;
-pub use laws::{one_event, one_hart_moves, turn_outside};
-pub use left_out::{LEFT_OUT, PROBE, one_for_all};
+pub use laws::{event_determines_board, local_turns_change_places, turn_outside};
+pub use left_out::{LEFT_OUT, PROBE, left_out_registers_change_nothing};
 pub use plain::PlainMachine;
 pub use powers::{Power, Status};
 pub use registers::unread_register;

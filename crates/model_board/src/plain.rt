@@ -1,4 +1,5 @@
 //! The machine of a model board: its memory, harts and tables, which can be set and taken back.
+//! A law runs nothing, and tells the prover a fact: `hart::step_keeps_number`.
 
 ghost use Rattle.std.specs.Prelude.{◌≡◌, ◌≢◌, ◌<◌, ◌≤◌, ℕ, List, Bool, true, false, None, IfOk, OnErr, length, Err, Some, get_or, IsOk, ◌+◌, ◌*◌};
 ghost use Rattle.board_model.specs.Shapes.{ram_bytes_of};
@@ -114,7 +115,7 @@ impl PlainMachine {
         ensures turn { DoneBy (λ a b. TurnOf self.old.size a b result) hart self.old self.new }
         ensures size { self.new.size ≡ self.old.size }
     {
-        hart::one_number();
+        hart::step_keeps_number();
         whole::turn(
             &mut self.harts[hart.index()],
             &mut self.tables,

@@ -1,4 +1,5 @@
 //! Registers that a turn does not read.
+//! A law runs nothing, and tells the prover a fact: `rv_decode::word_determines_instruction`.
 
 ghost use Rattle.std.specs.Prelude.{◌⊎◌, ℕ, List};
 ghost use Rattle.board_model.specs.Shapes.{Size};
@@ -23,5 +24,5 @@ pub fn unread_register()
     ensures local { (map : Map) (h k x g : ℕ) (b c : Board) → KnowsHart h b → TurnsUnread g h k b → MovesPc g b c
         → Local map g b c → Local map g (board_holding h k x b) (board_holding h k x c) ⊎ Local map g (board_holding h k x b) c }
 {
-    rv_decode::one_reading();
+    rv_decode::word_determines_instruction();
 }

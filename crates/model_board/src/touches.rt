@@ -1,6 +1,6 @@
 //! A fixed map of which hart may read and write which word of RAM, and send an interrupt to which.
 
-ghost use Rattle.std.specs.Prelude.{◌≡◌, ◌≢◌, ℕ, true, ◌↔◌, IsTrue, OnErr, Err, slice_index};
+ghost use Rattle.std.specs.Prelude.{◌≡◌, ◌≢◌, ℕ, true, ◌↔◌, IsTrue, IfOk, OnErr, Err, slice_index};
 ghost use Rattle.board_model.specs.HartSets.{Has};
 ghost use Rattle.board_model.specs.declared.refusal.Refusal.TheVariants.{Memory};
 ghost use Rattle.model_board.specs.Maps.{WritesAlone, ReadsAlone, HearsNone};
@@ -85,6 +85,18 @@ impl TouchMap {
             readers: vec![in alloc; 0; words]?,
             writers: vec![in alloc; 0; words]?,
             senders: [0; 8],
+        })
+    }
+
+    /// The same map. Refused 11 where there is no room for it.
+    pub fn copy(&self, alloc: Global) -> Result<Self, Refusal>
+        ensures same { IfOk result (λ map. map ≡ self.now) }
+        ensures refused { OnErr result (result ≡ Err Memory) }
+    {
+        Ok(TouchMap {
+            readers: self.readers.as_slice().to_vec(alloc)?,
+            writers: self.writers.as_slice().to_vec(alloc)?,
+            senders: self.senders,
         })
     }
 

@@ -1,4 +1,5 @@
 //! One turn of a hart on plain tables.
+//! A law runs nothing, and tells the prover a fact: `hart::step_keeps_number`.
 
 ghost use Rattle.std.specs.Prelude.{◌≡◌, ◌<◌, length};
 ghost use Rattle.hart.specs.declared.Outcome.TheVariants as outcomes;
@@ -70,7 +71,7 @@ pub fn turn(hart: &mut Hart, tables: &mut PlainTables, ram: &mut Ram, shape: &Sh
         }
         Ready::Steps(pending) => {
             let outcome = hart.step(ram, pending);
-            hart::one_number();
+            hart::step_keeps_number();
             finish(outcome, hart, tables, shape)
         }
     }

@@ -10,3 +10,4 @@ pub mod Dead
 pub mod Walked
 pub mod Bounded
 pub mod Priced
+pub mod Carrying

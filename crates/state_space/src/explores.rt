@@ -6,12 +6,15 @@ ghost use Rattle.state_space.specs.Numbered.{row_width};
 ghost use Rattle.state_space.specs.Searches.{IsVerdict};
 ghost use Rattle.state_space.specs.Successors.{found_width};
 
+use crate::carries::Carries;
 use crate::found::Successors;
 use crate::graph::Graph;
 use crate::limits::{Limits, Verdict};
 use crate::refusal::Refused;
 use crate::systems::{Expansion, System};
+use crate::windows::Workers;
 use std::alloc::Global;
+use std::thread::Threads;
 
 /// Expands the next row, and answers whether the system wants to go on.
 #[inline]
@@ -48,7 +51,7 @@ fn expand_next<S: System>(
 
 /// Which limit is reached, if one is.
 #[inline]
-fn reached<S: System>(system: &S, graph: &Graph, limits: Limits) -> Option<Verdict>
+pub(crate) fn reached<S: System>(system: &S, graph: &Graph, limits: Limits) -> Option<Verdict>
     ensures { IfSome result (λ verdict. (expanded count : ℕ) → expanded < count → IsVerdict verdict expanded count) }
 {
     if limits.rows <= graph.count() {
@@ -60,10 +63,18 @@ fn reached<S: System>(system: &S, graph: &Graph, limits: Limits) -> Option<Verdi
     None
 }
 
-/// Searches a system from its start, breadth first: each row that is found is expanded once, in the order in which they are found. An
-/// `Err` is never a verdict.
-pub fn explore<S: System>(
+/// How many systems there are beside the one that is searched: none where one thread does all.
+fn workers_of(threads: usize) -> usize {
+    if threads <= 1 { 0 } else { threads }
+}
+
+/// Searches a system from its start, breadth first, by so many threads: each row that is found is expanded once, in the order in which they
+/// are found. What is found is the same by any number of threads: the limits are looked at before each row, and each thread but the first
+/// has tables of its own beside, which count to no limit. An `Err` is never a verdict.
+pub fn explore_by<R: Threads + Sync, S: Carries>(
+    rt: &R,
     alloc: Global,
+    threads: usize,
     system: &mut S,
     limits: Limits,
 ) -> Result<(Graph, Verdict), Refused>
@@ -74,6 +85,7 @@ pub fn explore<S: System>(
     let start = system.start()?;
     let mut graph = Graph::new(alloc, &start)?;
     let mut found = Successors::new(alloc, start.len());
+    let mut workers = Workers::new(alloc, system, workers_of(threads))?;
     'rows: while graph.expanded() < graph.count() {
         if let Some(verdict) = reached(system, &graph, limits) {
             return Ok((graph, verdict));
@@ -81,6 +93,7 @@ pub fn explore<S: System>(
         if !expand_next(system, &mut graph, &mut found)? {
             return Ok((graph, Verdict::Halted));
         }
+        workers.expand_window(rt, system, &mut graph, limits, &mut found)?;
     }
     Ok((graph, Verdict::Closed))
 }

@@ -1,6 +1,7 @@
 //! The search of any system of states and events.
 #![tactic(auto)]
 
+mod carries;
 mod distinct;
 mod ends;
 mod explores;
@@ -20,11 +21,14 @@ mod switched;
 mod systems;
 mod told;
 mod ways;
+mod windows;
 mod word_pool;
+mod workers;
 
+pub use carries::Carries;
 pub use distinct::Distinct;
 pub use ends::{at_end, first_dead, reaching};
-pub use explores::explore;
+pub use explores::explore_by;
 pub use found::Successors;
 pub use graph::Graph;
 pub use interner::Interner;

@@ -5,6 +5,7 @@ ghost use Rattle.state_space.specs.Bounded.{Budget, Waits};
 ghost use Rattle.state_space.specs.Successors.{found_count, found_event, found_width};
 ghost use Rattle.state_space.specs.Switched.{last_number, StandsWithin, IsPriced, AreListed, IsTold, Switched};
 
+use crate::carries::Carries;
 use crate::found::Successors;
 use crate::refusal::Refused;
 use crate::systems::{Expansion, System};
@@ -212,5 +213,34 @@ impl<S: Preempted> System for Switching<S> {
 
     fn bytes(&self) -> u64 {
         self.system.bytes()
+    }
+}
+
+impl<S: Preempted + Carries> Carries for Switching<S> {
+    type Memo = S::Memo;
+
+    fn another(&self) -> Result<Self, Refused> {
+        Ok(Switching::new(self.alloc, self.system.another()?, self.switches))
+    }
+
+    fn memo(&self) -> S::Memo {
+        self.system.memo()
+    }
+
+    #[tactic(auto, using(crate::proofs::Priced::stays_within))]
+    fn carry(
+        &mut self,
+        from: &Self,
+        memo: &mut S::Memo,
+        row: &[u32],
+        out: &mut Vec<u32>,
+    ) -> Result<(), Refused> {
+        self.system
+            .carry(&from.system, memo, &row[2..], &mut self.row)?;
+        out.clear();
+        out.push(row[0])?;
+        out.push(row[1])?;
+        out.extend_from_slice(&self.row)?;
+        Ok(())
     }
 }

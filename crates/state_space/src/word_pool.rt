@@ -1,6 +1,6 @@
 //! Slices of words, end to end.
 
-ghost use Rattle.std.specs.Prelude.{◌≡◌, ◌*◌, ◌+◌, ◌≤◌, ◌<◌, ◌-◌, ℕ, zero, suc, length, slice_range, slice_index, []};
+ghost use Rattle.std.specs.Prelude.{◌≡◌, ◌*◌, ◌+◌, ◌≤◌, ◌<◌, ◌-◌, ℕ, zero, suc, length, slice_range, slice_index, [], IfOk};
 ghost use Rattle.std.specs.Vec.{vec_len};
 ghost use Rattle.state_space.specs.Hash.{hash_from, HASH_SEED};
 ghost use Rattle.state_space.specs.Begins.{begin_of};
@@ -30,6 +30,16 @@ impl WordPool {
             words: Vec::new(alloc),
             ends: Vec::new(alloc),
         }
+    }
+
+    /// The same entries.
+    pub fn copy(&self, alloc: Global) -> Result<WordPool, Refused>
+        ensures words { IfOk result (λ pool. pool.words.items ≡ self.now.words.items) }
+        ensures ends { IfOk result (λ pool. pool.ends.items ≡ self.now.ends.items) }
+    {
+        let words = self.words.as_slice().to_vec(alloc)?;
+        let ends = self.ends.as_slice().to_vec(alloc)?;
+        Ok(WordPool { words, ends })
     }
 }
 

@@ -12,13 +12,13 @@ use Rattle.board_space.proofs.Searching.{search_few}
 use Rattle.board_space.proofs.explored.search_few.Goals as goal
 
 pub returns-clause-search : goal.returns-clause-search
-returns-clause-search c =
-    let new = c.explore-found.new.system in
-    let switches : c.explore-found.new.system.switches ≡ c.args.switches = ap (λ s. s.1) c.explore-found.ensures.setting ∙ c.new-switching.ensures.1 in
-    subst (λ (s : BoardSpace). IfOk c.explore-found.result (λ found. IsSearchOf s (Some c.args.switches) found.0)) (sym c.into_system.ensures)
-    (subst (λ (k : ℕ). IfOk c.explore-found.result (λ found. IsSearchOf c.explore-found.new.system.system (Some k) found.0)) switches
-    (ok_on c.explore-found.result
+returns-clause-search g c =
+    let new = c.explore_by-found.new.system in
+    let switches : c.explore_by-found.new.system.switches ≡ c.args.switches = ap (λ s. s.1) c.explore_by-found.ensures.setting ∙ c.new-switching.ensures.1 in
+    subst (λ (s : BoardSpace). IfOk c.explore_by-found.result (λ found. IsSearchOf s (Some c.args.switches) found.0)) (sym c.into_system.ensures)
+    (subst (λ (k : ℕ). IfOk c.explore_by-found.result (λ found. IsSearchOf c.explore_by-found.new.system.system (Some k) found.0)) switches
+    (ok_on c.explore_by-found.result
     (λ found. IsSearched (few_rules (asked_of new.system) (map_in new.system.map) new.switches) (StandsWithin (StandsAll new.system.leaves new.system.rows)) found.0)
     (λ found. IsSearchOf new.system (Some new.switches) found.0)
     (λ found searched. search_few (asked_of new.system) (map_in new.system.map) new.switches (StandsAll new.system.leaves new.system.rows) found.0 searched)
-    c.explore-found.ensures.searched))
+    c.explore_by-found.ensures.searched))

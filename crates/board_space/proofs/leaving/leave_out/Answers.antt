@@ -8,8 +8,8 @@ use Rattle.board_space.specs.Leaving.{IsLeft}
 use Rattle.board_space.proofs.LeftHarts.{left_sized}
 use Rattle.board_space.proofs.leaving.leave_out.Goals as goal
 
-pub returns-in-On-clause-stands : goal.returns-in-On-clause-stands
-returns-in-On-clause-stands c =
+pub returns-else-not-has_more-clause-stands : goal.returns-else-not-has_more-clause-stands
+returns-else-not-has_more-clause-stands c =
     let b = c.args.board.now in
     let left = c.left_out-left.result in
     let machine : c.machine.result.now ≡ c.args.board.now.machine = c.machine.ensures.machine in

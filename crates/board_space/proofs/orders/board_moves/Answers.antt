@@ -2,7 +2,7 @@ use Rattle.board_space.proofs.orders.board_moves.Goals as goal
 
 pub returns : goal.returns
 returns c =
-    let m = c.one_hart_moves.ensures in
+    let m = c.local_turns_change_places.ensures in
     record {
       turns = m.turns;
       one = m.one;

@@ -4,7 +4,7 @@ use Rattle.model_board.proofs.registers.unread_register.Goals as goal
 
 pub returns : goal.returns
 returns c =
-    let one = c.one_reading.ensures.instruction in
+    let one = c.word_determines_instruction.ensures.instruction in
     record {
       same = λ h k x payload size e b d has none y. events.event_unread h k x one payload size e b d has none y;
       keeps = λ map h k x e b has none y. touches.keeps_unread one map h k x e b has none y;

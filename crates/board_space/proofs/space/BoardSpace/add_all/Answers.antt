@@ -1,53 +1,63 @@
-use Rattle.std.proofs.Common.{◌≡◌, ◌∙◌, ℕ, sym, subst, arith}
+use Rattle.std.proofs.Common.{◌≡◌, ◌∙◌, ◌<◌, ℕ, Bool, sym, subst}
 use Rattle.model_board.specs.Boards.{Board}
+use Rattle.model_board.specs.Events.{Event}
 use Rattle.board_space.specs.Covering.{StandsAll}
-use Rattle.board_space.specs.Expanding.{IsTeller, AreTold}
-use Rattle.board_space.specs.Happenings.{event_of}
+use Rattle.board_space.specs.Expanding.{AreTold, AsksNone}
 use Rattle.board_space.specs.Mapped.{map_in}
-use Rattle.board_space.specs.OneBoard.{one_board}
 use Rattle.board_space.specs.Settings.{Setting, asked_of}
-use Rattle.board_space.specs.Space.{IsOne, KeepsEach}
-use Rattle.board_space.proofs.Moves.{told_more, told_other}
+use Rattle.board_space.specs.Space.{KeepsEach}
+use Rattle.board_space.proofs.Moves.{keeps_each}
+use Rattle.board_space.proofs.Seen.{held_on}
 use Rattle.board_space.proofs.space.BoardSpace.add_all.Goals as goal
-use Rattle.board_space.proofs.space.BoardSpace.add_all.Goals.{in-Some+in_ok-add, in_default}
 
-pub loop-number-preserved : goal.loop-number-preserved
-loop-number-preserved c =
-    let until = c.loop-number.invariant in
-    let asked = asked_of c.args.self.now in
-    let map = map_in c.args.self.now.map in
-    let leaves = c.args.self.now.leaves in
-    elim c.match-happening.branch [
-      | in-Some+in_ok-add w ↦
-          rw (w.self-is, w.found-is) (record {
-            stay = λ r b stands. w.in_ok-add.ensures.stay r b (until.stay r b stands);
-            setting = w.in_ok-add.ensures.setting ∙ until.setting;
-            width = w.in_ok-add.ensures.width ∙ until.width;
-            told = λ b stands. told_more asked map leaves (StandsAll leaves c.loop-number.self.rows) (StandsAll leaves w.add.new.self.rows) c.loop-number.found w.add.new.found b c.loop-number.number (event_of w.in-Some.happening) (λ r d x. (x.0, w.in_ok-add.ensures.stay r x.0 x.1, x.2))
-                (λ f one is. w.in-Some.ensures.only f (subst (λ (t : Setting). IsOne t.asked f) (sym until.setting) one) is)
-                (until.told b stands)
-                (subst (λ (t : Setting). IsTeller t.asked t.map t.leaves (StandsAll t.leaves w.add.new.self.rows) c.loop-number.found w.add.new.found b (event_of w.in-Some.happening)) until.setting (w.in_ok-add.ensures.teller b (until.stay c.args.row.now b stands)));
-          })
-      | in_default w ↦
-          rw (w.self-is, w.found-is) (record {
-            stay = until.stay;
-            setting = until.setting;
-            width = until.width;
-            told = λ b stands. told_other asked map leaves (StandsAll leaves c.loop-number.self.rows) (StandsAll leaves c.loop-number.self.rows) c.loop-number.found b c.loop-number.number (λ r d x. x)
-                (λ f one is. w.in_default.ensures.none f (subst (λ (t : Setting). IsOne t.asked f) (sym until.setting) one) is)
-                (until.told b stands);
-          })
-    ]
+pub add_refusals-requires-clause-known : goal.add_refusals-requires-clause-known
+add_refusals-requires-clause-known c =
+    (c.requires.known.0, c.in_ok-seen.ensures.stay c.args.row.now c.requires.known.0 c.requires.known.1)
 
-pub add-requires-clause-keeps : goal.add-requires-clause-keeps
-add-requires-clause-keeps c b stands e =
-    let until = c.loop-number.invariant in
-    let known = c.requires.known in
-    let is : known.0 ≡ b = one_board c.loop-number.self.rows c.args.row.now known.0 b (until.stay c.args.row.now known.0 known.1) stands in
-    subst (λ (t : Setting). KeepsEach t.asked t.map e b) (sym until.setting)
-    (subst (λ (d : Board). KeepsEach (asked_of c.args.self.now) (map_in c.args.self.now.map) e d) is (c.requires.keeps known.0 known.1 e))
+pub add_refusals-requires-clause-keeps : goal.add_refusals-requires-clause-keeps
+add_refusals-requires-clause-keeps c =
+    let turns = c.in_ok-seen.ensures in
+    held_on c.args.self.now.rows c.add_turns.new.self.rows c.args.row.now c.requires.known.0 (λ b. (e : Event) → KeepsEach (asked_of c.add_turns.new.self) (map_in c.add_turns.new.self.map) e b) c.requires.known.1 turns.stay
+    (λ b stands. subst (λ (t : Setting). (e : Event) → KeepsEach t.asked t.map e b) (sym turns.setting)
+    (keeps_each (asked_of c.args.self.now) (map_in c.args.self.now.map) b (λ h lt. (c.requires.keeps b stands h lt).0)))
+
+pub add_refusals-requires-clause-told : goal.add_refusals-requires-clause-told
+add_refusals-requires-clause-told c =
+    let turns = c.in_ok-seen.ensures in
+    held_on c.args.self.now.rows c.add_turns.new.self.rows c.args.row.now c.requires.known.0 (λ b. AreTold (asked_of c.add_turns.new.self) (map_in c.add_turns.new.self.map) c.add_turns.new.self.leaves (StandsAll c.add_turns.new.self.leaves c.add_turns.new.self.rows) c.add_turns.new.found b 8) c.requires.known.1 turns.stay
+    (λ b stands. subst (λ (t : Setting). AreTold t.asked t.map t.leaves (StandsAll t.leaves c.add_turns.new.self.rows) c.add_turns.new.found b 8) (sym turns.setting) (turns.told b stands))
+
+pub add_refusals-requires-clause-asks : goal.add_refusals-requires-clause-asks
+add_refusals-requires-clause-asks c is =
+    let turns = c.in_ok-seen.ensures in
+    held_on c.args.self.now.rows c.add_turns.new.self.rows c.args.row.now c.requires.known.0 (λ b. (h : ℕ) → h < 8 → AsksNone (asked_of c.add_turns.new.self) h b) c.requires.known.1 turns.stay
+    (λ b stands. subst (λ (t : Setting). (h : ℕ) → h < 8 → AsksNone t.asked h b) (sym turns.setting) (turns.asks is b stands))
+
+pub add_others-requires-clause-known : goal.add_others-requires-clause-known
+add_others-requires-clause-known c =
+    (c.requires.known.0, c.add_refusals.ensures.stay c.args.row.now c.requires.known.0 (c.in_ok-seen.ensures.stay c.args.row.now c.requires.known.0 c.requires.known.1))
+
+pub add_others-requires-clause-keeps : goal.add_others-requires-clause-keeps
+add_others-requires-clause-keeps c =
+    let turns = c.in_ok-seen.ensures in
+    let after = c.add_refusals.ensures in
+    held_on c.args.self.now.rows c.add_refusals.new.self.rows c.args.row.now c.requires.known.0 (λ b. (e : Event) → KeepsEach (asked_of c.add_refusals.new.self) (map_in c.add_refusals.new.self.map) e b) c.requires.known.1
+    (λ r b stands. after.stay r b (turns.stay r b stands))
+    (λ b stands. subst (λ (t : Setting). (e : Event) → KeepsEach t.asked t.map e b) (sym (after.setting ∙ turns.setting))
+    (keeps_each (asked_of c.args.self.now) (map_in c.args.self.now.map) b (λ h lt. (c.requires.keeps b stands h lt).0)))
+
+pub add_others-requires-clause-told : goal.add_others-requires-clause-told
+add_others-requires-clause-told c =
+    let turns = c.in_ok-seen.ensures in
+    let after = c.in_ok-add_refusals.ensures in
+    held_on c.args.self.now.rows c.add_refusals.new.self.rows c.args.row.now c.requires.known.0 (λ b. AreTold (asked_of c.add_refusals.new.self) (map_in c.add_refusals.new.self.map) c.add_refusals.new.self.leaves (StandsAll c.add_refusals.new.self.leaves c.add_refusals.new.self.rows) c.add_refusals.new.found b 24) c.requires.known.1
+    (λ r b stands. after.stay r b (turns.stay r b stands))
+    (λ b stands. subst (λ (t : Setting). AreTold t.asked t.map t.leaves (StandsAll t.leaves c.add_refusals.new.self.rows) c.add_refusals.new.found b 24) (sym after.setting)
+    (after.told b (turns.stay c.args.row.now b stands)))
 
 pub returns-clause-told : goal.returns-clause-told
 returns-clause-told c b stands =
-    let all : c.loop-number.number ≡ 27 = omega arith in
-    subst (λ (n : ℕ). AreTold (asked_of c.args.self.now) (map_in c.args.self.now.map) c.args.self.now.leaves (StandsAll c.args.self.now.leaves c.loop-number.self.rows) c.loop-number.found b n) all (c.loop-number.invariant.told b stands)
+    let turns = c.in_ok-seen.ensures in
+    let after = c.in_ok-add_refusals.ensures in
+    subst (λ (t : Setting). AreTold t.asked t.map t.leaves (StandsAll t.leaves c.add_others.new.self.rows) c.add_others.new.found b 27) (after.setting ∙ turns.setting)
+    (c.in_ok-add_others.ensures.told b (after.stay c.args.row.now b (turns.stay c.args.row.now b stands)))

@@ -56,3 +56,6 @@ returns-else-is_some-clause-goes c is b stands end =
     move_goes other.0 c.args.self.now.shape (other.3 ∙ size)
     (c.rests.ensures.moves is stands.0 (On other.0) stands.1 (subst (λ (d : Board). IsFor c.args.self.now.leaves stands.0 d) other.1 stands.2))
     (subst (λ (d : Board). IsEnd d) other.1 end)
+
+pub returns-then-moves-clause-goes : goal.returns-then-moves-clause-goes
+returns-then-moves-clause-goes c is b stands end = c.requires.moves c.if-moves.true b stands end

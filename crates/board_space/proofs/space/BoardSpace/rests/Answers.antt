@@ -62,5 +62,5 @@ returns-clause-rests c is b d stands for h e lt turn =
     let rests : TurnOn h b b = until.rests h (omega (arith, eight, few, lt)) b stands lt in
     let same = ap (λ (t : Setting). t.leaves) until.setting in
     let probes : c.args.self.now.leaves ≡ true → AreProbed h b = λ are. c.in_ok-all_probed.ensures.probed (same ∙ are) b (until.stay c.args.row.now b stands) h (subst (λ (t : Setting). h < t.asked.size.harts) (sym until.setting) lt) in
-    c.one_event.ensures [] c.args.self.now.shape (Turn h) d e d turn
+    c.event_determines_board.ensures [] c.args.self.now.shape (Turn h) d e d turn
     (rest_for c.boards_stand.ensures c.args.self.now.leaves [] c.args.self.now.shape h b d for (c.requires.keeps b stands h lt).1 probes rests)

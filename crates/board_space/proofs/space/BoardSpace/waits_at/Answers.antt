@@ -25,7 +25,7 @@ loop-turn-preserved c =
       stay = λ r b stands. by.stay r b (until.stay r b stands);
       setting = by.setting ∙ until.setting;
       turned = λ b stands. subst (λ (k : ℕ). Turns (Steps (asked_of c.args.self.now)) turn_number c.args.hart k b c.turns_back.new.self.board.board) same (made b stands);
-      away = λ b stands k low back. away_more asked few (λ e x y z p q. c.one_event.ensures asked.payload asked.size e x y z p q) h n b was now (made b stands) (by.away (cc) b (until.stay c.args.row.now b stands)) (until.away b stands) k low back;
+      away = λ b stands k low back. away_more asked few (λ e x y z p q. c.event_determines_board.ensures asked.payload asked.size e x y z p q) h n b was now (made b stands) (by.away (cc) b (until.stay c.args.row.now b stands)) (until.away b stands) k low back;
     }
 
 pub returns-then-branch-clause-waits : goal.returns-then-branch-clause-waits

@@ -1,0 +1,159 @@
+-- What was found by a system beside the one that is searched is carried over, and entered.
+use Rattle.std.proofs.Common.{◌≡◌, ⊎_elim, ℕ, ◌+◌, ◌<◌, ◌≤◌, Bool, true, false, if◌then◌else◌, List, [], ◌∷◌, ◌++◌, length, get_or, take, drop, refl, sym, ap, subst, ◌∙◌, arith}
+use Rattle.std.specs.Prelude.{All, ◌↔◌}
+use Rattle.std.proofs.lemmas.Bool.{cases_lt}
+use Rattle.std.proofs.lemmas.List.{take_at}
+use Rattle.std.proofs.lemmas.List.Elements.{All-push, All-same}
+use Rattle.state_space.specs.declared.found.Successors.{Successors}
+use Rattle.state_space.specs.declared.graph.Graph.{Graph}
+use Rattle.state_space.specs.declared.workers.Made.{Made}
+use Rattle.state_space.specs.Carried.{IsMade, IsCarried, IsLater, AreMade}
+use Rattle.state_space.specs.Graphs.{count_of, expanded_of, row_at, IsAdded, IsSearched, IsWhole}
+use Rattle.state_space.specs.Successors.{found_count, found_event, found_row}
+use Rattle.state_space.specs.Systems.{Rules, Moves, IsExpanded, Stay}
+use Rattle.state_space.proofs.Grown.{expanded_moved, searched_grown}
+use Rattle.state_space.proofs.Priced.{stays_on}
+
+pub stays_same : {State : Type 0} (a : List ℕ → State → Type 0) → Stay a a
+stays_same a r b c has = (λ x. x, λ x. x)
+
+-- one more, where memory was there
+pub pushed_each : {X : Type 0} (P : X → Type 0) (done : Bool) (before now : List X) (x : X) → now ≡ (if done then before ++ x ∷ [] else before) → All P before → P x → All P now
+pushed_each P true before now x is each here = All-same P now (before ++ x ∷ []) is (All-push P before x each here)
+pushed_each P false before now x is each here = All-same P now before is each
+
+module _ {State : Type 0} (rules : Rules State) where
+  -- ---- the other system's tables grow
+  pub made_stays : (main own own' : List ℕ → State → Type 0) (graph : Graph) (made : Made) → Stay own own' → IsMade rules main own graph made → IsMade rules main own' graph made
+  made_stays main own own' graph made stays is = record {
+    within = is.within;
+    told = λ b has. expanded_moved rules own own' (found_count made.found) (found_count made.found) (found_event made.found) (found_event made.found) (found_row made.found) (found_row made.found) b (λ r c here. (stays r c c here).0 here) refl (λ i less. refl) (λ i less. refl) (is.told b has);
+    ended = is.ended;
+  }
+
+  pub all_stay : (main own own' : List ℕ → State → Type 0) (graph : Graph) (made : List Made) → Stay own own' → All (IsMade rules main own graph) made → All (IsMade rules main own' graph) made
+  all_stay main own own' graph made stays all k d lt = made_stays main own own' graph (get_or made k d) stays (all k d lt)
+
+  -- ---- the graph and the tables of the system that is searched grow
+  pub made_later : (main main' own : List ℕ → State → Type 0) (old new : Graph) (made : Made) → IsSearched rules main old → IsLater main main' old new → IsMade rules main own old made → IsMade rules main' own new made
+  made_later main main' own old new made searched later is = record {
+    within = omega (arith, is.within, later.grown);
+    told = λ b has. is.told b (back b has);
+    ended = λ b has. is.ended b (back b has);
+  }
+    where
+      back : (b : State) → main' (row_at new made.row) b → main (row_at old made.row) b
+      back b has =
+          let known = searched.known made.row is.within in
+          (later.stays (row_at old made.row) known.0 b known.1).1 (subst (λ r. main' r b) (later.rows made.row is.within) has)
+
+  -- ---- successors are carried over
+  pub expanded_carried : (own main : List ℕ → State → Type 0) (from to : Successors) (b : State) → IsCarried own main from to (found_count from) → IsExpanded rules own (found_count from) (found_event from) (found_row from) b → IsExpanded rules main (found_count to) (found_event to) (found_row to) b
+  expanded_carried own main from to b carried is = record {
+    keeps = is.keeps;
+    complete = λ e mid did.
+        let was = is.complete e mid did in
+        (was.0, was.1, subst (λ n. was.0 < n) (sym carried.count) was.2, carried.events was.0 was.2 ∙ was.3, was.4, carried.rows was.0 was.1 was.2 was.5);
+    sound = λ i lt.
+        let less : i < found_count from = subst (λ n. i < n) carried.count lt in
+        let was = is.sound i less in
+        (was.0, subst (λ e. Moves rules e b was.0) (sym (carried.events i less)) was.1, carried.rows i was.0 less was.2);
+  }
+
+  -- each successor stands for something
+  pub made_known : (main own : List ℕ → State → Type 0) (graph : Graph) (made : Made) → IsSearched rules main graph → IsMade rules main own graph made → (i : ℕ) → i < found_count made.found → (b : State) × own (found_row made.found i) b
+  made_known main own graph made searched is i lt =
+      let known = searched.known made.row is.within in
+      let to = (is.told known.0 known.1).sound i lt in
+      (to.0, to.2)
+
+  -- ---- what was made of the next row is entered
+  module _ (main main' own : List ℕ → State → Type 0) (old new : Graph) (made : Made) (found : Successors) where
+    pub entered : Stay main main' → IsSearched rules main old → expanded_of old < count_of old → made.row ≡ expanded_of old → IsMade rules main own old made → IsCarried own main' made.found found (found_count made.found) → IsWhole new → IsAdded old new found made.is_end → IsSearched rules main' new
+    entered stays searched next is made_is carried whole added =
+        searched_grown rules main main' old new found made.is_end stays searched whole added next
+        (λ b has. expanded_carried own main' made.found found b carried (made_is.told b (subst (λ k. main (row_at old k) b) (sym is) has)))
+        (λ b has. made_is.ended b (subst (λ k. main (row_at old k) b) (sym is) has))
+
+    pub later_added : Stay main main' → IsAdded old new found made.is_end → IsLater main main' old new
+    later_added stays added = record {
+      stays = stays;
+      rows = added.rows;
+      grown = added.grown;
+      more = omega (arith, added.one);
+    }
+
+module _ {State : Type 0} where
+  pub carried_none : (own main : List ℕ → State → Type 0) (from to : Successors) → found_count to ≡ 0 → IsCarried own main from to 0
+  carried_none own main from to none = record {
+    count = none;
+    events = λ i lt. absurd (omega arith);
+    rows = λ i b lt. absurd (omega arith);
+  }
+
+  pub carried_more : (own main main' : List ℕ → State → Type 0) (from old new : Successors) (n : ℕ) (row : List ℕ)
+      → Stay main main' → n < found_count from → IsCarried own main from old n
+      → ((i : ℕ) → i < found_count from → (b : State) × own (found_row from i) b)
+      → ((b : State) → own (found_row from n) b → main' row b)
+      → found_count new ≡ found_count old + 1
+      → found_event new (found_count old) ≡ found_event from n
+      → found_row new (found_count old) ≡ row
+      → ((k : ℕ) → k < found_count old → found_event new k ≡ found_event old k)
+      → ((k : ℕ) → k < found_count old → found_row new k ≡ found_row old k)
+      → IsCarried own main' from new (n + 1)
+  carried_more own main main' from old new n row stays within was known stands counted event at events rows = record {
+    count = counted ∙ ap (λ m. m + 1) was.count;
+    events = λ i lt. ⊎_elim
+        (λ below. events i (subst (λ m. i < m) (sym was.count) below) ∙ was.events i below)
+        (λ last.
+        let is : i ≡ n = omega (arith, last, lt) in
+        let place : i ≡ found_count old = is ∙ sym was.count in
+        ap (found_event new) place ∙ (event ∙ ap (found_event from) (sym is)))
+        (cases_lt i n);
+    rows = λ i b lt has. ⊎_elim
+        (λ below.
+        let before : main (found_row old i) b = was.rows i b below has in
+        subst (λ r. main' r b) (sym (rows i (subst (λ m. i < m) (sym was.count) below))) ((stays (found_row old i) b b before).0 before))
+        (λ last.
+        let is : i ≡ n = omega (arith, last, lt) in
+        let place : found_row new i ≡ row = ap (found_row new) (is ∙ sym was.count) ∙ at in
+        subst (λ r. main' r b) (sym place) (stands b (subst (λ m. own (found_row from m) b) is has)))
+        (cases_lt i n);
+  }
+
+  -- ---- later and later
+  pub later_same : (main : List ℕ → State → Type 0) (graph : Graph) → IsLater main main graph graph
+  later_same main graph = record {
+    stays = stays_same main;
+    rows = λ k lt. refl;
+    grown = omega arith;
+    more = omega arith;
+  }
+
+  pub later_on : (a b c : List ℕ → State → Type 0) (first mid last : Graph) → IsLater a b first mid → IsLater b c mid last → IsLater a c first last
+  later_on a b c first mid last one two = record {
+    stays = stays_on a b c one.stays two.stays;
+    rows = λ k lt. two.rows k (omega (arith, lt, one.grown)) ∙ one.rows k lt;
+    grown = omega (arith, one.grown, two.grown);
+    more = omega (arith, one.more, two.more);
+  }
+
+-- ---- all that a system made
+module _ {S State Setting : Type 0} (setting : S → Setting) (rules : Setting → Rules State) (stands : S → List ℕ → State → Type 0) where
+  pub are_later : (main main' : S) (old new : Graph) (system : S) (made : List Made) → setting main' ≡ setting main → IsSearched (rules (setting main)) (stands main) old → IsLater (stands main) (stands main') old new → AreMade setting rules stands main old system made → AreMade setting rules stands main' new system made
+  are_later main main' old new system made same searched later are = record {
+    alike = are.alike ∙ sym same;
+    each = λ k d lt. subst (λ t. IsMade (rules t) (stands main') (stands system) new (get_or made k d)) (sym same)
+        (made_later (rules (setting main)) (stands main) (stands main') (stands system) old new (get_or made k d) searched later (are.each k d lt));
+  }
+
+-- ---- a list is lent as a slice, and is what the slice has become
+module _ {X : Type 0} (new old items : List X) (n : ℕ) (as_many : length new ≡ length old) (value : old ≡ items) (long : n ≡ length items) where
+  put_back : take n (new ++ drop (length new) items) ≡ new
+  put_back = take_at new (drop (length new) items) n (as_many ∙ ap (λ (l : List X). length l) value ∙ sym long)
+
+  pub all_back : (P : X → Type 0) → All P new → All P (take n (new ++ drop (length new) items))
+  all_back P all = All-same P (take n (new ++ drop (length new) items)) new put_back all
+
+  pub long_back : length (take n (new ++ drop (length new) items)) ≡ length items
+  long_back = ap (λ (l : List X). length l) put_back ∙ as_many ∙ ap (λ (l : List X). length l) value

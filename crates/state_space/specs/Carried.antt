@@ -1,0 +1,32 @@
+-- What was found of rows by a system beside the one that is searched, and what it is in the numbers of that one.
+use Rattle.std.specs.Prelude.{◌≡◌, ◌↔◌, ℕ, ◌<◌, ◌≤◌, List, All, true}
+use Rattle.state_space.specs.declared.found.Successors.{Successors}
+use Rattle.state_space.specs.declared.graph.Graph.{Graph}
+use Rattle.state_space.specs.declared.workers.Made.{Made}
+use Rattle.state_space.specs.Graphs.{count_of, expanded_of, row_at}
+use Rattle.state_space.specs.Successors.{found_count, found_event, found_row}
+use Rattle.state_space.specs.Systems.{Rules, IsExpanded, Stay}
+
+-- These are the successors of a row of the graph, whose rows are those of `main`, by the tables of another system.
+pub record IsMade {State : Type 0} (rules : Rules State) (main own : List ℕ → State → Type 0) (graph : Graph) (made : Made) : Type 0 where
+  pub within : made.row < count_of graph
+  pub told : (b : State) → main (row_at graph made.row) b → IsExpanded rules own (found_count made.found) (found_event made.found) (found_row made.found) b
+  pub ended : (b : State) → main (row_at graph made.row) b → (made.is_end ≡ true) ↔ rules.is_end b
+
+-- the first so many successors are carried over: each stands for what it stood for
+pub record IsCarried {State : Type 0} (own main : List ℕ → State → Type 0) (from to : Successors) (n : ℕ) : Type 0 where
+  pub count : found_count to ≡ n
+  pub events : (i : ℕ) → i < n → found_event to i ≡ found_event from i
+  pub rows : (i : ℕ) (b : State) → i < n → own (found_row from i) b → main (found_row to i) b
+
+-- a graph with more rows: what the first ones stand for stays
+pub record IsLater {State : Type 0} (before after : List ℕ → State → Type 0) (old new : Graph) : Type 0 where
+  pub stays : Stay before after
+  pub rows : (k : ℕ) → k < count_of old → row_at new k ≡ row_at old k
+  pub grown : count_of old ≤ count_of new
+  pub more : expanded_of old ≤ expanded_of new
+
+-- A system beside `main` is of the same setting, and these are what it found of rows of the graph.
+pub record AreMade {S State Setting : Type 0} (setting : S → Setting) (rules : Setting → Rules State) (stands : S → List ℕ → State → Type 0) (main : S) (graph : Graph) (system : S) (made : List Made) : Type 0 where
+  pub alike : setting system ≡ setting main
+  pub each : All (IsMade (rules (setting main)) (stands main) (stands system) graph) made

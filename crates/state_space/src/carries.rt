@@ -1,0 +1,36 @@
+//! Systems that carry rows over from one another.
+
+use crate::refusal::Refused;
+use crate::systems::System;
+
+/// A system of which several of one setting may be at work, each with tables of its own: what a row of one stands for, a row of any other
+/// can stand for.
+pub trait Carries: System + Send + Sync {
+    ghost use Rattle.std.specs.Prelude.{◌≡◌, ℕ, List, length, IfOk};
+    ghost use Rattle.state_space.specs.Systems.{Stay};
+
+    /// What a system remembers of another one's numbers, so that a row is carried over sooner. It is no more than a guess.
+    type Memo: Send + Drop;
+
+    /// Another system of the same setting, with empty tables.
+    fn another(&self) -> Result<Self, Refused>
+        ensures { IfOk result (λ other. Self.setting other ≡ Self.setting self.now) };
+
+    /// Nothing is remembered yet.
+    fn memo(&self) -> Self::Memo;
+
+    /// Makes of a row of another system the row of this one that stands for the same, in place of what was in `out`.
+    fn carry(
+        &mut self,
+        from: &Self,
+        memo: &mut Self::Memo,
+        row: &[u32],
+        out: &mut Vec<u32>,
+    ) -> Result<(), Refused>
+        requires setting { Self.setting self.old ≡ Self.setting from.now }
+        requires known { (b : Self.State) × Self.stands from.now row.now b }
+        ensures setting { Self.setting self.new ≡ Self.setting self.old }
+        ensures stays { Stay (Self.stands self.old) (Self.stands self.new) }
+        ensures width { IfOk result (λ _. length out.new.items ≡ Self.width (Self.setting self.new)) }
+        ensures stands { IfOk result (λ _. (b : Self.State) → Self.stands from.now row.now b → Self.stands self.new out.new.items b) };
+}

@@ -1,0 +1,265 @@
+//! The rows of a window, which several systems expand side by side, and which are entered in their order.
+
+ghost use Rattle.std.specs.Prelude.{◌≡◌, ◌<◌, ◌+◌, ℕ, All, length, IfOk, OnOk, true, slice_index_or};
+ghost use Rattle.std.specs.Thread.{IsSync};
+ghost use Rattle.state_space.specs.Carried.{AreMade, IsCarried, IsLater, IsMade};
+ghost use Rattle.state_space.specs.Graphs.{IsSearched, count_of, row_at};
+ghost use Rattle.state_space.specs.Numbered.{row_width};
+ghost use Rattle.state_space.specs.Successors.{found_count, found_row, found_width};
+ghost use Rattle.state_space.specs.Systems.{Stay};
+
+use crate::carries::Carries;
+use crate::explores::reached;
+use crate::found::Successors;
+use crate::graph::Graph;
+use crate::limits::Limits;
+use crate::refusal::Refused;
+use crate::workers::{Made, Worker};
+use std::alloc::Global;
+use std::thread;
+use std::thread::Threads;
+
+/// The fewest rows that each system expands in a window, but for the last ones of it.
+const ROWS_EACH: usize = 16;
+/// The most rows that each system expands in a window.
+const MOST_EACH: usize = 1024;
+
+/// Carries successors over to the tables of another system, in place of what was found before.
+fn carry_all<S: Carries>(
+    system: &mut S,
+    from: &S,
+    memo: &mut S::Memo,
+    successors: &Successors,
+    row: &mut Vec<u32>,
+    found: &mut Successors,
+) -> Result<(), Refused>
+    requires setting { S.setting system.old ≡ S.setting from.now }
+    requires known { (i : ℕ) → i < found_count successors.now
+        → (b : S.State) × S.stands from.now (found_row successors.now i) b }
+    requires width { found_width found.old ≡ S.width (S.setting system.old) }
+    ensures setting { S.setting system.new ≡ S.setting system.old }
+    ensures stays { Stay (S.stands system.old) (S.stands system.new) }
+    ensures width { found_width found.new ≡ found_width found.old }
+    ensures carried { IfOk result (λ _. IsCarried (S.stands from.now) (S.stands system.new) successors.now found.new
+        (found_count successors.now)) }
+{
+    found.clear();
+    for index in 0..successors.count() {
+        system.carry(from, memo, successors.row(index), row)?;
+        found.push(successors.event(index), row)?;
+    }
+    Ok(())
+}
+
+/// Enters what the next row leads to, as it was made. Whether it did: not where another row is next, and not where a limit is reached.
+fn enter<S: Carries>(
+    system: &mut S,
+    graph: &mut Graph,
+    limits: Limits,
+    from: &S,
+    memo: &mut S::Memo,
+    made: &Made,
+    row: &mut Vec<u32>,
+    found: &mut Successors,
+) -> Result<bool, Refused>
+    requires setting { S.setting system.old ≡ S.setting from.now }
+    requires searched { IsSearched (S.rules (S.setting system.old)) (S.stands system.old) graph.old }
+    requires made { IsMade (S.rules (S.setting system.old)) (S.stands system.old) (S.stands from.now) graph.old made.now }
+    requires width { row_width graph.old.rows ≡ S.width (S.setting system.old) }
+    requires found_width { found_width found.old ≡ S.width (S.setting system.old) }
+    ensures setting { S.setting system.new ≡ S.setting system.old }
+    ensures searched { OnOk result (IsSearched (S.rules (S.setting system.new)) (S.stands system.new) graph.new) }
+    ensures later { OnOk result (IsLater (S.stands system.old) (S.stands system.new) graph.old graph.new) }
+    ensures width { OnOk result (row_width graph.new.rows ≡ row_width graph.old.rows) }
+    ensures found_width { found_width found.new ≡ found_width found.old }
+{
+    if made.row != graph.expanded() || reached(system, graph, limits).is_some() {
+        return Ok(false);
+    }
+    carry_all(system, from, memo, &made.found, row, found)?;
+    graph.add(found, made.is_end)?;
+    Ok(true)
+}
+
+/// Enters what a system made of its share of a window, in the order of the rows, as far as it is next and no limit is reached.
+fn enter_share<S: Carries>(
+    system: &mut S,
+    graph: &mut Graph,
+    limits: Limits,
+    worker: &Worker<S>,
+    memo: &mut S::Memo,
+    row: &mut Vec<u32>,
+    found: &mut Successors,
+) -> Result<(), Refused>
+    requires searched { IsSearched (S.rules (S.setting system.old)) (S.stands system.old) graph.old }
+    requires made { AreMade S.setting S.rules S.stands system.old graph.old worker.now.system worker.now.made.items }
+    requires width { row_width graph.old.rows ≡ S.width (S.setting system.old) }
+    requires found_width { found_width found.old ≡ S.width (S.setting system.old) }
+    ensures setting { S.setting system.new ≡ S.setting system.old }
+    ensures searched { OnOk result (IsSearched (S.rules (S.setting system.new)) (S.stands system.new) graph.new) }
+    ensures later { OnOk result (IsLater (S.stands system.old) (S.stands system.new) graph.old graph.new) }
+    ensures width { OnOk result (row_width graph.new.rows ≡ row_width graph.old.rows) }
+    ensures found_width { found_width found.new ≡ found_width found.old }
+{
+    for index in 0..worker.count() {
+        let made = worker.at(index);
+        if !enter(
+            system,
+            graph,
+            limits,
+            &worker.system,
+            memo,
+            made,
+            row,
+            found,
+        )? {
+            return Ok(());
+        }
+    }
+    Ok(())
+}
+
+/// Lets each system expand its share of a window: so many rows each, from that one on.
+fn make_shares<R: Threads + Sync, S: Carries>(
+    rt: &R,
+    system: &S,
+    graph: &Graph,
+    each: usize,
+    workers: &mut [Worker<S>],
+)
+    requires searched { IsSearched (S.rules (S.setting system.now)) (S.stands system.now) graph.now }
+    requires setting { All (λ worker. S.setting worker.system ≡ S.setting system.now) workers.old }
+    ensures many { length workers.new ≡ length workers.old }
+    ensures made { All (λ worker. AreMade S.setting S.rules S.stands system.now graph.now worker.system worker.made.items) workers.new }
+{
+    let count = workers.len();
+    if count == 0 {
+        return;
+    }
+    let first = graph.expanded();
+    thread::for_each_mut(
+        rt,
+        workers,
+        count,
+        &|index: usize, worker: &mut Worker<S>|
+            requires { (S.setting worker.old.system ≡ S.setting system.now)
+                × ((k : ℕ) → k < count_of graph.now → (b : S.State) × S.stands system.now (row_at graph.now k) b) }
+            ensures { AreMade S.setting S.rules S.stands system.entry.now graph.entry.now worker.new.system worker.new.made.items }
+        {
+            let from = index.saturating_mul(each).saturating_add(first);
+            worker.make_all(system, graph, from, from.saturating_add(each));
+        },
+    );
+}
+
+/// One of several.
+fn worker_at<S: Carries>(workers: &[Worker<S>], index: usize) -> &Worker<S>
+    requires { index < length workers.now }
+    ensures { result.now ≡ slice_index_or workers.now index result.now }
+{
+    &workers[index]
+}
+
+/// The systems beside the one that is searched.
+#[derive(Drop)]
+pub struct Workers<S: Carries> {
+    workers: Vec<Worker<S>>,
+    /// What the one that is searched remembers of the numbers of each.
+    memos: Vec<S::Memo>,
+    /// The row that was carried over last.
+    row: Vec<u32>,
+    ghost one_each: { length memos.items ≡ length workers.items },
+}
+
+impl<S: Carries> Workers<S> {
+    /// So many, of the same setting as that one.
+    pub fn new(alloc: Global, system: &S, count: usize) -> Result<Workers<S>, Refused>
+        ensures setting { IfOk result (λ all. All (λ worker. S.setting worker.system ≡ S.setting system.now) all.workers.items) }
+    {
+        let mut workers = Vec::new(alloc);
+        let mut memos = Vec::new(alloc);
+        for _ in 0..count {
+            workers.push(Worker::new(alloc, system)?)?;
+            memos.push(system.memo())?;
+        }
+        Ok(Workers {
+            workers,
+            memos,
+            row: Vec::new(alloc),
+        })
+    }
+
+    /// How many rows each expands, if so many are left: none where they are too few.
+    fn share(&self, left: usize) -> usize {
+        let count = self.workers.len();
+        if count == 0 {
+            return 0;
+        }
+        let each = (left / count).min(MOST_EACH);
+        if each < ROWS_EACH { 0 } else { each }
+    }
+
+    /// Enters what all of them made, in the order of the rows, as far as no limit is reached.
+    fn enter_all(
+        &mut self,
+        system: &mut S,
+        graph: &mut Graph,
+        limits: Limits,
+        found: &mut Successors,
+    ) -> Result<(), Refused>
+        requires searched { IsSearched (S.rules (S.setting system.old)) (S.stands system.old) graph.old }
+        requires made { All (λ worker. AreMade S.setting S.rules S.stands system.old graph.old worker.system worker.made.items)
+            self.old.workers.items }
+        requires width { row_width graph.old.rows ≡ S.width (S.setting system.old) }
+        requires found_width { found_width found.old ≡ S.width (S.setting system.old) }
+        ensures setting { S.setting system.new ≡ S.setting system.old }
+        ensures workers { self.new.workers.items ≡ self.old.workers.items }
+        ensures searched { OnOk result (IsSearched (S.rules (S.setting system.new)) (S.stands system.new) graph.new) }
+        ensures later { OnOk result (IsLater (S.stands system.old) (S.stands system.new) graph.old graph.new) }
+        ensures width { OnOk result (row_width graph.new.rows ≡ row_width graph.old.rows) }
+        ensures found_width { found_width found.new ≡ found_width found.old }
+    {
+        for index in 0..self.workers.len() {
+            let worker = worker_at(&self.workers, index);
+            enter_share(
+                system,
+                graph,
+                limits,
+                worker,
+                &mut self.memos[index],
+                &mut self.row,
+                found,
+            )?;
+        }
+        Ok(())
+    }
+
+    /// Expands the next rows, those of a window, side by side, and enters them in their order, as far as no limit is reached. What is found
+    /// is the same by any number of systems. A row at which the search halts, or that was refused memory, is left, and so are those after it.
+    pub fn expand_window<R: Threads + Sync>(
+        &mut self,
+        rt: &R,
+        system: &mut S,
+        graph: &mut Graph,
+        limits: Limits,
+        found: &mut Successors,
+    ) -> Result<(), Refused>
+        requires searched { IsSearched (S.rules (S.setting system.old)) (S.stands system.old) graph.old }
+        requires workers { All (λ worker. S.setting worker.system ≡ S.setting system.old) self.old.workers.items }
+        requires width { row_width graph.old.rows ≡ S.width (S.setting system.old) }
+        requires found_width { found_width found.old ≡ S.width (S.setting system.old) }
+        ensures setting { S.setting system.new ≡ S.setting system.old }
+        ensures workers { All (λ worker. S.setting worker.system ≡ S.setting system.new) self.new.workers.items }
+        ensures searched { OnOk result (IsSearched (S.rules (S.setting system.new)) (S.stands system.new) graph.new) }
+        ensures later { OnOk result (IsLater (S.stands system.old) (S.stands system.new) graph.old graph.new) }
+        ensures width { OnOk result (row_width graph.new.rows ≡ row_width graph.old.rows) }
+        ensures found_width { found_width found.new ≡ found_width found.old }
+    {
+        let each = self.share(graph.count() - graph.expanded());
+        if each == 0 {
+            return Ok(());
+        }
+        make_shares(rt, system, graph, each, &mut self.workers);
+        self.enter_all(system, graph, limits, found)
+    }
+}

@@ -1,0 +1,142 @@
+//! Systems beside the one that is searched, each of which expands rows of it by tables of its own.
+
+ghost use Rattle.std.specs.Prelude.{◌≡◌, ◌<◌, ℕ, All, IfOk, IfSome, length, slice_index_or};
+ghost use Rattle.state_space.specs.Carried.{IsMade};
+ghost use Rattle.state_space.specs.Graphs.{count_of, row_at};
+ghost use Rattle.state_space.specs.Systems.{Stay};
+
+use crate::carries::Carries;
+use crate::found::Successors;
+use crate::graph::Graph;
+use crate::refusal::Refused;
+use crate::systems::Expansion;
+use std::alloc::Global;
+
+/// What a row of a graph leads to, as another system's tables have it.
+#[derive(Drop)]
+pub struct Made {
+    /// The row.
+    pub(crate) row: usize,
+    /// Where it leads to, in the numbers of the system that expanded it.
+    pub(crate) found: Successors,
+    /// Whether its state is at an end.
+    pub(crate) is_end: bool,
+}
+
+/// A system beside the one that is searched, and what it found of its share of some rows.
+#[derive(Drop)]
+pub struct Worker<S: Carries> {
+    alloc: Global,
+    pub(crate) system: S,
+    /// What it remembers of the numbers of the system that is searched.
+    memo: S::Memo,
+    /// The row that was carried over last.
+    row: Vec<u32>,
+    /// What it found, in the order of the rows.
+    pub(crate) made: Vec<Made>,
+}
+
+/// Expands a row of a graph by the tables of another system. `None` where that one wants no more of the search.
+fn made_of<S: Carries>(
+    alloc: Global,
+    system: &mut S,
+    memo: &mut S::Memo,
+    row: &mut Vec<u32>,
+    main: &S,
+    graph: &Graph,
+    number: usize,
+) -> Result<Option<Made>, Refused>
+    requires within { number < count_of graph.now }
+    requires setting { S.setting system.old ≡ S.setting main.now }
+    requires known { (b : S.State) × S.stands main.now (row_at graph.now number) b }
+    ensures setting { S.setting system.new ≡ S.setting system.old }
+    ensures stays { Stay (S.stands system.old) (S.stands system.new) }
+    ensures made { IfOk result (λ found. IfSome found
+        (IsMade (S.rules (S.setting main.now)) (S.stands main.now) (S.stands system.new) graph.now)) }
+{
+    system.carry(main, memo, graph.row(number), row)?;
+    let mut found = Successors::new(alloc, row.len());
+    let is_end = match system.expand(row, &mut found)? {
+        Expansion::Halts => return Ok(None),
+        Expansion::Goes => false,
+        Expansion::Ends => true,
+    };
+    Ok(Some(Made {
+        row: number,
+        found,
+        is_end,
+    }))
+}
+
+impl<S: Carries> Worker<S> {
+    /// A system of the same setting as that one, which found nothing yet.
+    pub fn new(alloc: Global, main: &S) -> Result<Worker<S>, Refused>
+        ensures setting { IfOk result (λ worker. S.setting worker.system ≡ S.setting main.now) }
+    {
+        let system = main.another()?;
+        let memo = system.memo();
+        Ok(Worker {
+            alloc,
+            system,
+            memo,
+            row: Vec::new(alloc),
+            made: Vec::new(alloc),
+        })
+    }
+
+    /// How many rows it expanded.
+    pub fn count(&self) -> usize
+        ensures { result ≡ length self.now.made.items }
+    {
+        self.made.len()
+    }
+
+    /// What it found of one.
+    pub fn at(&self, index: usize) -> &Made
+        requires { index < length self.now.made.items }
+        ensures { result.now ≡ slice_index_or self.now.made.items index result.now }
+    {
+        &self.made[index]
+    }
+
+    /// Expands a row, and answers whether it could. It can't where its system wants no more of the search, or where memory was refused.
+    fn make(&mut self, main: &S, graph: &Graph, number: usize) -> bool
+        requires within { number < count_of graph.now }
+        requires setting { S.setting self.old.system ≡ S.setting main.now }
+        requires known { (b : S.State) × S.stands main.now (row_at graph.now number) b }
+        requires made { All (IsMade (S.rules (S.setting main.now)) (S.stands main.now) (S.stands self.old.system) graph.now)
+            self.old.made.items }
+        ensures setting { S.setting self.new.system ≡ S.setting main.now }
+        ensures made { All (IsMade (S.rules (S.setting main.now)) (S.stands main.now) (S.stands self.new.system) graph.now)
+            self.new.made.items }
+    {
+        match made_of(
+            self.alloc,
+            &mut self.system,
+            &mut self.memo,
+            &mut self.row,
+            main,
+            graph,
+            number,
+        ) {
+            Ok(Some(made)) => self.made.push(made).is_ok(),
+            _ => false,
+        }
+    }
+
+    /// Expands the rows of a graph from one up to another, in place of those before, as far as it can.
+    pub fn make_all(&mut self, main: &S, graph: &Graph, from: usize, to: usize)
+        requires setting { S.setting self.old.system ≡ S.setting main.now }
+        requires known { (k : ℕ) → k < count_of graph.now → (b : S.State) × S.stands main.now (row_at graph.now k) b }
+        ensures setting { S.setting self.new.system ≡ S.setting main.now }
+        ensures made { All (IsMade (S.rules (S.setting main.now)) (S.stands main.now) (S.stands self.new.system) graph.now)
+            self.new.made.items }
+    {
+        self.made.clear();
+        for number in from..to.min(graph.count()) {
+            if !self.make(main, graph, number) {
+                return;
+            }
+        }
+    }
+}
