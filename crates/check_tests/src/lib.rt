@@ -4,4 +4,8 @@
 #[cfg(test)]
 mod faulty;
 #[cfg(test)]
+mod kinds;
+#[cfg(test)]
+mod threads;
+#[cfg(test)]
 mod verdicts;

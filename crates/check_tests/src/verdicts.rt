@@ -4,6 +4,7 @@ use kernel_check::{Stop, Verdict, check_bytes, options_of};
 use std::alloc::Global;
 use std::process::Abort;
 use std::str;
+use std::thread::Threads;
 
 /// `j .`
 const RESTS: [u8; 4] = [0x6f, 0x00, 0x00, 0x00];
@@ -43,7 +44,18 @@ struct Case {
     told: &'static str,
 }
 
-static CASES: [Case; 7] = [
+static CASES: [Case; 8] = [
+    Case {
+        kernel: &RESTS,
+        words: &["sbicheck", "rests", "--look", "0x80000000:4"],
+        verdict: Verdict::Blank,
+        told: "\
+rests: 4 bytes at 0x80000000, 1 hart, 1 page
+own order: ends after 0 turns: 0x80000000 6f000000
+2 boards, 0 shared words, 0 images, 1 end
+open: nothing was found, but nothing is looked at that the kernel writes: name some bytes with --look or --expect
+",
+    },
     Case {
         kernel: &RESTS,
         words: &["sbicheck", "rests"],
@@ -52,7 +64,7 @@ static CASES: [Case; 7] = [
 rests: 4 bytes at 0x80000000, 1 hart, 1 page
 own order: ends after 0 turns: nothing, since nothing is looked at
 2 boards, 0 shared words, 0 images, 1 end
-open: nothing was found, but nothing is looked at: name some bytes with --look or --expect
+open: nothing was found, but nothing is looked at that the kernel writes: name some bytes with --look or --expect
 ",
     },
     Case {
@@ -150,8 +162,8 @@ open: nothing was found until the search stopped at so many boards as --boards s
         words: &[
             "sbicheck",
             "rests",
-            "--look",
-            "0x80000000:4",
+            "--expect",
+            "0x80000000=6f000000",
             "--preemptions",
             "1",
             "--json",
@@ -166,11 +178,12 @@ open: nothing was found until the search stopped at so many boards as --boards s
     },
 ];
 
-/// What is told of a kernel, and the verdict.
-fn tells(rt: &impl Abort, alloc: Global, case: &Case) {
+/// What is told of a kernel, and the verdict, where so many threads search.
+fn tells<R: Abort + Threads + Sync>(rt: &R, alloc: Global, case: &Case, jobs: u32) {
     let mut out = Vec::new(alloc);
-    let options = options_of(alloc, case.words).expect(rt, "the words are right");
-    let verdict = check_bytes(alloc, &options, case.kernel, &mut out);
+    let mut options = options_of(alloc, case.words).expect(rt, "the words are right");
+    options.jobs = Some(jobs);
+    let verdict = check_bytes(rt, alloc, &options, case.kernel, &mut out);
     let told = str::from_utf8(out.as_slice()).expect(rt, "it is text");
     assert_eq!(rt; told, case.told);
     assert_eq!(rt; verdict.ok(), Some(case.verdict));
@@ -179,7 +192,8 @@ fn tells(rt: &impl Abort, alloc: Global, case: &Case) {
 #[test]
 fn each_verdict_is_told(rt: HostRuntime) {
     for case in &CASES {
-        tells(&rt, rt.alloc(), case);
+        tells(&rt, rt.alloc(), case, 1);
+        tells(&rt, rt.alloc(), case, 4);
     }
 }
 
@@ -200,7 +214,7 @@ fn an_order_is_a_script(rt: HostRuntime) {
     ];
     let mut out = Vec::new(rt.alloc());
     let options = options_of(rt.alloc(), words.as_slice()).expect(&rt, "the words are right");
-    let _verdict = check_bytes(rt.alloc(), &options, &RACES, &mut out);
+    let _verdict = check_bytes(&rt, rt.alloc(), &options, &RACES, &mut out);
     let told = str::from_utf8(out.as_slice()).expect(&rt, "it is text");
     assert!(rt; told.starts_with("board 2 1 1\npayload 0 13051000"));
     assert!(rt;

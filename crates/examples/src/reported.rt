@@ -40,7 +40,7 @@ pub enum ExampleFault {
 }
 
 /// Runs the script of that name. `Ok` where it writes just this report, which is then one that the script may
-/// have. By the law `bench_report::one_report` it is the only such one, where none of its lines says that
+/// have. By the law `bench_report::script_determines_report` it is the only such one, where none of its lines says that
 /// memory was refused, that the disk failed or that power was lost.
 pub fn compare_report<'a, C: Crew>(
     alloc: Global,

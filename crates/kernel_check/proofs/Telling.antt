@@ -1,14 +1,20 @@
 -- What is told of every order, put together.
-use Rattle.std.proofs.Common.{◌≡◌, ℕ, zero, suc, List, Bool, true, false, Option, None, Some, refl, subst}
+use Rattle.std.proofs.Common.{◌≡◌, ℕ, zero, suc, List, [], ◌∷◌, All, Bool, true, false, Option, None, Some, arith, length, refl, subst}
+use Rattle.std.proofs.lemmas.List.Elements.{All-head}
 use Rattle.model_board.specs.Boards.{Board, On, Off, Ended}
 use Rattle.board_space.specs.Few.{AskedOrders}
 use Rattle.board_space.specs.Space.{Asked}
-use Rattle.kernel_check.specs.Tells.{EveryOrder, Holds, HoldsAs, IsOnWith, Says, SaysAs}
+use Rattle.kernel_check.specs.Failures.{CanFail}
+use Rattle.kernel_check.specs.Says.{Says, SaysAs}
+use Rattle.kernel_check.specs.Tells.{EveryOrder, Holds, HoldsAs, IsOnWith}
 use Rattle.kernel_check.specs.Verdicts.{fine_by, verdict_of}
 use Rattle.kernel_check.specs.declared.facts.EndKind.{EndKind}
 use Rattle.kernel_check.specs.declared.facts.EndShown.{EndShown}
+use Rattle.kernel_check.specs.declared.facts.Failure.{Failure}
 use Rattle.kernel_check.specs.declared.facts.Stop.{Stop}
 use Rattle.kernel_check.specs.declared.facts.Verdict.{Verdict}
+use Rattle.kernel_check.specs.declared.facts.Verdict.TheVariants as verdicts
+use Rattle.kernel_check.specs.declared.given.FailureKind.{FailureKind}
 use Rattle.kernel_check.specs.declared.looks.Look.{Look}
 
 on_both : (P Q R : List ℕ → Type 0) → ((memory : List ℕ) → P memory → Q memory → R memory) → (b : Board)
@@ -30,12 +36,16 @@ fine_says : (switches : Option ℕ) (asked : Asked) (looks : List Look) (kinds :
 fine_says None asked looks kinds holds = holds
 fine_says (Some k) asked looks kinds holds = holds
 
-pub verdict_says : (n : ℕ) (stop : Option Stop) (shows told : Bool) (orders : AskedOrders) (looks : List Look) (kinds : List EndKind) → (told ≡ true → HoldsAs orders looks kinds) → SaysAs (verdict_of n stop shows told orders.switches) orders.asked looks kinds
-verdict_says (suc n) stop shows told orders looks kinds holds = tt
-verdict_says zero (Some stop) shows told orders looks kinds holds = tt
-verdict_says zero None false told orders looks kinds holds = tt
-verdict_says zero None true true orders looks kinds holds = fine_says orders.switches orders.asked looks kinds (holds refl)
-verdict_says zero None true false orders looks kinds holds = tt
+-- what is said where failures are told, each of which can come, or none
+pub verdict_says : (failures : List Failure) (n : ℕ) (stop : Option Stop) (shows told : Bool) (orders : AskedOrders) (looks : List Look) (kinds : List EndKind)
+    → n ≡ length failures → All (λ f. CanFail f.kind orders.asked looks) failures → (told ≡ true → HoldsAs orders looks kinds)
+    → SaysAs (verdict_of n stop shows told orders.switches) orders.asked looks kinds
+verdict_says [] (suc n) stop shows told orders looks kinds e come holds = absurd (omega (arith, e))
+verdict_says (f ∷ fs) (suc n) stop shows told orders looks kinds e come holds = (f.kind, All-head (λ (g : Failure). CanFail g.kind orders.asked looks) f fs come)
+verdict_says failures zero (Some stop) shows told orders looks kinds e come holds = tt
+verdict_says failures zero None false told orders looks kinds e come holds = tt
+verdict_says failures zero None true true orders looks kinds e come holds = fine_says orders.switches orders.asked looks kinds (holds refl)
+verdict_says failures zero None true false orders looks kinds e come holds = tt
 
 -- where it says that nothing is wrong
 pub says_fine : (switches : Option ℕ) (verdict : Verdict) (asked : Asked) (looks : List Look) → verdict ≡ fine_by switches → Says verdict asked looks → (end : EndShown) × Holds (record { asked = asked; switches = switches }) looks end
@@ -45,3 +55,7 @@ says_fine None verdict asked looks is says =
 says_fine (Some k) verdict asked looks is says =
     let told = subst (λ (v : Verdict). SaysAs v asked looks says.0) is says.1 in
     (told.0.shown, told.2)
+
+-- where it says that a failure was found
+pub says_found : (verdict : Verdict) (asked : Asked) (looks : List Look) → verdict ≡ verdicts.Found → Says verdict asked looks → (kind : FailureKind) × CanFail kind asked looks
+says_found verdict asked looks is says = subst (λ (v : Verdict). SaysAs v asked looks says.0) is says.1

@@ -1,14 +1,16 @@
--- What a command line asks of a kernel, and what the verdict that nothing is wrong says of it. Source: docs/CHECKING.md.
+-- What a command line asks of a kernel, and what the verdict says of it. Source: docs/CHECKING.md.
 use Rattle.std.specs.Prelude.{◌≡◌, ◌≤◌, ℕ, List, Option, None, Some, IfSome, length}
 use Rattle.board_model.specs.Shapes.{Size, IsSize, ram_bytes_of}
 use Rattle.board_space.specs.Space.{Asked}
 use Rattle.elf_image.specs.declared.kernel_file.Elf.{Elf}
+use Rattle.kernel_check.specs.Failures.{CanFail}
 use Rattle.kernel_check.specs.Kernels.{IsKernelFile}
 use Rattle.kernel_check.specs.Looks.{AreLooks}
 use Rattle.kernel_check.specs.Shown.{AreIn}
 use Rattle.kernel_check.specs.Tells.{Holds}
 use Rattle.kernel_check.specs.declared.facts.EndShown.{EndShown}
 use Rattle.kernel_check.specs.declared.given.CheckOptions.{CheckOptions}
+use Rattle.kernel_check.specs.declared.given.FailureKind.{FailureKind}
 use Rattle.kernel_check.specs.declared.looks.Look.{Look}
 
 -- on a board of that size, whose boot slot holds the payload
@@ -28,24 +30,32 @@ pub record IsBoard (options : CheckOptions) (size : Size) : Type 0 where
   pub lanes : size.lanes ≡ options.lanes
   pub sized : IsSize size
 
--- The kernel of a file is right by what is asked: on a board as it is asked for, each list of the events that are asked for that comes to
--- an end shows one and the same in what is looked at, as it is expected; and none comes to a board from which no end is reached. That is of
--- every order of the events, or of those in which at most so many harts are preempted.
-pub record IsRightBy (switches : Option ℕ) (options : CheckOptions) (bytes : List ℕ) : Type 0 where
+-- The kernel of a file, a board as it is asked for, and what is looked at, of which all this is told.
+pub record IsChecked (options : CheckOptions) (bytes : List ℕ) (Told : Asked → List Look → Type 0) : Type 0 where
   pub elf : Option Elf
   pub payload : List ℕ
   pub size : Size
   pub looks : List Look
-  pub end : EndShown
   pub kernel : IsKernelFile bytes elf payload
   pub board : IsBoard options size
   pub fits : length payload ≤ ram_bytes_of size
   pub looked : AreLooks elf options.looks.items looks
   pub within : AreIn (ram_bytes_of size) looks
-  pub holds : Holds (record { asked = asked_in options size payload; switches = switches }) looks end
+  pub told : Told (asked_in options size payload) looks
+
+-- It is right by what is asked: each list of the events that are asked for that comes to an end shows one and the same in what is looked
+-- at, as it is expected; and none comes to a board from which no end is reached. That is of every order of the events, or of those in
+-- which at most so many harts are preempted.
+abbrev pub IsRightBy : Option ℕ → CheckOptions → List ℕ → Type 0
+IsRightBy switches options bytes =
+    IsChecked options bytes (λ asked looks. (end : EndShown) × Holds (record { asked = asked; switches = switches }) looks end)
 
 abbrev pub IsRight : CheckOptions → List ℕ → Type 0
 IsRight = IsRightBy None
 
 abbrev pub IsRightWithin : ℕ → CheckOptions → List ℕ → Type 0
 IsRightWithin k = IsRightBy (Some k)
+
+-- It is wrong by what is asked: some list of the events that are asked for leads to a board that shows a failure.
+abbrev pub IsWrong : CheckOptions → List ℕ → Type 0
+IsWrong options bytes = IsChecked options bytes (λ asked looks. (kind : FailureKind) × CanFail kind asked looks)

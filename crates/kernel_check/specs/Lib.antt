@@ -1,7 +1,9 @@
 pub mod Asks
+pub mod Failures
 pub mod Kernels
 pub mod Looks
 pub mod Options
+pub mod Says
 pub mod Shown
 pub mod Sizes
 pub mod Tells

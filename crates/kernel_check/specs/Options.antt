@@ -89,6 +89,7 @@ pub record AreOptions (f : Found) (options : CheckOptions) : Type 0 where
   pub lanes : number_in 1 4 (first_value f (codes "lanes")) ≡ Some options.lanes
   pub boards : number_in 1 4000000000 (first_value f (codes "boards")) ≡ Some options.boards
   pub memory : memory_of (first_value f (codes "memory")) ≡ Some options.memory
+  pub jobs : IsGiven 1 64 (first_value f (codes "jobs")) options.jobs
   pub asked : IsAsked f options.asked
   pub looks : AreLooked f options.looks.items
   pub show : IsShown (first_value f (codes "show")) options.show

@@ -1,17 +1,15 @@
 -- What is told of every order. Source: docs/CHECKING.md, "What the verdict says, and what not".
-use Rattle.std.specs.Prelude.{◌≡◌, ℕ, List, [], ◌∷◌, None, Some}
+use Rattle.std.specs.Prelude.{◌≡◌, ℕ, List, [], ◌∷◌}
 use Rattle.board_model.specs.declared.durable.Reason.{Reason}
 use Rattle.model_board.specs.Boards.{Board, On, Off, Ended}
 use Rattle.model_board.specs.Events.{Event, GoesOn, IsEnd}
 use Rattle.state_space.specs.Orders.{CanEnd}
 use Rattle.board_space.specs.Few.{AskedOrders, RunsAsked}
-use Rattle.board_space.specs.Space.{Asked, Happens}
+use Rattle.board_space.specs.Space.{Happens}
 use Rattle.kernel_check.specs.Shown.{IsAsExpected, ShowsSome, looked}
 use Rattle.kernel_check.specs.declared.facts.EndKind.{EndKind}
 use Rattle.kernel_check.specs.declared.facts.EndShown.{EndShown}
 use Rattle.kernel_check.specs.declared.facts.EndShown.TheVariants as shown
-use Rattle.kernel_check.specs.declared.facts.Verdict.{Verdict}
-use Rattle.kernel_check.specs.declared.facts.Verdict.TheVariants as verdicts
 use Rattle.kernel_check.specs.declared.looks.Look.{Look}
 
 -- a board that is on, and whose memory that is so
@@ -54,22 +52,3 @@ pub record Holds (orders : AskedOrders) (looks : List Look) (end : EndShown) : T
 -- and no other kind of ends is told
 abbrev pub HoldsAs : AskedOrders → List Look → List EndKind → Type 0
 HoldsAs orders looks kinds = (kind : EndKind) × (kinds ≡ kind ∷ []) × Holds orders looks kind.shown
-
--- every order, and those in which at most so many harts are preempted
-abbrev pub all_orders : Asked → AskedOrders
-all_orders asked = record { asked = asked; switches = None }
-
-abbrev pub few_orders : ℕ → Asked → AskedOrders
-few_orders switches asked = record { asked = asked; switches = Some switches }
-
--- what a verdict says, where these kinds of ends are told
-abbrev pub SaysAs : Verdict → Asked → List Look → List EndKind → Type 0
-SaysAs verdicts.Holds asked looks kinds = HoldsAs (all_orders asked) looks kinds
-SaysAs (verdicts.Within k) asked looks kinds = HoldsAs (few_orders k asked) looks kinds
-SaysAs verdicts.Found asked looks kinds = Unit {0}
-SaysAs (verdicts.Open stop) asked looks kinds = Unit {0}
-SaysAs verdicts.Blank asked looks kinds = Unit {0}
-
--- whichever kinds are told
-abbrev pub Says : Verdict → Asked → List Look → Type 0
-Says verdict asked looks = (kinds : List EndKind) × SaysAs verdict asked looks kinds

@@ -2,15 +2,15 @@
 
 ghost use Rattle.std.specs.Prelude.{◌≡◌, ◌≤◌, ℕ, vec_len, IfOk, [], ◌∷◌};
 ghost use Rattle.board_model.specs.Shapes.{ram_bytes_of};
-ghost use Rattle.kernel_check.specs.Asks.{IsBoard, IsRight, IsRightWithin, asked_in};
+ghost use Rattle.kernel_check.specs.Asks.{IsBoard, IsRight, IsRightWithin, IsWrong, asked_in};
 ghost use Rattle.kernel_check.specs.Looks.{AreLooks, AreLooksOf, IsLookOf};
 ghost use Rattle.kernel_check.specs.Shown.{AreIn, IsIn};
-ghost use Rattle.kernel_check.specs.Tells.{Says, SaysAs};
+ghost use Rattle.kernel_check.specs.Says.{Says, SaysAs};
 
 use crate::facts::{OwnOrder, Stop, Verdict};
 use crate::faults::CheckFault;
 use crate::given::{CheckOptions, LookWord};
-use crate::help::MOST_PREEMPTIONS;
+use crate::help::{MOST_JOBS, MOST_PREEMPTIONS};
 use crate::judged::{Judged, judge};
 use crate::kernel::{Kernel, kernel_of};
 use crate::looks::{Look, look_at};
@@ -23,6 +23,7 @@ use model_board::Board;
 use state_space::{Limits, Refused};
 use std::alloc::{AllocError, Global};
 use std::io::Write;
+use std::thread::{self, Threads};
 
 /// The shape of the board that is asked for.
 fn shape_of(options: &CheckOptions, kernel: &Kernel<'_>) -> Result<Shape, Refusal>
@@ -116,6 +117,8 @@ struct Task<'a> {
     kernel: &'a Kernel<'a>,
     shape: &'a Shape,
     looks: &'a [Look],
+    /// How many threads search.
+    threads: usize,
 }
 
 impl<'a> Task<'a> {
@@ -140,7 +143,11 @@ fn own_of(task: Task<'_>) -> Result<OwnOrder, Refusal>
 }
 
 /// The search of the orders that are asked for: of every one, or of those with at most so many preemptions.
-fn searched(task: Task<'_>, switches: Option<u32>) -> Result<Explored, Refused>
+fn searched<R: Threads + Sync>(
+    rt: &R,
+    task: Task<'_>,
+    switches: Option<u32>,
+) -> Result<Explored, Refused>
     requires { vec_len task.kernel.now.payload ≤ ram_bytes_of task.shape.now }
     ensures { IfOk result (λ e. e ≡ record {
       asked = asked_in task.entry.options.now task.entry.shape.now task.entry.kernel.now.payload.items;
@@ -160,12 +167,18 @@ fn searched(task: Task<'_>, switches: Option<u32>) -> Result<Explored, Refused>
             rows: task.options.boards as usize,
             bytes: task.options.memory,
         },
+        threads: task.threads,
     };
-    explore_board(task.alloc, &question)
+    explore_board(rt, task.alloc, &question)
 }
 
 /// What is said of a kernel whose own order is that, by such a search.
-fn judged(task: Task<'_>, own: &OwnOrder, switches: Option<u32>) -> Result<Judged, Refusal>
+fn judged<R: Threads + Sync>(
+    rt: &R,
+    task: Task<'_>,
+    own: &OwnOrder,
+    switches: Option<u32>,
+) -> Result<Judged, Refusal>
     requires fits { vec_len task.kernel.now.payload ≤ ram_bytes_of task.shape.now }
     requires looks { AreIn (ram_bytes_of task.shape.now) task.looks.now }
     // Where nothing is wrong, each order that was followed ends with the one kind of ends that is told.
@@ -173,7 +186,7 @@ fn judged(task: Task<'_>, own: &OwnOrder, switches: Option<u32>) -> Result<Judge
         (asked_in task.entry.options.now task.entry.shape.now task.entry.kernel.now.payload.items)
         task.entry.looks.now judged.kinds.items) }
 {
-    let Ok(mut explored) = searched(task, switches) else {
+    let Ok(mut explored) = searched(rt, task, switches) else {
         return Err(Refusal::Memory);
     };
     judge(task.setting(), &mut explored, own, task.looks)
@@ -188,7 +201,8 @@ fn is_given_up(verdict: Verdict) -> bool {
 }
 
 /// Follows a kernel's orders with at most so many preemptions, and tells of the search, unless a script is asked for.
-fn followed<W: Write>(
+fn followed<R: Threads + Sync, W: Write>(
+    rt: &R,
     task: Task<'_>,
     own: &OwnOrder,
     switches: Option<u32>,
@@ -200,7 +214,7 @@ fn followed<W: Write>(
         (asked_in task.entry.options.now task.entry.shape.now task.entry.kernel.now.payload.items)
         task.entry.looks.now judged.kinds.items) }
 {
-    let judged = judged(task, own, switches)?;
+    let judged = judged(rt, task, own, switches)?;
     if task.options.tells_all() {
         tell_search(task.alloc, out, task.options, &judged.search)?;
         out.flush().map_err(|error| unwritten(error))?;
@@ -210,7 +224,8 @@ fn followed<W: Write>(
 
 /// Follows a kernel's orders with at most 0, 1, 2 and more preemptions, each time with the same limits, until a search is given up or finds
 /// a failure. What is said then: of the most preemptions with which nothing is wrong, or the first failure; or what was said before.
-fn followed_few<W: Write>(
+fn followed_few<R: Threads + Sync, W: Write>(
+    rt: &R,
     task: Task<'_>,
     own: &OwnOrder,
     before: Judged,
@@ -226,7 +241,7 @@ fn followed_few<W: Write>(
 {
     let mut best = before;
     for switches in 0..=MOST_PREEMPTIONS as u32 {
-        let judged = followed(task, own, Some(switches), out)?;
+        let judged = followed(rt, task, own, Some(switches), out)?;
         match judged.verdict {
             Verdict::Within(_) => best = judged,
             Verdict::Open(Stop::Switches) => {}
@@ -238,23 +253,32 @@ fn followed_few<W: Write>(
 }
 
 /// Follows the orders that are asked for; where that of every order is given up before anything was found, those with few preemptions.
-fn followed_all<W: Write>(task: Task<'_>, own: &OwnOrder, out: &mut W) -> Result<Judged, Refusal>
+fn followed_all<R: Threads + Sync, W: Write>(
+    rt: &R,
+    task: Task<'_>,
+    own: &OwnOrder,
+    out: &mut W,
+) -> Result<Judged, Refusal>
     requires fits { vec_len task.kernel.now.payload ≤ ram_bytes_of task.shape.now }
     requires looks { AreIn (ram_bytes_of task.shape.now) task.looks.now }
     ensures says { IfOk result (λ judged. SaysAs judged.verdict
         (asked_in task.entry.options.now task.entry.shape.now task.entry.kernel.now.payload.items)
         task.entry.looks.now judged.kinds.items) }
 {
-    let judged = followed(task, own, task.options.preemptions, out)?;
+    let judged = followed(rt, task, own, task.options.preemptions, out)?;
     if task.options.preemptions.is_some() || !is_given_up(judged.verdict) {
         return Ok(judged);
     }
     tell_stop(out, task.options, &judged.search)?;
-    followed_few(task, own, judged, out)
+    followed_few(rt, task, own, judged, out)
 }
 
 /// Checks a kernel, and writes what is told of it.
-fn tell_all<W: Write>(task: Task<'_>, out: &mut W) -> Result<Verdict, CheckFault>
+fn tell_all<R: Threads + Sync, W: Write>(
+    rt: &R,
+    task: Task<'_>,
+    out: &mut W,
+) -> Result<Verdict, CheckFault>
     requires fits { vec_len task.kernel.now.payload ≤ ram_bytes_of task.shape.now }
     requires looks { AreIn (ram_bytes_of task.shape.now) task.looks.now }
     // Where nothing is wrong, each order that was followed ends with the same, which is as expected.
@@ -273,7 +297,7 @@ fn tell_all<W: Write>(task: Task<'_>, out: &mut W) -> Result<Verdict, CheckFault
         tell_own(task.alloc, out, task.options, &own, task.looks)?;
         out.flush().map_err(|error| unwritten(error))?;
     }
-    let judged = followed_all(task, &own, out)?;
+    let judged = followed_all(rt, task, &own, out)?;
     if let Some(kind) = task.options.show {
         if !tell_script(
             task.alloc,
@@ -294,14 +318,26 @@ fn tell_all<W: Write>(task: Task<'_>, out: &mut W) -> Result<Verdict, CheckFault
     Ok(judged.verdict)
 }
 
+/// How many threads search: as many as were asked for, or as there are processors.
+fn threads_of<R: Threads>(rt: &R, asked: Option<u32>) -> usize {
+    match asked {
+        Some(count) => count as usize,
+        None => match thread::available_parallelism(rt) {
+            Ok(count) => count.get().min(MOST_JOBS as usize),
+            Err(_) => 1,
+        },
+    }
+}
+
 /// Checks a kernel whose file has those bytes, and writes what is told of it. Answers the verdict.
 ///
 /// It is `Holds` only where the kernel is right by what is asked: whatever turns of its harts, refusals, wakes, power cuts and power-ons
 /// come, of those that are asked for, in whatever order and number, each end shows one and the same in what is looked at, as it is
 /// expected; and from each board that they lead to, an end is reached. It is `Within` of a number only where that is so of the orders in
-/// which at most so many harts are preempted.
-#[tactic(auto, using(crate::proofs::Telling::says_fine))]
-pub fn check_bytes<W: Write>(
+/// which at most so many harts are preempted. It is `Found` only where some list of these events leads to a board that shows a failure.
+#[tactic(auto, using(crate::proofs::Telling::says_fine, crate::proofs::Telling::says_found))]
+pub fn check_bytes<R: Threads + Sync, W: Write>(
+    rt: &R,
     alloc: Global,
     options: &CheckOptions,
     bytes: &[u8],
@@ -309,6 +345,7 @@ pub fn check_bytes<W: Write>(
 ) -> Result<Verdict, CheckFault>
     ensures holds { IfOk result (λ verdict. verdict ≡ Verdict.Holds → IsRight options.now bytes.now) }
     ensures within { IfOk result (λ verdict. (k : ℕ) → verdict ≡ Verdict.Within k → IsRightWithin k options.now bytes.now) }
+    ensures found { IfOk result (λ verdict. verdict ≡ Verdict.Found → IsWrong options.now bytes.now) }
 {
     let kernel = kernel_of(alloc, bytes)?;
     let shape = shape_of(options, &kernel)?;
@@ -320,6 +357,7 @@ pub fn check_bytes<W: Write>(
         kernel: &kernel,
         shape: &shape,
         looks: looks.as_slice(),
+        threads: threads_of(rt, options.jobs),
     };
-    tell_all(task, out)
+    tell_all(rt, task, out)
 }

@@ -200,7 +200,7 @@ pub enum Verdict {
     Found,
     /// Not every order was followed, and nothing was found.
     Open(Stop),
-    /// Every order was followed, nothing was found, and nothing was looked at.
+    /// Every order was followed, nothing was found, and nothing was looked at that the kernel writes.
     Blank,
 }
 

@@ -58,6 +58,8 @@ pub struct CheckOptions {
     pub boards: u32,
     /// At how many bytes of memory one stops.
     pub memory: u64,
+    /// How many threads search, 1 to 64. Where it is not said, as many as there are processors. What is found is the same.
+    pub jobs: Option<u32>,
     /// Whether the verdict is written as lines of JSON.
     pub json: bool,
     /// Whether it is written as tests, in the Test Anything Protocol.

@@ -50,7 +50,7 @@ Status:
   2  a fault of the command line
   3  a failure was found
   4  not every order was followed, but those with so many preemptions as it says,
-     or fewer; or nothing is looked at
+     or fewer; or nothing is looked at that the kernel writes
 
 docs/CHECKING.md of the source says what the verdict means and what not, what
 blows up, and has the fields of --json; docs/REFUSALS.md the refusals.";
@@ -94,6 +94,9 @@ pub const BOARDS: &str = "boards";
 /// At how much memory it stops.
 pub const MEMORY: &str = "memory";
 
+/// How many threads search.
+pub const JOBS: &str = "jobs";
+
 /// The flag for lines of JSON.
 pub const JSON: &str = "json";
 
@@ -124,6 +127,9 @@ pub const MOST_PREEMPTIONS: u64 = 1000;
 
 /// The most boards at which a search stops.
 pub const MOST_BOARDS: u64 = 4_000_000_000;
+
+/// The most threads that search.
+pub const MOST_JOBS: u64 = 64;
 
 /// The kernel's path, which is not empty.
 fn kernel<'a>(alloc: Global) -> Arg<'a>
@@ -187,6 +193,15 @@ fn memory<'a>(alloc: Global) -> Arg<'a>
     option(alloc, MEMORY, "SIZE", help).default_value("4G")
 }
 
+/// The option with the number of threads.
+fn jobs<'a>(alloc: Global) -> Arg<'a>
+    ensures rule { rule_of result ≡ value_rule (codes "jobs") (Unsigned 1 64) }
+    ensures local { result.global ≡ false }
+{
+    let help = "How many threads search, 1 to 64; as many as there are processors if not said";
+    option(alloc, JOBS, "N", help).value_parser(ValueParser::unsigned(1, MOST_JOBS))
+}
+
 /// The command with the options of the board.
 fn with_board<'a>(alloc: Global, command: Command<'a>) -> Result<Command<'a>, AllocError>
     ensures { IfOk result (λ c. app_of c ≡ with_board (app_of command.entry)) }
@@ -222,7 +237,8 @@ fn with_bounds<'a>(alloc: Global, command: Command<'a>) -> Result<Command<'a>, A
         .arg(several(alloc, WITHOUT, "WHAT", without))?
         .arg(preemptions(alloc))?
         .arg(number(alloc, BOARDS, MOST_BOARDS, "10000000", boards))?
-        .arg(memory(alloc))
+        .arg(memory(alloc))?
+        .arg(jobs(alloc))
 }
 
 /// The command with the options that say how the verdict is written.

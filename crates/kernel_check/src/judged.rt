@@ -1,11 +1,13 @@
 //! What a search says of a kernel: its ends, and what is wrong.
 
-ghost use Rattle.std.specs.Prelude.{◌≡◌, IfOk, [], None};
+ghost use Rattle.std.specs.Prelude.{◌≡◌, All, IfOk, IfSome, [], None};
 ghost use Rattle.board_model.specs.Shapes.{ram_bytes_of};
 ghost use Rattle.kernel_check.specs.Shown.{AreIn};
-ghost use Rattle.kernel_check.specs.Tells.{SaysAs};
+ghost use Rattle.kernel_check.specs.Failures.{CanFail};
+ghost use Rattle.kernel_check.specs.Says.{SaysAs};
 ghost use Rattle.kernel_check.specs.Verdicts.{verdict_of};
 
+use crate::comes::{comes, shows_same};
 use crate::counting::counting;
 use crate::expected::is_as_expected;
 use crate::facts::{
@@ -15,11 +17,12 @@ use crate::given::FailureKind;
 use crate::looks::Look;
 use crate::own::end_shown;
 use crate::places::data_text;
+use crate::standing::{is_any_trapped, is_waited_for_ever};
 use crate::told::holds;
-use crate::walks::{Setting, is_any_trapped, is_waited_for_ever, walk_to};
+use crate::walks::{Setting, walk_to};
 use board_model::{RAM_BASE, Reason, Refusal};
 use board_space::Explored;
-use model_board::{Board, Power};
+use model_board::{Board, Power, Status};
 use std::alloc::{AllocError, Global};
 
 /// The ends of a search: those that show something, by what they show, and those that are failures by themselves.
@@ -54,15 +57,6 @@ impl Found {
         if self.first.is_none() {
             self.first = Some(row);
         }
-    }
-}
-
-/// Whether two ends show the same.
-fn shows_same(one: &EndShown, other: &EndShown) -> bool {
-    match (one, other) {
-        (EndShown::On(bytes), EndShown::On(others)) => bytes.as_slice() == others.as_slice(),
-        (EndShown::Shutdown(reason), EndShown::Shutdown(why)) => *reason == *why,
-        _ => false,
     }
 }
 
@@ -104,7 +98,7 @@ fn add_end(
     board: &Board,
     row: usize,
 ) -> Result<(), AllocError> {
-    if is_any_trapped(board, setting.shape) {
+    if is_any_trapped(board) {
         ends.traps = ends.traps.saturating_add(1);
         return Ok(());
     }
@@ -169,7 +163,7 @@ fn scan(setting: Setting<'_>, explored: &mut Explored) -> Scanned
             continue;
         }
         let board = explored.current();
-        if scan.first_trap.is_none() && is_any_trapped(board, setting.shape) {
+        if scan.first_trap.is_none() && is_any_trapped(board) {
             scan.first_trap = Some(row);
         }
         if matches!(board.rest().power, Power::Off(Some(_))) {
@@ -273,9 +267,31 @@ fn failing_rows(
     ])
 }
 
+/// Whether some hart writes bytes of a look.
+fn is_written(explored: &Explored, look: &Look) -> bool {
+    let map = explored.map();
+    let end = look.start.saturating_add(look.bytes);
+    for word in look.start / 8..end.saturating_add(7) / 8 {
+        if map.writers(word as u64) != 0 {
+            return true;
+        }
+    }
+    false
+}
+
+/// Whether bytes are looked at that some hart writes, or of which it is said what is expected.
+fn looks_at_some(explored: &Explored, looks: &[Look]) -> bool {
+    for look in looks {
+        if look.expected.is_some() || is_written(explored, look) {
+            return true;
+        }
+    }
+    false
+}
+
 /// Whether each end shows something.
-fn shows_all(kinds: &[EndKind], looks: &[Look]) -> bool {
-    if !looks.is_empty() {
+fn shows_all(explored: &Explored, kinds: &[EndKind], looks: &[Look]) -> bool {
+    if looks_at_some(explored, looks) {
         return true;
     }
     for kind in kinds {
@@ -313,6 +329,62 @@ fn verdict_of(
     }
 }
 
+/// A failure of that kind, which so many ends show, the board of this row first. None where no events lead to it, which does not happen.
+fn failure_at(
+    setting: Setting<'_>,
+    explored: &mut Explored,
+    looks: &[Look],
+    kinds: &[EndKind],
+    place: (FailureKind, usize, usize),
+) -> Result<Option<Failure>, Refusal>
+    requires { AreIn (ram_bytes_of explored.old.asked.size) looks.now }
+    ensures comes { IfOk result (λ found. IfSome found (λ failure. CanFail failure.kind explored.old.asked looks.now)) }
+    ensures same { explored.new ≡ explored.old }
+{
+    let (kind, count, row) = place;
+    let Some(walk) = walk_to(setting, explored, row)? else {
+        return Ok(None);
+    };
+    let board = &walk.board;
+    let can_come = comes(setting.alloc, explored, looks, kinds, kind, row, board)?;
+    if !can_come {
+        return Ok(None);
+    }
+    Ok(Some(Failure {
+        kind,
+        ends: count,
+        row,
+        order: walk.order,
+        harts: walk.harts,
+        is_on: walk.board.status() == Status::On,
+    }))
+}
+
+/// The failures at those places.
+fn failures_of(
+    setting: Setting<'_>,
+    explored: &mut Explored,
+    looks: &[Look],
+    kinds: &[EndKind],
+    places: [(FailureKind, usize, Option<usize>); 4],
+) -> Result<Vec<Failure>, Refusal>
+    requires { AreIn (ram_bytes_of explored.old.asked.size) looks.now }
+    ensures come { IfOk result (λ failures. All (λ f. CanFail f.kind explored.old.asked looks.now) failures.items) }
+    ensures same { explored.new ≡ explored.old }
+{
+    let mut failures = Vec::new(setting.alloc);
+    for (kind, count, row) in places {
+        let Some(row) = row else {
+            continue;
+        };
+        let place = (kind, count, row);
+        if let Some(failure) = failure_at(setting, explored, looks, kinds, place)? {
+            failures.push(failure)?;
+        }
+    }
+    Ok(failures)
+}
+
 /// Judges a kernel by a search.
 #[tactic(auto, using(crate::proofs::Telling::verdict_says))]
 pub fn judge(
@@ -322,29 +394,18 @@ pub fn judge(
     looks: &[Look],
 ) -> Result<Judged, Refusal>
     requires { AreIn (ram_bytes_of explored.old.asked.size) looks.now }
-    // Where nothing is wrong, each order that is asked for ends with the one kind of ends that is told.
+    // Where nothing is wrong, each order that is asked for ends with the one kind of ends that is told; what is found can come.
     ensures says { IfOk result (λ judged. SaysAs judged.verdict explored.old.asked looks.now judged.kinds.items) }
-    // Then no failure is told, and the search was closed.
+    // Each failure that is told can come.
+    ensures come { IfOk result (λ judged. All (λ f. CanFail f.kind explored.old.asked looks.now) judged.failures.items) }
+    // Where nothing is wrong no failure is told, and the search was closed.
     ensures clear { IfOk result (λ judged. judged.verdict ≡ Verdict.Holds → judged.failures.items ≡ []) }
     ensures closed { IfOk result (λ judged. judged.verdict ≡ Verdict.Holds → judged.search.stop ≡ None) }
 {
     let ends = ends_of(setting, explored, own, looks)?;
     let scan = scan(setting, explored);
     let rows = failing_rows(explored, &ends, scan.first_trap)?;
-    let mut failures = Vec::new(setting.alloc);
-    for (kind, count, row) in rows {
-        if let Some(row) = row {
-            let walk = walk_to(setting, explored, row)?;
-            failures.push(Failure {
-                kind,
-                ends: count,
-                row,
-                order: walk.order,
-                harts: walk.harts,
-                is_on: walk.is_on,
-            })?;
-        }
-    }
+    let failures = failures_of(setting, explored, looks, ends.kinds.as_slice(), rows)?;
     let stop = stop_of(explored);
     let preemptions = explored.switches();
     let counting = match stop {
@@ -363,7 +424,7 @@ pub fn judge(
     let verdict = verdict_of(
         failures.len(),
         stop,
-        shows_all(ends.kinds.as_slice(), looks),
+        shows_all(explored, ends.kinds.as_slice(), looks),
         holds(explored, looks, ends.kinds.as_slice())?,
         preemptions,
     );

@@ -3,6 +3,7 @@
 #![tactic(auto)]
 
 mod checks;
+mod comes;
 mod counting;
 mod expected;
 mod facts;
@@ -18,6 +19,7 @@ mod parsed;
 mod places;
 mod program;
 mod script;
+mod standing;
 mod taps;
 mod tells;
 mod texts;

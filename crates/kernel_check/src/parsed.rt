@@ -10,9 +10,9 @@ ghost use Rattle.kernel_check.specs.declared.given.LookWord.{LookWord};
 
 use crate::given::{Asked, CheckOptions, FailureKind, LookWord};
 use crate::help::{
-    BOARDS, CUTS, EXPECT, HARTS, JSON, KERNEL, LANES, LOOK, MEMORY, MOST_BOARDS, MOST_HARTS,
-    MOST_LANES, MOST_PAGES, MOST_PREEMPTIONS, PAGES, PREEMPTIONS, REASON, REFUSALS, SHOW, TAP,
-    WITHOUT, command,
+    BOARDS, CUTS, EXPECT, HARTS, JOBS, JSON, KERNEL, LANES, LOOK, MEMORY, MOST_BOARDS, MOST_HARTS,
+    MOST_JOBS, MOST_LANES, MOST_PAGES, MOST_PREEMPTIONS, PAGES, PREEMPTIONS, REASON, REFUSALS,
+    SHOW, TAP, WITHOUT, command,
 };
 use crate::words::{expect_named, failure_named, look_named, size_named};
 use board_model::Reason;
@@ -172,10 +172,11 @@ fn numbers(matches: &ArgMatches<'_>) -> Option<(u32, u32, u32, u64)>
 fn options_in(alloc: Global, matches: &ArgMatches<'_>) -> Result<Option<CheckOptions>, AllocError>
     ensures { IfOk result (λ found. IfSome found (AreOptions (found_of matches.now))) }
 {
-    let (Some(numbers), Some(pages), Some(preemptions)) = (
+    let (Some(numbers), Some(pages), Some(preemptions), Some(jobs)) = (
         numbers(matches),
         number_given(matches, PAGES, 1, MOST_PAGES),
         number_given(matches, PREEMPTIONS, 0, MOST_PREEMPTIONS),
+        number_given(matches, JOBS, 1, MOST_JOBS),
     ) else {
         return Ok(None);
     };
@@ -199,6 +200,7 @@ fn options_in(alloc: Global, matches: &ArgMatches<'_>) -> Result<Option<CheckOpt
         preemptions,
         boards,
         memory,
+        jobs,
         json: matches.get_flag(JSON),
         tap: matches.get_flag(TAP),
         show,

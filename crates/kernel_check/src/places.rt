@@ -1,13 +1,18 @@
 //! Addresses as texts, by the symbols of a kernel.
 
-use board_model::{PAGE_BYTES, RAM_BASE, Shape};
+ghost use Rattle.std.specs.Prelude.{◌≡◌, false};
+ghost use Rattle.kernel_check.specs.Failures.{IsOutside};
+
+use board_model::{RAM_BASE, Shape};
 use elf_image::Elf;
 use std::alloc::{AllocError, Global};
 use std::str;
 
 /// Whether an address is in the RAM of a board of that shape.
-pub fn is_in_ram(shape: &Shape, address: u64) -> bool {
-    RAM_BASE <= address && address - RAM_BASE < shape.pages() as u64 * PAGE_BYTES as u64
+pub fn is_in_ram(shape: &Shape, address: u64) -> bool
+    ensures { result ≡ false → IsOutside shape.now address }
+{
+    RAM_BASE <= address && address - RAM_BASE < shape.ram_bytes() as u64
 }
 
 /// The symbol of code at or before an address, and how far the address is past it.

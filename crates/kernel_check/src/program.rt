@@ -18,6 +18,7 @@ use command_line::{
 };
 use std::io::{self, BufWriter, IsTerminal, Write};
 use std::process::ExitCode;
+use std::thread::Threads;
 
 /// More bytes than the file of any kernel has: longer ones are read so far.
 const MOST_BYTES: u64 = 1 << 26;
@@ -46,7 +47,11 @@ fn no_verdict(why: NoWork) -> Result<Option<Verdict>, CheckFault> {
 }
 
 /// Checks the kernel that the options name.
-fn checked(rt: &HostRuntime, options: &CheckOptions) -> Result<Verdict, CheckFault>
+fn checked<R: Threads + Sync>(
+    rt: &HostRuntime,
+    threads: &R,
+    options: &CheckOptions,
+) -> Result<Verdict, CheckFault>
     // Of the bytes that were read, whichever they are.
     ensures holds { IfOk result (λ verdict. verdict ≡ Verdict.Holds → (bytes : List ℕ) × IsRight options.now bytes) }
     ensures within { IfOk result (λ verdict. (k : ℕ) → verdict ≡ Verdict.Within k → (bytes : List ℕ) × IsRightWithin k options.now bytes) }
@@ -55,13 +60,16 @@ fn checked(rt: &HostRuntime, options: &CheckOptions) -> Result<Verdict, CheckFau
     let Ok(mut out) = BufWriter::new(rt.alloc(), io::writer(rt)) else {
         return Err(CheckFault::from(board_model::Refusal::Memory));
     };
-    check_bytes(rt.alloc(), options, bytes.as_slice(), &mut out)
+    check_bytes(threads, rt.alloc(), options, bytes.as_slice(), &mut out)
 }
 
 /// Does what the command line asks for. None where it asks for no work.
-fn run_program(rt: &HostRuntime) -> Result<Option<Verdict>, CheckFault> {
+fn run_program<R: Threads + Sync>(
+    rt: &HostRuntime,
+    threads: &R,
+) -> Result<Option<Verdict>, CheckFault> {
     match asked(rt) {
-        Ok(options) => Ok(Some(checked(rt, &options)?)),
+        Ok(options) => Ok(Some(checked(rt, threads, &options)?)),
         Err(why) => no_verdict(why),
     }
 }
@@ -78,13 +86,13 @@ fn end<F: Write + IsTerminal>(done: &Result<Option<Verdict>, CheckFault>, faults
 }
 
 /// The whole program: checks a kernel, and tells of it on standard output, or says on standard error why not. Answers the status that
-/// docs/CHECKING.md has.
-pub fn check(rt: &HostRuntime) -> ExitCode
+/// docs/CHECKING.md has. `threads` makes the threads that search.
+pub fn check<R: Threads + Sync>(rt: &HostRuntime, threads: &R) -> ExitCode
     // The status is the one of what was done.
     ensures { (done : Result (Option AnyVerdict) AnyFault) × (exit_status result ≡ status_after done) }
 {
     let _held = hold_streams(rt);
     keep_heap(rt.alloc());
-    let done = run_program(rt);
+    let done = run_program(rt, threads);
     ExitCode::from(end(&done, &mut rt.stderr()))
 }

@@ -91,7 +91,7 @@ pub fn write_verdict<W: Write>(
         (Verdict::Blank, _) => {
             writeln!(
                 out,
-                "open: nothing was found, but nothing is looked at: name some bytes with --look or --expect"
+                "open: nothing was found, but nothing is looked at that the kernel writes: name some bytes with --look or --expect"
             )
         }
     }

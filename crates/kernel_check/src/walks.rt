@@ -1,16 +1,19 @@
 //! The order that leads to a board, told step by step.
 
-ghost use Rattle.std.specs.Prelude.{◌≡◌, ◌<◌, IfOk};
+ghost use Rattle.std.specs.Prelude.{◌≡◌, ◌<◌, IfOk, IfSome, true};
+ghost use Rattle.state_space.specs.Orders.{Leads};
+ghost use Rattle.board_space.specs.Space.{Happens, start_of};
 
 use crate::facts::{HartFacts, HartState, OrderStep, RunEnd, StoreCall, TrapFacts};
 use crate::places::{is_in_ram, place_text};
+use crate::standing::{csr, is_trapped, state_of};
 use board_model::{HartId, Refusal, Shape};
 use board_space::{Explored, Happening};
 use elf_image::Elf;
 use hart::Hart;
 use hsm::Standing;
 use model_board::{Board, Power, Status};
-use rv_decode::{CsrNumber, Reg, SCAUSE, SEPC, STVAL, STVEC};
+use rv_decode::{Reg, SCAUSE, SEPC, STVAL};
 use std::alloc::{AllocError, Global};
 
 /// What is known of the kernel and its board.
@@ -36,65 +39,8 @@ pub struct Walk {
     pub order: Vec<OrderStep>,
     /// The harts at its end.
     pub harts: Vec<HartFacts>,
-    /// Whether the board is on then.
-    pub is_on: bool,
-}
-
-/// What is read of a CSR, by its number; 0 where there is none.
-fn csr(hart: &Hart, number: u32) -> u64
-    requires { number < 4096 }
-{
-    hart.csr(CsrNumber::new(number as u16), false).unwrap_or(0)
-}
-
-/// The state of a hart.
-fn state_of(board: &Board, hart: HartId) -> HartState
-    requires { hart < board.now.size.harts }
-{
-    match board.rest().tables.states[hart.index()] {
-        Standing::Stopped => HartState::Stopped,
-        Standing::StartPending(_, _) => HartState::StartPending,
-        Standing::Started => HartState::Started,
-        Standing::Suspended => HartState::Suspended,
-    }
-}
-
-/// Whether a hart makes no instruction any more: it is started and stands outside of RAM, and each trap leads it there again.
-pub fn is_trapped(board: &Board, shape: &Shape, hart: HartId) -> bool
-    requires { hart < board.now.size.harts }
-{
-    let stands = board.machine().hart(hart);
-    board.status() == Status::On
-        && state_of(board, hart) == HartState::Started
-        && !is_in_ram(shape, stands.pc())
-        && !is_in_ram(shape, csr(stands, STVEC))
-}
-
-/// Whether a hart of the board is trapped so.
-pub fn is_any_trapped(board: &Board, shape: &Shape) -> bool {
-    for number in 0..8u64 {
-        if let Some(hart) = board.machine().shape().hart(number)
-            && is_trapped(board, shape, hart)
-        {
-            return true;
-        }
-    }
-    false
-}
-
-/// Whether harts wait for an interrupt that no hart will send: one is suspended, and none is started or about to start.
-pub fn is_waited_for_ever(board: &Board) -> bool {
-    let mut waits = false;
-    for number in 0..8u64 {
-        if let Some(hart) = board.machine().shape().hart(number) {
-            match state_of(board, hart) {
-                HartState::Suspended => waits = true,
-                HartState::Started | HartState::StartPending => return false,
-                HartState::Stopped => {}
-            }
-        }
-    }
-    waits && board.status() == Status::On
+    /// The board there.
+    pub board: Board,
 }
 
 /// What a hart at a call asks of the store: its extension stands in a7.
@@ -122,7 +68,7 @@ fn run_end(setting: Setting<'_>, board: &Board, hart: HartId) -> Result<RunEnd, 
     if rest.doze.is_some() {
         return Ok(RunEnd::Sleeps);
     }
-    if is_trapped(board, setting.shape, hart) {
+    if is_trapped(board, hart) {
         return Ok(RunEnd::Traps);
     }
     match state_of(board, hart) {
@@ -201,7 +147,7 @@ fn note_traps(traps: &mut [Option<Trap>; 8], board: &Board, shape: &Shape) {
             continue;
         };
         let place = hart.index();
-        if !is_trapped(board, shape, hart) {
+        if !is_trapped(board, hart) {
             traps[place] = None;
         } else if traps[place].is_none() {
             traps[place] = Some(trap_of(board.machine().hart(hart), shape));
@@ -301,13 +247,16 @@ fn add_run(
 }
 
 /// Adds the turns by which a board settles, which it makes.
+#[tactic(auto, using(crate::proofs::Leading::leads_none, crate::proofs::Leading::leads_on))]
 fn add_settling(
     setting: Setting<'_>,
     explored: &Explored,
     order: &mut Vec<OrderStep>,
     board: &mut Board,
 ) -> Result<(), AllocError>
-    ensures { board.new.size ≡ board.old.size }
+    requires { board.old.size ≡ explored.now.asked.size }
+    ensures leads { Leads (Happens explored.now.asked) board.old.board board.new.board }
+    ensures size { board.new.size ≡ board.old.size }
 {
     for number in 0..8u64 {
         let turns = explored.settle(board, number);
@@ -318,49 +267,69 @@ fn add_settling(
     Ok(())
 }
 
-/// Lets an event come to the board, and adds it and the turns by which the board settles.
+/// Lets an event come to the board, and adds it and the turns by which the board settles. Whether it could come.
+#[tactic(auto, using(crate::proofs::Leading::leads_once, crate::proofs::Leading::leads_on))]
 fn add_event(
     setting: Setting<'_>,
     explored: &Explored,
     order: &mut Vec<OrderStep>,
     board: &mut Board,
     event: u8,
-) -> Result<(), AllocError>
+) -> Result<bool, AllocError>
     requires { board.old.size ≡ explored.now.asked.size }
-    ensures { board.new.size ≡ board.old.size }
+    ensures leads { result ≡ Ok true → Leads (Happens explored.now.asked) board.old.board board.new.board }
+    ensures size { board.new.size ≡ board.old.size }
 {
     let Some(happening) = explored.happening(event) else {
-        return Ok(());
+        return Ok(false);
     };
     add_happening(order, board, happening)?;
-    explored.replay(board, event);
+    if !explored.replay(board, event) {
+        return Ok(false);
+    }
     if let Happening::Turn(hart) = &happening
         && hart.number() < board.machine().shape().harts()
     {
         add_run(setting, order, board, *hart, 1)?;
     }
-    add_settling(setting, explored, order, board)
+    add_settling(setting, explored, order, board)?;
+    Ok(true)
 }
 
-/// Follows a shortest way to a board that was found.
-pub fn walk_to(setting: Setting<'_>, explored: &Explored, row: usize) -> Result<Walk, Refusal> {
-    let way = match explored.way(row) {
-        Ok(Some(way)) => way,
-        Ok(None) => Vec::new(setting.alloc),
-        Err(_) => return Err(Refusal::Memory),
-    };
+/// The way to a row; an empty one where there is no such row.
+fn way_to(alloc: Global, explored: &Explored, row: usize) -> Result<Vec<u8>, Refusal> {
+    match explored.way(row) {
+        Ok(Some(way)) => Ok(way),
+        Ok(None) => Ok(Vec::new(alloc)),
+        Err(_) => Err(Refusal::Memory),
+    }
+}
+
+/// Follows a shortest way to a board that was found. None where an event of it can't come, which does not happen.
+#[tactic(auto, using(crate::proofs::Leading::leads_none, crate::proofs::Leading::leads_on))]
+pub fn walk_to(
+    setting: Setting<'_>,
+    explored: &Explored,
+    row: usize,
+) -> Result<Option<Walk>, Refusal>
+    ensures { IfOk result (λ walk. IfSome walk (λ w.
+        Leads (Happens explored.now.asked) (start_of explored.now.asked) w.board.board)) }
+{
+    let way = way_to(setting.alloc, explored, row)?;
     let Ok(mut board) = explored.first_board() else {
         return Err(Refusal::Memory);
     };
     let mut order = Vec::new(setting.alloc);
     let mut traps: [Option<Trap>; 8] = [None; 8];
     for event in way.iter() {
-        add_event(setting, explored, &mut order, &mut board, *event)?;
+        if !add_event(setting, explored, &mut order, &mut board, *event)? {
+            return Ok(None);
+        }
         note_traps(&mut traps, &board, setting.shape);
     }
-    Ok(Walk {
+    Ok(Some(Walk {
         order,
         harts: harts_facts(setting, &board, &traps)?,
-        is_on: board.status() == Status::On,
-    })
+        board,
+    }))
 }

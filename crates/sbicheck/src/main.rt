@@ -7,5 +7,5 @@ use kernel_check::check;
 use std::process::ExitCode;
 
 fn main(rt: HostRuntime) -> ExitCode {
-    check(&rt)
+    check(&rt, &rt)
 }

@@ -2,7 +2,8 @@
 //! is his goal. There is no way down but a fall, which is a failure: so who is past the third comes to no end.
 
 use state_space::{
-    Expansion, Limits, Refused, Successors, System, Verdict, at_end, explore, first_dead, way_to,
+    Carries, Expansion, Limits, Refused, Successors, System, Verdict, at_end, explore_by,
+    first_dead, way_to,
 };
 use std::alloc::Global;
 use std::test::Fail;
@@ -60,10 +61,32 @@ impl System for Climb {
     }
 }
 
+impl Carries for Climb {
+    type Memo = ();
+
+    fn another(&self) -> Result<Self, Refused> {
+        Ok(Climb { alloc: self.alloc })
+    }
+
+    fn memo(&self) {}
+
+    fn carry(
+        &mut self,
+        _from: &Self,
+        _memo: &mut (),
+        row: &[u32],
+        out: &mut Vec<u32>,
+    ) -> Result<(), Refused> {
+        out.clear();
+        out.extend_from_slice(row)?;
+        Ok(())
+    }
+}
+
 #[test]
 fn a_climb_past_its_goal_is_dead(rt: HostRuntime) -> Result<(), Fail> {
     let mut climb = Climb { alloc: rt.alloc() };
-    let (graph, verdict) = explore(rt.alloc(), &mut climb, LIMITS)?;
+    let (graph, verdict) = explore_by(&rt, rt.alloc(), 1, &mut climb, LIMITS)?;
     assert_eq!(rt; graph.count(), 6);
     assert_eq!(rt; graph.steps(), 10);
     if verdict != Verdict::Closed {
@@ -79,8 +102,10 @@ fn a_climb_past_its_goal_is_dead(rt: HostRuntime) -> Result<(), Fail> {
 #[test]
 fn a_climb_reaches_limits(rt: HostRuntime) -> Result<(), Fail> {
     let mut climb = Climb { alloc: rt.alloc() };
-    let (graph, verdict) = explore(
+    let (graph, verdict) = explore_by(
+        &rt,
         rt.alloc(),
+        1,
         &mut climb,
         Limits {
             rows: 4,
@@ -90,8 +115,10 @@ fn a_climb_reaches_limits(rt: HostRuntime) -> Result<(), Fail> {
     assert_eq!(rt; verdict, Verdict::AtRows);
     assert_eq!(rt; graph.count(), 4);
     assert_eq!(rt; graph.expanded(), 3);
-    let (_graph, verdict) = explore(
+    let (_graph, verdict) = explore_by(
+        &rt,
         rt.alloc(),
+        1,
         &mut climb,
         Limits {
             rows: 100,

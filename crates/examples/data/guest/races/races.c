@@ -218,12 +218,18 @@ void hart_main(u64 number, u64 opaque)
 }
 
 #elif RACE == 7 /* two words are read without a look whether they changed between */
+#ifndef UPDATES
+#define UPDATES 100
+#endif
+#ifndef READS
+#define READS 10
+#endif
 static volatile u64 seq, a, b, done;
 
 void kernel(u64 hart, u64 reason)
 {
     begin(1);
-    for (u64 i = 1; i <= 100; i++) {
+    for (u64 i = 1; i <= UPDATES; i++) {
         seq = 2 * i - 1;
         a = i;
         b = i;
@@ -240,7 +246,7 @@ void kernel(u64 hart, u64 reason)
 void hart_main(u64 number, u64 opaque)
 {
     u64 torn = 0;
-    for (u64 i = 0; i < 10; i++) {
+    for (u64 i = 0; i < READS; i++) {
         u64 x, y, s;
         do {
             s = seq;
@@ -262,12 +268,18 @@ void hart_main(u64 number, u64 opaque)
 }
 
 #elif RACE == 8 /* the same with a sequence number of too few bits: two whole updates must fall between two loads */
+#ifndef UPDATES
+#define UPDATES 200
+#endif
+#ifndef READS
+#define READS 40
+#endif
 static volatile u64 seq, a, b, done;
 
 void kernel(u64 hart, u64 reason)
 {
     begin(1);
-    for (u64 i = 1; i <= 200; i++) {
+    for (u64 i = 1; i <= UPDATES; i++) {
         seq = 2 * i - 1;
         a = i;
         b = i;
@@ -284,7 +296,7 @@ void kernel(u64 hart, u64 reason)
 void hart_main(u64 number, u64 opaque)
 {
     u64 torn = 0;
-    for (u64 i = 0; i < 40; i++) {
+    for (u64 i = 0; i < READS; i++) {
         u64 x, y, s;
         do {
             s = seq;

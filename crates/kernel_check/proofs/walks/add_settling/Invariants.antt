@@ -1,5 +1,10 @@
 use Rattle.std.proofs.Common.{◌≡◌}
+use Rattle.state_space.specs.Orders.{Leads}
+use Rattle.board_space.specs.Space.{Happens}
 use Rattle.kernel_check.proofs.walks.add_settling.Given as goal
 
 abbrev pub invariant-loop-number : goal.invariant-loop-number
-invariant-loop-number l = l.board.size ≡ l.initial.board.size
+invariant-loop-number l = record {
+  leads : Leads (Happens l.explored.asked) l.initial.board.board l.board.board;
+  size : l.board.size ≡ l.initial.board.size;
+}
