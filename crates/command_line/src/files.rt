@@ -3,7 +3,7 @@
 ghost use Rattle.std.specs.Prelude.{◌≡◌, ◌≤◌};
 ghost use Rattle.std.specs.IoError.{error_kind};
 ghost use Rattle.command_line.specs.Faults.{fault_of_kind, first_fault, status_after};
-ghost use Rattle.command_line.specs.Told.{fault_of};
+ghost use Rattle.command_line.specs.Told.{HasCauseOf, HasFileOf, fault_of, tells_loss};
 ghost use Rattle.command_line.specs.declared.fault.ProgramFault.TheVariants.{Refused};
 
 use crate::fault::{ProgramFault, ToldBy, file_fault, status_of};
@@ -53,7 +53,9 @@ impl FileFault {
 
     /// This fault, of a refusal that has several causes, by the words for the one.
     pub fn caused_by(self, cause: &'static str) -> FileFault
-        ensures { result.fault ≡ self.fault }
+        ensures fault { result.fault ≡ self.fault }
+        ensures file { HasFileOf result self }
+        ensures loss { tells_loss result ≡ tells_loss self }
     {
         FileFault {
             cause: Some(cause),
@@ -63,14 +65,20 @@ impl FileFault {
 
     /// This fault, and whether commands were lost by it that had been acknowledged.
     pub fn losing(self, is_loss: bool) -> FileFault
-        ensures { result.fault ≡ self.fault }
+        ensures fault { result.fault ≡ self.fault }
+        ensures cause { HasCauseOf result self }
+        ensures file { HasFileOf result self }
+        ensures loss { tells_loss result ≡ is_loss }
     {
         FileFault { is_loss, ..self }
     }
 
     /// The first of two faults, with its cause. What is told of a file is told of the later one's too.
     pub fn before(self, later: FileFault) -> FileFault
-        ensures { result.fault ≡ self.fault }
+        ensures fault { result.fault ≡ self.fault }
+        ensures cause { HasCauseOf result self }
+        ensures file { HasFileOf result later }
+        ensures loss { tells_loss result ≡ tells_loss later }
     {
         FileFault {
             fault: self.fault,

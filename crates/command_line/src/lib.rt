@@ -17,6 +17,7 @@ mod written;
 ghost use Rattle.std.specs.Prelude.{◌≡◌};
 ghost use Rattle.clap.specs.Values.{kind_of};
 ghost use Rattle.command_line.specs.Kinds.{no_work};
+ghost use Rattle.command_line.specs.declared.NoWork.TheVariants as NoWork;
 
 pub use crate::fault::{ProgramFault, ToldBy, file_fault, status_of, without_work};
 pub use crate::files::{
@@ -82,18 +83,21 @@ pub fn show(rt: &HostRuntime, text: &Error) -> NoWork
 /// second. Where nobody reads it, nothing is said of that: the status tells. Where memory was refused nothing
 /// is shown.
 pub fn show_on<O: Write, F: Write>(out: &mut O, faults: &mut F, text: &Error) -> NoWork
-    ensures { result ≡ no_work (kind_of text.now) }
+    ensures why { result ≡ no_work (kind_of text.now) }
+    ensures out { (result ≡ NoWork.Shown → ⊥) → out.new ≡ out.old }
+    ensures faults { (result ≡ NoWork.Usage → ⊥) → faults.new ≡ faults.old }
 {
-    let kind = text.kind();
-    if kind == ErrorKind::OutOfMemory {
-        return no_work(kind);
+    match no_work(text.kind()) {
+        NoWork::Shown => {
+            let _shown = write_whole(out, text);
+            NoWork::Shown
+        }
+        NoWork::Usage => {
+            let _shown = write_whole(faults, text);
+            NoWork::Usage
+        }
+        NoWork::Memory => NoWork::Memory,
     }
-    let _shown = if text.use_stderr() {
-        write_whole(faults, text)
-    } else {
-        write_whole(out, text)
-    };
-    no_work(kind)
 }
 
 /// Writes the text, and what the writer held back of it.

@@ -1,4 +1,5 @@
 //! The promises over many lives of one disk.
+//! A law runs nothing, and tells the prover a fact: `content_determines_state`.
 ghost use Rattle.std.specs.Prelude.{◌≡◌, ◌⊎◌, ℕ, List, None, Some, Ok, Result};
 ghost use Rattle.board_model.specs.Durable.{DurableState, Image, Change, Suspend, Consume, formatted, refusal_of, after, fold};
 ghost use Rattle.board_model.specs.Shapes.{Size};
@@ -14,7 +15,7 @@ ghost use Rattle.theorem.specs.Events.{Event, WasOpened, WasAcknowledged, WasDou
 ghost use Rattle.theorem.specs.Histories.{AnswersOnce, EndsCommands, HaveNoOpen, HaveNoCommand};
 
 use disk::Disk;
-use store::one_standing;
+use store::content_determines_state;
 
 /// *After a prefix of the commands, .. never resumed again.* Over all lives of a disk, whatever happens to it: the
 /// state is what the kept commands make of the formatted one, and the serials of the images that were resumed rise
@@ -42,7 +43,7 @@ pub fn opens_are_such_events<D: Disk>()
     ensures begins { (w : World) (s : DurableState) (kept : List Change) → Finds w s kept
         → Leads w (WasOpened s) (begun s) }
 {
-    one_standing();
+    content_determines_state();
 }
 
 /// What a store answers to a command (`Applied`) or a suspension (`Suspended`), where none is in doubt, is the event of that

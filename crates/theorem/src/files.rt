@@ -1,4 +1,5 @@
 //! The promises of a disk that is kept in a file.
+//! A law runs nothing, and tells the prover a fact: `content_determines_state`.
 ghost use Rattle.std.specs.Prelude.{◌≡◌, IfOk};
 ghost use Rattle.board_model.specs.Durable.{DurableState};
 ghost use Rattle.board_model.specs.Shapes.{Size};
@@ -14,7 +15,7 @@ use board_model::{Command, Refusal};
 use disk::Disk;
 use simdisk::SimDisk;
 use std::alloc::Global;
-use store::{Store, one_standing};
+use store::{Store, content_determines_state};
 
 /// *Wherever the process is killed, or its host crashes.* A disk that was just made is kept in a file, which holds it; it
 /// stands for the state s, is opened, and takes a row of commands up to the first that is not acknowledged. Then each
@@ -34,7 +35,7 @@ pub fn commands_kept_in_a_file<F: SectorFile + Drop>(
         → StandsFor (⟦<SimDisk as Disk>⟧.facts memory).content size s
         → IfKnown (F.file_facts kept.2) (KeepsCommands size s commands.now kept.0 kept.1)) }
 {
-    one_standing();
+    content_determines_state();
     let disk = FileDisk::new(alloc, memory, file)?;
     let mut store = match Store::open(alloc, disk) {
         Ok(store) => store,

@@ -4,6 +4,7 @@
 //! makes of it (board_model). `StandsFor c size s`: these bytes, as the content of a disk, are the state s, with
 //! the memory of its image (store). Of the facts of a disk, `may_leave` has each content that may be there where
 //! power fails now, and `since` each that might have been there where it failed at a moment since (disk).
+//! A law runs nothing, and tells the prover a fact: `content_determines_state`.
 ghost use Rattle.std.specs.Prelude.{◌+◌, ◌++◌, ◌<◌, ◌≤◌, ◌≡◌, ◌⊎◌, ◌↔◌, ℕ, Some, None, IfOk, MatchOption, MatchResult, length, map, take};
 ghost use Rattle.board_model.specs.Durable.{DurableState, Image, Change, Consume, after};
 ghost use Rattle.board_model.specs.Shapes.{Size};
@@ -28,7 +29,7 @@ use disk::Disk;
 use ram::Ram;
 use simdisk::{Fill, SimDisk};
 use std::alloc::Global;
-use store::{Receipt, Store, one_standing};
+use store::{Receipt, Store, content_determines_state};
 use susp::Bus;
 
 /// Issues a command.
@@ -82,7 +83,7 @@ pub fn a_cold_boot_finds_what_stands<D: Disk + Drop>(
     ensures left { IfOk result (λ store. Leaves (D.facts disk) (size_of_store store) (found_state store)) }
     ensures settled { IfOk result (λ store. LeavesOnly (disk_of store) (size_of_store store) (found_state store)) }
 {
-    one_standing();
+    content_determines_state();
     Store::open(alloc, disk)
 }
 
@@ -122,7 +123,7 @@ pub fn never_resumed_again(
         × MatchResult run.1 (λ board. ⊥) (λ e. (e.refusal ≡ Refusal.NoImage) ⊎ (e.refusal ≡ Refusal.Device)
         ⊎ (e.refusal ≡ Refusal.Memory))) }
 {
-    one_standing();
+    content_determines_state();
     let first = Board::power_on(alloc, disk, BootMode::Resume, payloads)?;
     let BoardParts {
         harts: _,

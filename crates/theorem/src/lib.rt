@@ -1,7 +1,6 @@
 //! The theorem of this repository: what is promised where power fails, in the words of docs/PROOFS.md. `headline.rt` has it of a
 //! disk and a board, `events.rt` over many lives, `scripts.rt` of scripts and their reports, `sessions.rt` of a board on threads,
-//! and `files.rt` of a disk that is kept in a file. `models.rt` ties a board to the model board, of which every order is explored.
-//! `resumes.rt` has one promise more of scripts, over the bench's whole model.
+//! and `files.rt` of a disk that is kept in a file.
 //! Each promise is a public function. A promise of a call makes the call, and its clause says what comes of it; a promise over
 //! all runs does nothing, or calls the law that carries it. So a body shows which contract below carries its promise. What a
 //! clause of a lower call says by itself does not stand here, and of one disk as a run the crate `story` has it. Nothing stands
@@ -11,8 +10,6 @@
 mod events;
 mod files;
 mod headline;
-mod models;
-mod resumes;
 mod scripts;
 mod sessions;
 
@@ -23,9 +20,7 @@ pub use files::commands_kept_in_a_file;
 pub use headline::{
     a_board_is_resumed, a_cold_boot_finds_what_stands, commands_in_a_row, never_resumed_again,
 };
-pub use models::{a_power_on_is_an_event, a_turn_is_an_event, a_wake_is_an_event};
-pub use resumes::resumed_byte_for_byte;
-pub use scripts::{a_script, a_script_in_any_spelling};
+pub use scripts::a_script;
 pub use sessions::{
     SessionSaid, a_session, a_session_answers, a_session_keeps, power_lost_between_sessions,
 };

@@ -1,7 +1,8 @@
-//! The promises of scripts and their reports.
-ghost use Rattle.std.specs.Prelude.{◌≡◌, ℕ, List, Ok, IfOk};
+//! The promise of scripts and their reports.
+//! A law runs nothing, and tells the prover a fact: `scripts_read_as_written`.
+ghost use Rattle.std.specs.Prelude.{◌≡◌, List, IfOk};
 ghost use Rattle.std.specs.Io.KnownBytes.{Appends};
-ghost use Rattle.script_lang.specs.Scripts.{script_of, Script as Said};
+ghost use Rattle.script_lang.specs.Scripts.{Script as Said};
 ghost use Rattle.script_lang.specs.Spellings.{script_text, IsWritable};
 ghost use Rattle.report_lines.specs.Texts.{report_text};
 ghost use Rattle.report_lines.specs.declared.printed.Answer.{Answer};
@@ -20,7 +21,8 @@ use std::io::Write;
 /// written is the text of answers to its lines. Where no line writes the disk past the firmware, these answers keep the prefix
 /// law (`prefix`). The disk that is left is the one that they tell of: each state that a crash may leave of it ends a history
 /// that they tell (`ends`). Where it counted no failure, each power-on found what all acknowledged commands make (`all`). The
-/// slots begin with any payloads. Which answers its lines may have at all, `a_script_and_its_report` says.
+/// slots begin with any payloads. Which answers its lines may have at all, refusals with their numbers too, [`run_left_with`]
+/// says, of the same answers and of a script in any spelling.
 pub fn a_script<C: Crew, W: Write>(
     alloc: Global,
     script: &[u8],
@@ -34,20 +36,5 @@ pub fn a_script<C: Crew, W: Write>(
         × KeepsLaws said answers (⟦<SimDisk as Disk>⟧.facts left.1)) }
 {
     scripts_read_as_written();
-    run_left_with(alloc, script, crew, payloads, out)
-}
-
-/// What comes of a script, in any spelling, is what its laws allow: the relation that reads a script says what its bytes say.
-pub fn a_script_in_any_spelling<C: Crew, W: Write>(
-    alloc: Global,
-    script: &[u8],
-    crew: &C,
-    payloads: Payloads,
-    out: &mut W,
-) -> Result<(Report, SimDisk), StoppedRun>
-    ensures { IfOk result (λ left. (said : Said) × (answers : List Answer) × (script_of script.now ≡ Ok said)
-        × Appends (W.contents out.old) (W.contents out.new) (report_text answers)
-        × KeepsLaws said answers (⟦<SimDisk as Disk>⟧.facts left.1)) }
-{
     run_left_with(alloc, script, crew, payloads, out)
 }

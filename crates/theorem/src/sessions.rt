@@ -1,4 +1,5 @@
 //! The promises of a board on threads, beside an operator's console.
+//! A law runs nothing, and tells the prover a fact: `content_determines_state`.
 ghost use Rattle.std.specs.Prelude.{◌≡◌, ◌≤◌, ℕ, List, false, None, IfOk, [], length, take};
 ghost use Rattle.board_model.specs.Durable.{Change, DurableState, fold};
 ghost use Rattle.board_model.specs.Shapes.{Size};
@@ -28,7 +29,7 @@ use std::alloc::Global;
 use std::io::{Read, Write};
 use std::sync::Wait;
 use std::thread::Threads;
-use store::{Store, one_standing};
+use store::{Store, content_determines_state};
 
 /// *Is kept what was acknowledged?* Of a session whose console was begun, over a disk whose bytes stand for the state s, whatever order
 /// harts, console and savers run in. It has one journal: what its boot issued, and then the commands that were acknowledged to the console
@@ -111,7 +112,7 @@ pub fn a_session<R: Threads + Wait + Sync, D: Disk + Drop + Send, I: Read + Drop
         × AreDriven size.harts machine options.now.turns s result.console_left result.harts.items
         × AreByLast kept.journal result.harts.items }
 {
-    one_standing();
+    content_determines_state();
     session(rt, alloc, options, disk, payloads, streams)
 }
 
@@ -141,7 +142,7 @@ pub fn a_session_cut_anywhere<
         (dialogue_ends (I.remaining streams.input) (W.contents streams.out) (party [] heard_nothing))
         (I.remaining result.streams.input) (W.contents result.streams.out) result.heard }
 {
-    one_standing();
+    content_determines_state();
     crashes_now(&disk);
     session(rt, alloc, options, disk, payloads, streams)
 }
@@ -175,7 +176,7 @@ pub fn a_session_in_a_file_cut_anywhere<
         (length (commands_by options.now.mode s)) (length cut.journal) (⟦<FileDisk<F> as Disk>⟧.facts disk).moment
         (⟦<FileDisk<F> as Disk>⟧.facts result.disk) result.moments.at) }
 {
-    one_standing();
+    content_determines_state();
     crashes_now(&disk);
     let end = session(rt, alloc, options, disk, payloads, streams);
     crashes_now(&end.disk);
@@ -205,7 +206,7 @@ pub fn an_open_finds_some_first<D: Disk + Drop>(
         → ∥ IsOfFirst size s commands least (D.facts left).content ∥₁ → IfOk result (λ next. ∥ ((k : ℕ) × (least ≤ k)
         × (k ≤ length commands) × (found_state next ≡ fold s (take k commands))) ∥₁) }
 {
-    one_standing();
+    content_determines_state();
     Store::open(alloc, left)
 }
 
@@ -246,7 +247,7 @@ pub fn power_lost_between_sessions<R: Threads + Wait + Sync, I: Read + Drop, W: 
         (dialogue_ends (I.remaining streams.input) (W.contents streams.out) (party [] heard_nothing))
         (I.remaining result.0.streams.input) (W.contents result.0.streams.out) result.0.heard (found_state next)) }
 {
-    one_standing();
+    content_determines_state();
     let SessionEnd {
         disk,
         ran,

@@ -11,7 +11,7 @@ returns-clause-down g c w life change disk size z s lived doubt either leaves = 
 pub returns-clause-under_way : goal.returns-clause-under_way
 returns-clause-under_way g c w life change old new left size z s lived calm reaches since at stands =
     under_way w life change s lived calm reaches
-    (⊎_elim (λ was. inl (c.one_standing.ensures.one left z size s _ stands was).1) (λ is. inr (c.one_standing.ensures.one left z size s _ stands is).1) (since.each left at))
+    (⊎_elim (λ was. inl (c.content_determines_state.ensures.one left z size s _ stands was).1) (λ is. inr (c.content_determines_state.ensures.one left z size s _ stands is).1) (since.each left at))
 
 pub returns-clause-begins : goal.returns-clause-begins
 returns-clause-begins g c = opened

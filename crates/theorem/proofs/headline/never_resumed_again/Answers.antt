@@ -10,7 +10,7 @@ use Rattle.theorem.proofs.headline.never_resumed_again.Goals as goal
 
 pub returns : goal.returns
 returns c =
-    let one = c.one_standing.ensures.one in
+    let one = c.content_determines_state.ensures.one in
     let on = c.in_ok-first.ensures.on in
     let given = subst (λ (f : Facts). Unchanged f (facts c.into_disk.result)) (ap disk_of c.into_parts-bus.ensures.store) c.into_disk.ensures.facts in
     let gone = c.after_cut-left.ensures.left in

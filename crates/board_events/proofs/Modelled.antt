@@ -1,5 +1,5 @@
 -- What the store answers a hart of a board, as the model board has it.
-use Rattle.std.proofs.Common.{◌≡◌, ◌∙◌, ◌⊎◌, ⊎_elim, inl, inr, ℕ, zero, suc, Bool, true, false, not, List, Option, None, Some, Result, Ok, Err, refl, sym, ap, subst, ◌<◌, ◌≤◌, length, [], ◌∷◌, arith}
+use Rattle.std.proofs.Common.{◌≡◌, ◌∙◌, ◌⊎◌, ⊎_elim, inl, inr, ℕ, zero, suc, Bool, true, false, not, List, Option, None, Some, Result, Ok, Err, refl, sym, ap, subst, ◌<◌, ◌≤◌, length, [], ◌∷◌, ◌++◌, arith}
 use Rattle.std.specs.Prelude.{IfOk, slice_set, get_or, is_some}
 use Rattle.std.proofs.lemmas.Bool.{cases_eq}
 use Rattle.std.proofs.lemmas.List.{get_or-set_other, set-get_or, length-set}
@@ -7,7 +7,7 @@ use Rattle.board.specs.Begins.{IsBegun, IsResumed}
 use Rattle.board.specs.Boots.{booted, life_after, payload_at}
 use Rattle.board.specs.Moments.{attempts_of}
 use Rattle.board.specs.PowersOn.{IsOn}
-use Rattle.board_model.specs.Durable.{DurableState, Image, Change, Reset, Suspend, after, attempted, booted_by, fold}
+use Rattle.board_model.specs.Durable.{DurableState, Image, Change, Reset, Suspend, after, attempted, booted_by, fold, refusal_of}
 use Rattle.board_model.specs.Views.{number_of_refusal, reason_number}
 use Rattle.board_model.specs.declared.boot_mode.BootMode.{BootMode}
 use Rattle.board_model.specs.declared.boot_mode.BootMode.TheVariants as modes
@@ -67,9 +67,16 @@ use Rattle.model_board.proofs.Kept.{numbered_with, turn_kept}
 use Rattle.model_board.specs.Events.{Event, Turn, Refused, Cut, Does, TurnOn}
 use Rattle.disk.specs.Facts.{Content, Facts, LeavesSince}
 use Rattle.store.specs.Leaves.{IsKept, Leaves, LeavesOnly, StandsForEither}
-use Rattle.theorem.proofs.Calls.{not_six}
-use Rattle.theorem.proofs.Worlds.{fold_more}
-use Rattle.theorem.specs.Models.{image_kept, kept_of, shown_on, shown_over, shown_after, IsTurnOf, IsOfBoard, IsLeftBy, rule_by}
+use Rattle.board_model.proofs.Table.{of_table}
+use Rattle.board_events.specs.Models.{image_kept, kept_of, shown_on, shown_over, shown_after, IsTurnOf, IsOfBoard, IsLeftBy, rule_by}
+
+fold_more : (s : DurableState) (cs : List Change) (c : Change) → fold s (cs ++ c ∷ []) ≡ after (fold s cs) c
+fold_more s [] c = refl
+fold_more s (d ∷ cs) c = fold_more (after s d) cs c
+
+-- the table refuses nothing by 6
+not_six : (s : DurableState) (c : Change) → refusal_of s c ≡ Some 6 → ⊥
+not_six s c is = let six = of_table s c 6 is in cc
 
 -- ---- what a command makes of a life
 -- acknowledged it makes the next state, and refused it leaves the state

@@ -1,4 +1,5 @@
 //! A board beside the model board over which every order of its harts is explored: what happens to it is such an event.
+//! A law runs nothing, and tells the prover a fact: `hart::step_keeps_number`.
 ghost use Rattle.std.specs.Prelude.{◌≡◌, ◌<◌, ℕ, List, None, Some, IfOk, OnOk, length};
 ghost use Rattle.board_model.specs.Durable.{Change};
 ghost use Rattle.disk.specs.Facts.{LeavesSince};
@@ -8,7 +9,7 @@ ghost use Rattle.board.specs.Boots.{payload_at};
 ghost use Rattle.board.specs.Views.{store_of, machine_of};
 ghost use Rattle.model_board.specs.Boards.{Off};
 ghost use Rattle.model_board.specs.Events.{Event, PowerOn, Wake, Does};
-ghost use Rattle.theorem.specs.Models.{IsLeftBy, IsOfBoard, IsTurnOf, kept_of, rule_by, shown_after, shown_on};
+ghost use Rattle.board_events.specs.Models.{IsLeftBy, IsOfBoard, IsTurnOf, kept_of, rule_by, shown_after, shown_on};
 
 use board::{Board, Payloads, Unpowered};
 use board_model::{BootMode, HartId, Refusal};
@@ -45,7 +46,7 @@ pub fn a_turn_is_an_event<D: Disk + Drop, C: Crew>(
     ensures down { (c : Change) → doubt_of (store_of board.old) ≡ Some c → store_of board.new ≡ store_of board.old }
     ensures board { IsOfBoard (size_of_store (store_of board.new)) (machine_of board.new) }
 {
-    hart::one_number();
+    hart::step_keeps_number();
     board.turn(alloc, crew, hart)
 }
 
