@@ -1,4 +1,5 @@
 //! Turns of a hart of a board that is not moved.
+//! A law runs nothing, and tells the prover a fact: `idle_turns_change_nothing`.
 
 ghost use Rattle.std.specs.Prelude.{◌≡◌, ◌≤◌, true, false, IfSome, IfNone, MatchOption};
 ghost use Rattle.board_model.specs.Shapes.{Size};

@@ -1,4 +1,5 @@
 //! The bench between two lines.
+//! A law runs nothing, and tells the prover a fact: `blank_disks`.
 
 ghost use Rattle.std.specs.Prelude.{◌≡◌, ◌≤◌, true, false, Some, IfOk, IfErr, OnOk};
 ghost use Rattle.simdisk.specs.declared.SimDisk.{SimDisk};

@@ -240,9 +240,9 @@ runs laws turns call csr size [] b [] (z ∷ others) end last by calm u v x y = 
 runs laws turns call csr size (l ∷ ls) b [] others end last by calm u v x y = absurd x
 runs laws turns call csr size (l ∷ ls) b (a ∷ answers) [] end last by calm u v x y = absurd y
 
-pub one_report : ContentLaws → IsOneTurn → IsOneCall → IsOneCsr → (payloads : List (List ℕ)) (script : Script) (answers others : List Answer) (end last : Bench) → AreByFirmware script.lines → IsReportWith payloads script answers end → IsReportWith payloads script others last → IsFailureFree end → IsFailureFree last → (answers ≡ others) × (end ≡ last)
-one_report laws turns call csr payloads script [] others end last by x y u v = absurd x
-one_report laws turns call csr payloads script (b ∷ answers) [] end last by x y u v = absurd y
-one_report laws turns call csr payloads script (b ∷ answers) (d ∷ others) end last by x y u v =
+pub script_determines_report : ContentLaws → IsOneTurn → IsOneCall → IsOneCsr → (payloads : List (List ℕ)) (script : Script) (answers others : List Answer) (end last : Bench) → AreByFirmware script.lines → IsReportWith payloads script answers end → IsReportWith payloads script others last → IsFailureFree end → IsFailureFree last → (answers ≡ others) × (end ≡ last)
+script_determines_report laws turns call csr payloads script [] others end last by x y u v = absurd x
+script_determines_report laws turns call csr payloads script (b ∷ answers) [] end last by x y u v = absurd y
+script_determines_report laws turns call csr payloads script (b ∷ answers) (d ∷ others) end last by x y u v =
     let rest = runs laws turns call csr script.size script.lines (bench_with payloads) answers others end last by (tt, refl, refl) u v x.1 y.1 in
     (ap (λ q. q ∷ answers) (x.0 ∙ sym y.0) ∙ ap (λ qs. d ∷ qs) rest.0, rest.1)

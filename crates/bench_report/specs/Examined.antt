@@ -33,7 +33,7 @@ MayRead size b c =
     (length c ≡ sectors_of size) × ReadsOf b.disk_state b.kept size c
     × (IsClean b → SidesOf b.disk_state b.kept size c)
 
--- what an examiner says of a content, which is one thing (law `one_inspection` of `store`)
+-- what an examiner says of a content, which is one thing (law `content_determines_inspection` of `store`)
 abbrev pub Tells : Content → Printed → Type 0
 Tells c (printed.Inspected i) = (size : Size) × IsBoard size c × IsInspected size c i
 Tells c (printed.InspectRefused n) = ((n ≡ 1) × ReadsAs c NotFormatted) ⊎ ((n ≡ 3) × ReadsAs c BadShape)
@@ -87,7 +87,7 @@ AnswersOf c answer =
     ⊎ (HasImage c × (answer ≡ says (printed.InspectRefused 11)))
 
 -- What a power-on says of a content, whatever is known of the disk: a state that is shown is the one that the content stands
--- for (law `one_standing` of `store`), and one that stands for none is refused so, or 5.
+-- for (law `content_determines_state` of `store`), and one that stands for none is refused so, or 5.
 pub record OpensOf (c : Content) (answer : Answer) : Type 0 where
   pub shows : IfSome answer.found (λ d. (size : Size) × (s : DurableState) × StandsFor c size s × (d ≡ durable_of s))
   pub refuses : (e : Refusal) → ReadsAs c e

@@ -1,13 +1,14 @@
-//! The board of a bench is copied as it stands, compared, armed, and looked into.
+//! The board of a bench is copied as it stands, armed, and looked into.
+//! A law runs nothing, and tells the prover a fact: `kept_disks`.
 
-ghost use Rattle.std.specs.Prelude.{◌≡◌, ◌↔◌, true, IfOk, IfErr};
+ghost use Rattle.std.specs.Prelude.{◌≡◌, IfOk, IfErr};
 ghost use Rattle.disk.specs.declared.device.ArmedFault.{ArmedFault};
 ghost use Rattle.board_model.specs.Shapes.{Size};
 ghost use Rattle.board_model.specs.declared.refusal.Refusal.TheVariants.{Memory};
-ghost use Rattle.bench_report.specs.Agree.{Agrees, ArmedAlike, HasDisk, IsArmed, IsCopyOf, is_struck, OffIs, OnIs};
+ghost use Rattle.bench_report.specs.Agree.{Agrees, HasDisk, IsArmed, IsCopyOf, is_struck, OffIs, OnIs};
 ghost use Rattle.bench_report.specs.Bench.{Bench};
 ghost use Rattle.bench_report.specs.Happens.{armed_with};
-ghost use Rattle.bench_report.specs.Views.{arms, disk_in, store_in, store_fault_state};
+ghost use Rattle.bench_report.specs.Views.{arms, disk_in};
 ghost use Rattle.simdisk.specs.declared.SimDisk.{SimDisk};
 
 use crate::power::{OffDisk, Power};
@@ -58,53 +59,6 @@ pub fn copy_power(alloc: Global, power: &mut Power) -> Result<Power, Refusal>
     match power {
         Power::Off(off) => Ok(Power::Off(copy_off(off)?)),
         Power::On(board) => Ok(Power::On(copy_on(alloc, board)?)),
-    }
-}
-
-/// Whether a disk that no store holds stands as another.
-fn is_off_as(off: &OffDisk, other: &OffDisk) -> bool
-    ensures same { result ≡ true → (size : Size) (b c : Bench) → OffIs size b off.now.disk
-        → OffIs size c other.now.disk → ArmedAlike b c → OffIs size b other.now.disk }
-    ensures armed { result ≡ true → (fault : ArmedFault) → arms other.now.disk fault ↔ arms off.now.disk fault }
-{
-    kept_disks::<SimDisk>();
-    off.disk.is_as(&other.disk)
-}
-
-/// Whether a board that is on stands as another, with its disk.
-fn is_on_as(board: &mut Board<SimDisk>, other: &mut Board<SimDisk>) -> bool
-    ensures stays { (size : Size) (b : Bench) → OnIs size b board.old → OnIs size b board.new }
-    ensures other_stays { (size : Size) (b : Bench) → OnIs size b other.old → OnIs size b other.new }
-    ensures calm { (store_fault_state (store_in board.new) ≡ store_fault_state (store_in board.old))
-        × (store_fault_state (store_in other.new) ≡ store_fault_state (store_in other.old)) }
-    ensures same { result ≡ true → (size : Size) (b c : Bench) → OnIs size b board.old → OnIs size c other.old
-        → ArmedAlike b c → OnIs size b other.old }
-    ensures armed { result ≡ true → (fault : ArmedFault) → arms (disk_in other.old) fault ↔ arms (disk_in board.old) fault }
-{
-    board.is_as(other)
-}
-
-/// Whether another board stands as this one, off or on, as far as any later line can tell: then what bench this one stands for, that one
-/// stands for it too, where the same was ever armed on both. Both stay as they are. Where the answer is false they may stand alike all
-/// the same.
-pub fn is_power_as(power: &mut Power, other: &mut Power) -> bool
-    ensures stays { (size : Size) (b : Bench) → Agrees size b power.old → Agrees size b power.new }
-    ensures other_stays { (size : Size) (b : Bench) → Agrees size b other.old → Agrees size b other.new }
-    ensures calm { (is_struck power.new ≡ is_struck power.old) × (is_struck other.new ≡ is_struck other.old) }
-    ensures same { result ≡ true → (size : Size) (b c : Bench) → Agrees size b power.old → Agrees size c other.old
-        → ArmedAlike b c → Agrees size b other.old }
-    ensures armed { result ≡ true → (d e : SimDisk) → HasDisk power.old d → HasDisk other.old e
-        → (fault : ArmedFault) → arms e fault ↔ arms d fault }
-{
-    match power {
-        Power::Off(off) => match other {
-            Power::Off(others) => is_off_as(off, others),
-            Power::On(_) => false,
-        },
-        Power::On(board) => match other {
-            Power::Off(_) => false,
-            Power::On(others) => is_on_as(board, others),
-        },
     }
 }
 

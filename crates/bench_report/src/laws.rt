@@ -26,7 +26,7 @@ ghost use Rattle.report_lines.specs.declared.printed.Printed.TheVariants as prin
 /// shows that it is one by its lines, where they are failure-free: none says that memory was refused, that the
 /// disk failed or that power was lost, and none of turns or of a call may hide that a hart's command was refused
 /// so.
-pub fn one_report()
+pub fn script_determines_report()
     ensures one { (payloads : List (List ℕ)) (script : Script) (answers others : List Answer) (end last : Bench)
         → AreByFirmware script.lines → IsReportWith payloads script answers end
         → IsReportWith payloads script others last → IsFailureFree end → IsFailureFree last
@@ -34,10 +34,10 @@ pub fn one_report()
     ensures failure_free { (payloads : List (List ℕ)) (script : Script) (answers : List Answer) (end : Bench)
         → IsReportWith payloads script answers end → ShowNoFailure answers → IsFailureFree end }
 {
-    machine::one_turn();
-    machine::one_line();
-    store::one_standing();
-    store::one_inspection();
+    machine::machine_determines_turn();
+    machine::hart_determines_line();
+    store::content_determines_state();
+    store::content_determines_inspection();
     store::formats_in_order();
 }
 
@@ -58,8 +58,8 @@ pub fn inspections()
         → Moves script.size lines.Inspect b a new → IsFailureFree new
         → (a ≡ says (printed.Inspected (inspection_of b.kept.changes))) × (new ≡ b) }
 {
-    store::one_standing();
-    store::one_inspection();
+    store::content_determines_state();
+    store::content_determines_inspection();
     store::formats_in_order();
 }
 

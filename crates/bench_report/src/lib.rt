@@ -13,8 +13,10 @@ mod setting;
 mod steps;
 
 pub use bench_board::BenchBoard;
-pub use copies::{arm_power, copy_power, disk_of, is_power_as};
-pub use laws::{all_are_found, inspections, one_report, power_ons, prefix_law, reports_split};
+pub use copies::{arm_power, copy_power, disk_of};
+pub use laws::{
+    all_are_found, inspections, power_ons, prefix_law, reports_split, script_determines_report,
+};
 pub use power::{OffDisk, Power};
 pub use report_lines::{Answer, Printed, Report};
 pub use runs::{StoppedRun, run, run_left, run_left_with, run_with};

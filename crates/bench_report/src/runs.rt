@@ -1,4 +1,5 @@
 //! Whole scripts.
+//! A law runs nothing, and tells the prover a fact: `blank_disks`.
 
 ghost use Rattle.std.specs.Prelude.{◌≡◌, ◌⊎◌, ◌+◌, ◌++◌, ◌<◌, ◌≤◌, ◌^◌, length, take, Option, Result, ℕ, List, All, IfOk, IfErr, IfSome, OnErr, OnOk, Ok, Err, None, MatchResult};
 ghost use Rattle.script_lang.specs.Lines.{IsLineInRange};

@@ -1,4 +1,5 @@
 //! One line of a script.
+//! A law runs nothing, and tells the prover a fact: `kept_disks`, `blank_disks`, `content_determines_state`.
 
 ghost use Rattle.std.specs.Prelude.{◌≡◌, false, ◌<◌, ◌≤◌, ℕ, List, length, Some, None, Ok, Err, IfOk, OnOk, OnErr, true, IsTrue, ◌↔◌, MatchResult};
 ghost use Rattle.board_model.specs.Shapes.{Size};
@@ -30,7 +31,7 @@ use report_lines::{Answer, Printed};
 use script_lang::Line;
 use simdisk::{Fill, SimDisk};
 use std::alloc::Global;
-use store::{blank_disks, format, inspect, kept_disks, one_standing};
+use store::{blank_disks, content_determines_state, format, inspect, kept_disks};
 
 fn says(line: Printed) -> Answer
     ensures { result ≡ says line }
@@ -45,7 +46,7 @@ fn format_disk(shape: &Shape, off: OffDisk) -> (Power, Answer)
 {
     kept_disks::<SimDisk>();
     blank_disks::<SimDisk>();
-    one_standing();
+    content_determines_state();
     let OffDisk { mut disk } = off;
     match format(&mut disk, shape) {
         Ok(()) => (Power::Off(OffDisk { disk }), says(Printed::Formatted)),

@@ -1,4 +1,5 @@
 //! Whole benches.
+//! A law runs nothing, and tells the prover a fact: `orders_keep_lines`, `scripts_read_as_written`.
 
 ghost use Rattle.std.specs.Prelude.{◌≡◌, ◌⊎◌, ◌+◌, ◌-◌, ◌≤◌, ◌∷◌, [], ℕ, List, slice_index_or, length, All, IfErr, IfOk, OnOk, Ok, Err};
 ghost use Rattle.std.specs.Io.KnownBytes.{Appends};

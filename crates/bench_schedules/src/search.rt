@@ -1,4 +1,5 @@
 //! The runs of a search: which candidates are kept.
+//! A law runs nothing, and tells the prover a fact: `orders_keep_lines`.
 
 ghost use Rattle.std.specs.Prelude.{◌≡◌, true, IfErr, IfOk, IfSome, OnOk};
 ghost use Rattle.board_model.specs.declared.refusal.Refusal.TheVariants.{Memory};

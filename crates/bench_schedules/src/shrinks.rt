@@ -1,4 +1,5 @@
 //! Schedules that are shrunk, whole.
+//! A law runs nothing, and tells the prover a fact: `orders_keep_lines`, `scripts_read_as_written`.
 
 ghost use Rattle.std.specs.Prelude.{◌≡◌, ◌⊎◌, ◌≤◌, length, All, IfErr, IfOk, OnOk, Ok, Err};
 ghost use Rattle.board_model.specs.declared.refusal.Refusal.{Refusal as Refused};

@@ -1,4 +1,5 @@
 //! Where a bench begins: behind the first format of its script that answers Ok.
+//! A law runs nothing, and tells the prover a fact: `blank_disks`.
 
 ghost use Rattle.std.specs.Prelude.{◌≡◌, ◌≤◌, ℕ, List, false, true, length, take, All, Err, IfOk, IfErr, MatchResult, OnErr, ◌↔◌, IsTrue};
 ghost use Rattle.board_model.specs.declared.refusal.Refusal.TheVariants.{Memory};

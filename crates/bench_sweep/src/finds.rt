@@ -1,4 +1,5 @@
 //! What a run left: a power-on that keeps its image, and the judge's word of what that found.
+//! A law runs nothing, and tells the prover a fact: `whole_images_load`.
 
 ghost use Rattle.std.specs.Prelude.{◌≡◌, ◌⊎◌, ℕ, List, None, Some, IfErr, IfOk, OnOk};
 ghost use Rattle.board_model.specs.Durable.{DurableState};

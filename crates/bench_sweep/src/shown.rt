@@ -1,4 +1,5 @@
 //! A row of a bench is written as a script.
+//! A law runs nothing, and tells the prover a fact: `scripts_read_as_written`.
 
 ghost use Rattle.std.specs.Prelude.{◌≡◌, ◌⊎◌, ◌↔◌, ◌≤◌, ◌<◌, ◌+◌, ◌*◌, ◌++◌, length, All, Ok, Err, IsTrue, IfOk, IfErr, OnOk, MatchOption};
 ghost use Rattle.std.specs.List.{AllZip};

@@ -1,4 +1,5 @@
 //! How a run goes on from a site.
+//! A law runs nothing, and tells the prover a fact: `kept_disks`.
 
 ghost use Rattle.std.specs.Prelude.{◌≡◌, ◌≤◌, ◌<◌, Some, None, true, false, length, take, All, IfOk, IfErr, OnOk, MatchOption};
 ghost use Rattle.board_model.specs.Shapes.{Size};

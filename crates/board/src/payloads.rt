@@ -1,6 +1,6 @@
 //! What the boot slots hold.
 
-ghost use Rattle.std.specs.Prelude.{◌≡◌, ◌≤◌, ◌↔◌, ℕ, List, [], ◌∷◌, length, true, IsTrue, IfOk, slice_set, All};
+ghost use Rattle.std.specs.Prelude.{◌≡◌, ◌≤◌, ◌↔◌, ℕ, List, [], ◌∷◌, length, IsTrue, IfOk, slice_set, All};
 ghost use Rattle.board_model.specs.Shapes.{ram_bytes_of};
 ghost use Rattle.board.specs.Boots.{PayloadsFit, payload_at};
 
@@ -66,13 +66,6 @@ impl Payloads {
     {
         let slots = self.slots.clone()?;
         Ok(Payloads { slots })
-    }
-
-    /// Whether those are the same payloads.
-    pub fn is_as(&self, other: &Payloads) -> bool
-        ensures { result ≡ true → other.now ≡ self.now }
-    {
-        other.slots == self.slots
     }
 
     /// Whether each of them fits into the RAM of a board.

@@ -24,13 +24,13 @@ doze_text true = codes " dozing"
 -- by the end of the life, by the gate, which the console shuts, or with its turns
 abbrev pub shut_text : Option ShutBy → List ℕ
 shut_text (Some (Life n entry)) = codes "life"
-shut_text (Some Console) = codes "gate"
-shut_text None = codes "gate"
+shut_text (Some Console) = codes "quit"
+shut_text None = codes "quit"
 
 abbrev pub reason_text : Why → Option ShutBy → List ℕ
 reason_text whys.Life by = codes "life"
 reason_text whys.Closed by = shut_text by
-reason_text whys.Gate by = codes "gate"
+reason_text whys.Gate by = codes "quit"
 reason_text whys.Turns by = codes "turns"
 
 abbrev pub value_text : ℕ → List ℕ

@@ -51,11 +51,11 @@ impl fmt::Display for ShutReason {
     fn fmt<W: fmt::Write>(&self, f: &mut fmt::Formatter<W>) -> fmt::Result {
         match self.0 {
             Why::Life => f.write_str("life"),
-            Why::Gate => f.write_str("gate"),
+            Why::Gate => f.write_str("quit"),
             Why::Turns => f.write_str("turns"),
             Why::Closed => match self.1 {
                 Some(ShutBy::Life(_, _)) => f.write_str("life"),
-                Some(ShutBy::Console) | None => f.write_str("gate"),
+                Some(ShutBy::Console) | None => f.write_str("quit"),
             },
         }
     }
@@ -158,7 +158,7 @@ fn loop_end_of(end: &HartEnd) -> LoopEnd
 
 /// A hart whose loop has ended, in a line with its line feed: its number, its state as `hart_get_status` answers it, with
 /// `dozing` where its board dozes by it, its pc, `scause`, `sepc` and `stval`, how many turns it made, and why its loop
-/// ended: `life`, by its own command or another hart's; `gate`, by the console; or `turns`.
+/// ended: `life`, by its own command or another hart's; `quit`, by the console; or `turns`.
 #[derive(Drop)]
 pub struct HartLine<'a>(pub &'a HartEnd);
 

@@ -1,4 +1,5 @@
 //! A board from its power-on to the end of its threads.
+//! A law runs nothing, and tells the prover a fact: `kept_disks`.
 
 ghost use Rattle.std.specs.Prelude.{◌≡◌, ◌⊎◌, ◌≤◌, ◌+◌, ℕ, List, [], All, length, Some, None, true, false, Err, OnOk, IfOk, IfErr, MatchResult, vec_len, vec_capacity};
 ghost use Rattle.std.specs.Option.{option_to_list};

@@ -13,15 +13,15 @@ both : (A : Type 0) (t : Bool) (P : Option A → Type 0) (a b : Option A) → ((
 both A true P a b same one two = same a b one two
 both A false P a b same one two = one ∙ sym two
 
-one_reading : (w : ℕ) (a b : Option Instr) → Reads a w → Reads b w → a ≡ b
-one_reading w None None one two = refl
-one_reading w None (Some j) one two = absurd (one j two)
-one_reading w (Some i) None one two = absurd (two i one)
-one_reading w (Some i) (Some j) one two = ap (λ (x : Instr). Some x) (unique i j w one two)
+word_determines_instruction : (w : ℕ) (a b : Option Instr) → Reads a w → Reads b w → a ≡ b
+word_determines_instruction w None None one two = refl
+word_determines_instruction w None (Some j) one two = absurd (one j two)
+word_determines_instruction w (Some i) None one two = absurd (two i one)
+word_determines_instruction w (Some i) (Some j) one two = ap (λ (x : Instr). Some x) (unique i j w one two)
 
 pub one_fetch : (memory : List ℕ) (pc : ℕ) (a b : Option Instr) → Fetches memory pc a → Fetches memory pc b → a ≡ b
 one_fetch memory pc a b one two =
-    let P : Option Instr → Type 0 = λ x. Reads x (word_at memory pc) in both Instr (is_there memory pc 4) P a b (one_reading (word_at memory pc)) one two
+    let P : Option Instr → Type 0 = λ x. Reads x (word_at memory pc) in both Instr (is_there memory pc 4) P a b (word_determines_instruction (word_at memory pc)) one two
 
 one_at : (m : Machine) (h : ℕ) (a b : Option Load) → LoadsAt m h a → LoadsAt m h b → a ≡ b
 one_at m h a b one two =

@@ -8,7 +8,7 @@ ghost use Rattle.bench_live.specs.Pasts.{moments, singles};
 ghost use Rattle.bench_report.specs.Bench.{Bench, bench_with};
 ghost use Rattle.debug_session.specs.Ats.{IsAt, IsPlace};
 ghost use Rattle.debug_session.specs.Backs.{BackTo, FoundIn, FoundOf, IfEnded, IsEnd, IsRowPast, IsSeen, MayMove, StaysBack, halt_back, later_place, later_turn};
-ghost use Rattle.debug_session.specs.Firsts.{one_turn};
+ghost use Rattle.debug_session.specs.Firsts.{machine_determines_turn};
 ghost use Rattle.debug_session.specs.Steps.{MakesNone};
 ghost use Rattle.debug_session.specs.Lives.{IsSound, Shows};
 ghost use Rattle.script_lang.specs.Lines.{IsLineInRange};
@@ -91,7 +91,7 @@ fn seen_back<C: Crew>(
 ) -> Result<Option<HaltReason>, Refusal>
     requires sound { IsSound bench.old }
     ensures seen { IfOk result (λ halt. (size : Size) (b : Bench) → Shows size b bench.old → (new : Bench)
-        × (MayMove size (one_turn hart) b new × IsSeen halt stops.now hart b new) × Shows size new bench.new) }
+        × (MayMove size (machine_determines_turn hart) b new × IsSeen halt stops.now hart b new) × Shows size new bench.new) }
     ensures sound { OnOk result (IsSound bench.new) }
     ensures refused { IfErr result (λ e. e ≡ Memory) }
 {
@@ -143,7 +143,7 @@ fn last_halt_in<C: Crew>(
     requires sound { IsSound bench.old }
     ensures within { IfOk result (λ found. IfSome found (λ f. (f.1.hart ≡ hart) × (f.0 < turns))) }
     ensures found { IfOk result (λ found. (size : Size) (b : Bench) → Shows size b bench.old → (new : Bench)
-        × FoundIn size stops.now found (replicate turns (one_turn hart)) b new × Shows size new bench.new) }
+        × FoundIn size stops.now found (replicate turns (machine_determines_turn hart)) b new × Shows size new bench.new) }
     ensures sound { OnOk result (IsSound bench.new) }
     ensures refused { IfErr result (λ e. e ≡ Memory) }
 {

@@ -1,4 +1,5 @@
 //! The bench of a debugger between two lines.
+//! A law runs nothing, and tells the prover a fact: `rows_join`, `idle_turns_change_nothing`.
 
 ghost use Rattle.std.specs.Prelude.{◌≡◌, ◌⊎◌, ◌≤◌, ◌<◌, ◌+◌, ℕ, true, false, None, IfOk, IfErr, OnOk};
 ghost use Rattle.board_model.specs.Shapes.{Size};

@@ -1,4 +1,5 @@
 //! A history as a script.
+//! A law runs nothing, and tells the prover a fact: `scripts_read_as_written`.
 
 ghost use Rattle.std.specs.Prelude.{◌≡◌, ◌≤◌, ◌++◌, IfOk, IfErr, OnOk, Ok, string_bytes};
 ghost use Rattle.board.specs.Boots.{payload_at};

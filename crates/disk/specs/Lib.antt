@@ -3,5 +3,4 @@ pub mod WriteLog
 pub mod Calls
 pub mod Facts
 pub mod FaultState
-pub mod Alike
 pub mod Moments

@@ -1,4 +1,4 @@
-//! Disks that can be copied, and compared.
+//! Disks that can be copied.
 
 use crate::device::Disk;
 use std::alloc::AllocError;
@@ -6,8 +6,6 @@ use std::alloc::AllocError;
 /// A disk of which there can be a second one.
 pub trait CopyDisk: Disk {
     ghost use Rattle.std.specs.Prelude.{◌≡◌, ◌↔◌, IfOk};
-    ghost use Rattle.std.specs.Prelude.{true};
-    ghost use Rattle.disk.specs.Alike.{FailsAlike, StandsAs};
     ghost use Rattle.disk.specs.Facts.{Unchanged};
     ghost use Rattle.disk.specs.declared.device.ArmedFault.{ArmedFault};
 
@@ -26,12 +24,4 @@ pub trait CopyDisk: Disk {
         ensures arms { IfOk result
             (λ copy. (fault : ArmedFault) → Self.arms copy fault ↔ Self.arms self.now fault) }
         ensures alike { IfOk result (λ copy. alike self.now copy) };
-
-    /// Whether that disk stands as this one, as far as a later call can tell: what a read gives, what a crash now may
-    /// leave, how often it failed, and which fault is to strike within which call. Where the answer is false they may
-    /// stand alike all the same.
-    fn is_as(&self, other: &Self) -> bool
-        ensures facts { result ≡ true → StandsAs (Self.facts self.now) (Self.facts other.now) }
-        ensures fault_state { result ≡ true → FailsAlike (Self.fault_state self.now) (Self.fault_state other.now) }
-        ensures arms { result ≡ true → (fault : ArmedFault) → Self.arms other.now fault ↔ Self.arms self.now fault };
 }

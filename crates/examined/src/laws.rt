@@ -13,7 +13,7 @@ ghost use Rattle.examined.specs.Contents.{IsAnswered, IsExamined};
 ///
 /// - `opened`: an open refuses it with 1, 3 or 4, or it stands for a durable state.
 /// - `examined`: an examiner refuses it with 1 or 3, or it is the disk of a board, and then there is something to say of it.
-///   What is said is fixed by the bytes (the law `one_inspection` of `store`).
+///   What is said is fixed by the bytes (the law `content_determines_inspection` of `store`).
 pub fn every_content()
     ensures opened { (c : Content) → IsAnswered c }
     ensures examined { (c : Content) → IsExamined c }

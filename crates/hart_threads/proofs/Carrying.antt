@@ -36,8 +36,8 @@ use Rattle.hart_threads.specs.Runs.{IsStep, StepsInRow, StepsMake, CarriesSteps,
 pub none_yet : (m n : List ℕ) → n ≡ m → StepsMake m n
 none_yet m n same = ∣ (zero, same) ∣₁
 
-pub one_step : (begun m n : List ℕ) (pending : Bool) (s t : ArchState) (outcome : Outcome) → StepsMake begun m → Steps pending s m t n outcome → StepsMake begun n
-one_step begun m n pending s t outcome made steps =
+pub state_determines_step : (begun m n : List ℕ) (pending : Bool) (s t : ArchState) (outcome : Outcome) → StepsMake begun m → Steps pending s m t n outcome → StepsMake begun n
+state_determines_step begun m n pending s t outcome made steps =
     let last : IsStep m n = (pending, s, t, outcome, steps) in
     ∥∥₁_map made (λ (row : (k : ℕ) × StepsInRow k begun m). let longer : (k : ℕ) × StepsInRow k begun n = (suc row.0, (m, row.1, last)) in longer)
 

@@ -158,16 +158,16 @@ state_is c h started i =
 state_is c h suspended i =
     ap (λ (s : Stage). state_by_stage s (open_start h c)) (stands_stage h i.0 c.harts i.1) ∙ at_suspended i.0 (open_start h c) i.2
 
-pub one_table : (harts : ℕ) (c : HartSeatView) (states : ℕ → HartState) → Shows harts c states → (h : ℕ) → h < harts → state_in c h ≡ states h
-one_table harts c states shown h lt = state_is c h (states h) (shown h lt)
+pub seat_determines_states : (harts : ℕ) (c : HartSeatView) (states : ℕ → HartState) → Shows harts c states → (h : ℕ) → h < harts → state_in c h ≡ states h
+seat_determines_states harts c states shown h lt = state_is c h (states h) (shown h lt)
 
 -- so the states that a view shows are those computed of it
 pub shows_seen : (harts : ℕ) (c : HartSeatView) (states : ℕ → HartState) → Shows harts c states → Shows harts c (state_in c)
-shows_seen harts c states shown h lt = subst (λ (x : HartState). IsIn c h x) (sym (one_table harts c states shown h lt)) (shown h lt)
+shows_seen harts c states shown h lt = subst (λ (x : HartState). IsIn c h x) (sym (seat_determines_states harts c states shown h lt)) (shown h lt)
 
 -- ---- the states as a list
 pub one_list : (harts : ℕ) (c : HartSeatView) (states : List HartState) → AreStates harts c states → states_in harts c ≡ states
-one_list harts c states are = map_all (state_in c) stopped harts states are.0 (one_table harts c (listed states) are.1)
+one_list harts c states are = map_all (state_in c) stopped harts states are.0 (seat_determines_states harts c (listed states) are.1)
 
 pub changed : (harts h : ℕ) (f : HartState → HartState) (c : HartSeatView) (states : List HartState) → length states ≡ harts → h < harts → Shows harts c (change_at h f (listed states)) → AreStates harts c (slice_set states h (f (listed states h)))
 changed harts h f c states e lt shown = (

@@ -18,7 +18,7 @@ use Rattle.hsm.specs.declared.state.State.TheVariants as codes
 use Rattle.hsm.specs.Calls.{KeepsOthers, named, state_in_word}
 use Rattle.hsm.specs.Views.{state_in, states_in, listed, AreStates}
 use Rattle.hsm.specs.Copies.{IsSettled, IsShown, IsAtRest, Becomes, IsMade, rest_stage, stage_by, so_far}
-use Rattle.hsm.proofs.Computed.{one_table, shows_seen}
+use Rattle.hsm.proofs.Computed.{seat_determines_states, shows_seen}
 use Rattle.hsm.proofs.Alone.{stands_once}
 use Rattle.hsm.proofs.Stages.{named_is}
 
@@ -39,14 +39,14 @@ module _ (harts h : ℕ) (x : HartState) (c c' : HartSeatView) where
       shown = shows_seen harts c' (change_at h f (state_in c)) shown;
       each = λ k lt. dite (ℕ_discrete k h)
           (λ e.
-          let now : state_in c' k ≡ x = one_table harts c' (change_at h f (state_in c)) shown k lt ∙ (here h f (state_in c) k e ∙ is) in
+          let now : state_in c' k ≡ x = seat_determines_states harts c' (change_at h f (state_in c)) shown k lt ∙ (here h f (state_in c) k e ∙ is) in
           subst (λ (y : HartState). stands k (rest_stage y) c'.harts) (sym now) (subst (λ (n : ℕ). stands n (rest_stage x) c'.harts) (sym e) own))
           (λ ne.
-          let now : state_in c' k ≡ state_in c k = one_table harts c' (change_at h f (state_in c)) shown k lt ∙ elsewhere h f (state_in c) k ne in
+          let now : state_in c' k ≡ state_in c k = seat_determines_states harts c' (change_at h f (state_in c)) shown k lt ∙ elsewhere h f (state_in c) k ne in
           subst (λ (y : HartState). stands k (rest_stage y) c'.harts) (sym now) (others k lt ne));
     };
     numbered = same;
-    states = λ k lt. one_table harts c' (change_at h f (state_in c)) shown k lt ∙ dite (ℕ_discrete k h)
+    states = λ k lt. seat_determines_states harts c' (change_at h f (state_in c)) shown k lt ∙ dite (ℕ_discrete k h)
         (λ e. here h f (state_in c) k e ∙ (is ∙ sym (here h (λ _. x) (state_in c) k e)))
         (λ ne. elsewhere h f (state_in c) k ne ∙ sym (elsewhere h (λ _. x) (state_in c) k ne));
   }
@@ -180,7 +180,7 @@ shown_of harts n c same are = subst (λ (k : ℕ). IsShown k c) (sym same) (show
 pub copied_states : (harts : ℕ) (old c : HartSeatView) → AreStates harts old (states_in harts old) → IsShown harts c → ((k : ℕ) → k < harts → state_in c k ≡ state_in old k) → AreStates harts c (states_in harts old)
 copied_states harts old c are shown same = (
   are.0,
-  (λ k lt. subst (λ (x : HartState). IsIn c k x) (same k lt ∙ one_table harts old (listed (states_in harts old)) are.1 k lt) (shown k lt)),
+  (λ k lt. subst (λ (x : HartState). IsIn c k x) (same k lt ∙ seat_determines_states harts old (listed (states_in harts old)) are.1 k lt) (shown k lt)),
 )
 
 pub same_states : (harts : ℕ) (c d : HartSeatView) → AreStates harts d (states_in harts d) → ((k : ℕ) → k < harts → state_in c k ≡ state_in d k) → states_in harts c ≡ states_in harts d
@@ -200,10 +200,10 @@ pub opens : (harts first : ℕ) (old c : HartSeatView) → numbers c.harts ≡ n
 opens harts first old c all shown stood = record {
   rests = record {
     shown = shows_seen harts c (opening_states first) shown;
-    each = λ h lt. subst (λ (s : Stage). stands h s c.harts) (stage h ∙ ap rest_stage (sym (one_table harts c (opening_states first) shown h lt))) (stood h lt);
+    each = λ h lt. subst (λ (s : Stage). stands h s c.harts) (stage h ∙ ap rest_stage (sym (seat_determines_states harts c (opening_states first) shown h lt))) (stood h lt);
   };
   numbered = all;
-  states = λ k lt. one_table harts c (opening_states first) shown k lt ∙ dite (ℕ_discrete k first)
+  states = λ k lt. seat_determines_states harts c (opening_states first) shown k lt ∙ dite (ℕ_discrete k first)
       (λ e. let now : opening_states first k ≡ started = rw (eq-eqb k first e) refl in now ∙ sym (so_far_first first (state_in old) 0 k e))
       (λ ne. let now : opening_states first k ≡ stopped = rw (ne_eqb k first ne) refl in now ∙ sym (so_far_above first (state_in old) 0 k ne (omega arith)));
 }

@@ -1,7 +1,7 @@
 //! A table of the same states, which is made by the calls of its own harts: one of them runs from the start,
-//! brings each other hart to its state, and comes to its own state last. And two tables are compared.
+//! brings each other hart to its state, and comes to its own state last.
 
-ghost use Rattle.std.specs.Prelude.{◌≡◌, ◌≢◌, ◌+◌, ◌<◌, ℕ, true, IfOk, IfErr, IfSome};
+ghost use Rattle.std.specs.Prelude.{◌≡◌, ◌+◌, ◌<◌, ℕ, IfOk, IfErr, IfSome};
 ghost use Rattle.board_model.specs.declared.refusal.Refusal.TheVariants.{Memory};
 ghost use Rattle.hsm.specs.States.{stopped, start_pending, started, suspended};
 ghost use Rattle.hsm.specs.Rule.{stands};
@@ -266,37 +266,4 @@ pub fn copy(
     let own = take_after_all(table, seat, &made, own, first, shape);
     let own = quiet_as(table, seat, &made, own, lone);
     Ok((made, own))
-}
-
-/// Whether another table shows every hart as this one does: its state, and of a START_PENDING one the address and the opaque value. Both
-/// seats stay as they were.
-pub fn is_as(
-    table: &HartTable,
-    seat: &mut HartSeat,
-    other: &HartTable,
-    others: &mut HartSeat,
-    shape: &Shape,
-) -> bool
-    requires seat { IsSeatOf table.now seat.old }
-    requires harts { harts_of table.now ≡ shape.now.harts }
-    requires shows { AreStates shape.now.harts (hart_view_of_seat seat.old)
-        (states_in shape.now.harts (hart_view_of_seat seat.old)) }
-    requires other { IsSeatOf other.now others.old }
-    requires other_harts { harts_of other.now ≡ shape.now.harts }
-    requires other_shows { AreStates shape.now.harts (hart_view_of_seat others.old)
-        (states_in shape.now.harts (hart_view_of_seat others.old)) }
-    ensures stays { IsSeatOf table.now seat.new × (hart_view_of_seat seat.new ≡ hart_view_of_seat seat.old) }
-    ensures other_stays { IsSeatOf other.now others.new × (hart_view_of_seat others.new ≡ hart_view_of_seat others.old) }
-    ensures same { result ≡ true → states_in shape.now.harts (hart_view_of_seat others.old)
-        ≡ states_in shape.now.harts (hart_view_of_seat seat.old) }
-{
-    for number in 0..u64::from(shape.harts()) {
-        let hart = shape.hart(number).unwrap();
-        let own = standing_of(table, seat, hart);
-        let theirs = standing_of(other, others, hart);
-        if theirs != own {
-            return false;
-        }
-    }
-    true
 }

@@ -25,9 +25,9 @@ mod table;
 mod view;
 
 pub use calls::{quiet, start, status, stop, suspend, try_enter, try_enter_beside, unquiet, wake};
-pub use copies::{copy, is_as};
+pub use copies::copy;
 pub use promises::laws;
-pub use seen::one_table;
+pub use seen::seat_determines_states;
 pub use standings::{Standing, standing_of};
 pub use state::State;
 pub use table::{HartSeat, HartTable, Seats};

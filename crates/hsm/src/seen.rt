@@ -8,7 +8,7 @@ ghost use Rattle.hsm.specs.Views.{state_in, states_in, listed, AreStates};
 
 /// The states of all harts that the view of a seat of all harts shows are those that `state_in` computes of
 /// it.
-pub fn one_table()
+pub fn seat_determines_states()
     ensures one { (harts : ℕ) (c : HartSeatView) (states : ℕ → HartState) → Shows harts c states → (h : ℕ) → h < harts
         → state_in c h ≡ states h }
     ensures list { (harts : ℕ) (c : HartSeatView) (states : List HartState) → AreStates harts c states

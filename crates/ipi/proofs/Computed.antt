@@ -28,8 +28,8 @@ same_bool true false f g = sym (f refl)
 same_bool false true f g = g refl
 same_bool false false f g = refl
 
-pub one_set : (harts : ℕ) (c : PendingSeatView) (pairs : ℕ → ℕ → Bool) → Shows harts c pairs → (sender target : ℕ) → pair_in c sender target ≡ pairs sender target
-one_set harts c pairs shown s t =
+pub seat_determines_pairs : (harts : ℕ) (c : PendingSeatView) (pairs : ℕ → ℕ → Bool) → Shows harts c pairs → (sender target : ℕ) → pair_in c sender target ≡ pairs sender target
+seat_determines_pairs harts c pairs shown s t =
     let told = lt_told (taken s t c) (raised s t c) in
     same_bool (pair_in c s t) (pairs s t) (λ p. (shown.1 s t).1 (told.0 p)) (λ p. told.1 ((shown.1 s t).0 p))
 
@@ -45,7 +45,7 @@ in_range harts c all s t le =
 pub one_list : (harts : ℕ) (c : PendingSeatView) (pairs : List (List Bool)) → ArePairs harts c pairs → pairs_in harts c ≡ pairs
 one_list harts c pairs are =
     map_all (λ t. map (λ s. pair_in c s t) (numbers_from 0 harts)) [] harts pairs are.0.0
-    (λ t lt. map_all (λ s. pair_in c s t) false harts (row_of pairs t) (are.0.1 t lt) (λ s _. one_set harts c (pair_at pairs) are.1 s t))
+    (λ t lt. map_all (λ s. pair_in c s t) false harts (row_of pairs t) (are.0.1 t lt) (λ s _. seat_determines_pairs harts c (pair_at pairs) are.1 s t))
 
 pub at_pairs : (harts : ℕ) (c : PendingSeatView) (sender target : ℕ) → sender < harts → target < harts → pair_at (pairs_in harts c) sender target ≡ pair_in c sender target
 at_pairs harts c s t ls lt =

@@ -1,19 +1,18 @@
 -- A table that is made of another's pairs, pair by pair.
-use Rattle.std.proofs.Common.{◌≡◌, ◌↔◌, ℕ, ◌+◌, ◌<◌, ◌≤◌, Bool, false, true≢false, IsTrue, IfSome, Option, Some, List, [], map, get_or, sym, ap, subst, ◌∙◌, arith}
+use Rattle.std.proofs.Common.{◌≡◌, ◌↔◌, ℕ, ◌+◌, ◌<◌, ◌≤◌, Bool, false, true≢false, IsTrue, IfSome, Option, Some, List, [], get_or, sym, ap, subst, ◌∙◌, arith}
 use Rattle.std.specs.Int.{bit_at}
 use Rattle.std.proofs.lemmas.Nat.Bits.{bit_at-lt}
-use Rattle.std.proofs.lemmas.List.{get_or_past, length-map}
+use Rattle.std.proofs.lemmas.List.{get_or_past}
 use mathlib.Core.Logic.{dite}
 use native.Mathlib.Decide.{ℕ_discrete, dec_le}
 use Rattle.tallies.specs.Seats.{numbers_from}
 use Rattle.tallies.specs.Notes.{numbers}
-use Rattle.tallies.proofs.Seatings.{at_all, length_from, map_all}
 use Rattle.ipi.specs.Ledger.{PendingSeatView, raised, taken}
 use Rattle.board_model.specs.HartSets.{Has}
 use Rattle.ipi.specs.Pairs.{Shows}
 use Rattle.ipi.specs.Views.{pair_in, pairs_in, pair_at, ArePairs}
 use Rattle.ipi.specs.Copies.{IsMade}
-use Rattle.ipi.proofs.Computed.{lt_told, one_set, same_bool, in_range, shows_as, shows_seen, whole_of}
+use Rattle.ipi.proofs.Computed.{lt_told, seat_determines_pairs, same_bool, in_range, shows_as, shows_seen, whole_of}
 
 -- the senders in the word of a target are those of its pairs
 pub senders_are : (target found : ℕ) (c : PendingSeatView) → ((sender : ℕ) → raised sender target c ≡ taken sender target c + bit_at found sender) → (sender : ℕ) → Has sender found ↔ IsTrue (pair_in c sender target)
@@ -28,15 +27,6 @@ pub same_row : (target found : ℕ) (c d : PendingSeatView) → ((sender : ℕ) 
     → (sender : ℕ) → pair_in c sender target ≡ pair_in d sender target
 same_row target found c d in_c in_d s = same_bool (pair_in c s target) (pair_in d s target) (λ p. (in_d s).0 ((in_c s).1 p)) (λ p. (in_c s).0 ((in_d s).1 p))
 
--- the lists of two functions that are the same below n
-same_below : {A : Type 0} (f g : ℕ → A) (d : A) (n : ℕ) → ((k : ℕ) → k < n → f k ≡ g k) → map f (numbers_from 0 n) ≡ map g (numbers_from 0 n)
-same_below f g d n same = map_all f d n (map g (numbers_from 0 n)) (length-map (numbers_from 0 n) g ∙ length_from 0 n) (λ k lt. same k lt ∙ sym (at_all g d n k lt))
-
-pub same_pairs : (harts : ℕ) (c d : PendingSeatView) → ((sender target : ℕ) → target < harts → pair_in c sender target ≡ pair_in d sender target) → pairs_in harts c ≡ pairs_in harts d
-same_pairs harts c d same =
-    let row : PendingSeatView → ℕ → List Bool = λ e t. map (λ s. pair_in e s t) (numbers_from 0 harts) in
-    same_below (row c) (row d) [] harts (λ t lt. same_below (λ s. pair_in c s t) (λ s. pair_in d s t) false harts (λ s _. same s t lt))
-
 -- all rows are made
 module _ (harts : ℕ) (old c : PendingSeatView) (shows : ArePairs harts old (pairs_in harts old)) (all : numbers old.harts ≡ numbers_from 0 harts) (made : IsMade harts harts 0 old c) where
   past : (s t : ℕ) → harts ≤ t → pair_at (pairs_in harts old) s t ≡ false
@@ -50,7 +40,7 @@ module _ (harts : ℕ) (old c : PendingSeatView) (shows : ArePairs harts old (pa
   same_pair : (s t : ℕ) → pair_at (pairs_in harts old) s t ≡ pair_in c s t
   same_pair s t = dite (dec_le harts t)
       (λ above. past s t above ∙ sym (none_past s t above))
-      (λ under. sym (one_set harts old (pair_at (pairs_in harts old)) shows.1 s t) ∙ dite (dec_le harts s)
+      (λ under. sym (seat_determines_pairs harts old (pair_at (pairs_in harts old)) shows.1 s t) ∙ dite (dec_le harts s)
       (λ out. in_range harts old all s t out ∙ sym (in_range harts c made.numbered s t out))
       (λ within. sym (made.rows s t (omega arith) (omega arith))))
 

@@ -1,6 +1,6 @@
-//! A table of the same pairs, which is made by the raises of its own harts. And two tables are compared.
+//! A table of the same pairs, which is made by the raises of its own harts.
 
-ghost use Rattle.std.specs.Prelude.{◌≡◌, ◌+◌, ◌<◌, ℕ, true, IfOk, IfErr};
+ghost use Rattle.std.specs.Prelude.{◌≡◌, ◌+◌, ◌<◌, ℕ, IfOk, IfErr};
 ghost use Rattle.board_model.specs.HartSets.{Has};
 ghost use Rattle.board_model.specs.declared.refusal.Refusal.TheVariants.{Memory};
 ghost use Rattle.ipi.specs.Copies.{IsMade};
@@ -98,37 +98,5 @@ impl PendingTable {
             own = made.take_row(own, self, seat, target, shape);
         }
         Ok((made, own))
-    }
-
-    /// Whether in another table the same interrupts are pending. Both seats stay as they were.
-    pub fn is_as(
-        &self,
-        seat: &mut IpiSeat,
-        other: &PendingTable,
-        others: &mut IpiSeat,
-        shape: &Shape,
-    ) -> bool
-        requires seat { IsSeatOf self.now seat.old }
-        requires all { IsOfAll self.now seat.old }
-        requires harts { harts_of self.now ≡ shape.now.harts }
-        requires other { IsSeatOf other.now others.old }
-        requires other_all { IsOfAll other.now others.old }
-        requires other_harts { harts_of other.now ≡ shape.now.harts }
-        ensures stays { IsSeatOf self.now seat.new
-            × (pending_view_of_seat seat.new ≡ pending_view_of_seat seat.old) }
-        ensures other_stays { IsSeatOf other.now others.new
-            × (pending_view_of_seat others.new ≡ pending_view_of_seat others.old) }
-        ensures same { result ≡ true → pairs_in shape.now.harts (pending_view_of_seat others.old)
-            ≡ pairs_in shape.now.harts (pending_view_of_seat seat.old) }
-    {
-        for number in 0..u64::from(shape.harts()) {
-            let target = shape.hart(number).unwrap();
-            let own = self.senders(seat, target);
-            let theirs = other.senders(others, target);
-            if theirs != own {
-                return false;
-            }
-        }
-        true
     }
 }

@@ -14,7 +14,7 @@ mod table;
 mod view;
 
 pub use pairs::laws;
-pub use seen::one_set;
+pub use seen::seat_determines_pairs;
 pub use table::{IpiSeat, Ledger, PendingTable, Seats};
 pub use tallies::SeatTable;
 pub use view::{IpiAction, PendingSeatView, PendingView};

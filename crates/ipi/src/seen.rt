@@ -10,7 +10,7 @@ ghost use Rattle.tallies.specs.Notes.{numbers};
 
 /// The pending pairs that the view of a seat of all harts shows are those that `pair_in` computes of it, and
 /// `pairs_in` as a list. A pair with a sender that the board lacks is never pending.
-pub fn one_set()
+pub fn seat_determines_pairs()
     ensures one { (harts : ℕ) (c : PendingSeatView) (pairs : ℕ → ℕ → Bool) → Shows harts c pairs → (sender target : ℕ)
         → pair_in c sender target ≡ pairs sender target }
     ensures seen { (harts : ℕ) (c : PendingSeatView) → HasEveryHart harts c → Shows harts c (pair_in c) }

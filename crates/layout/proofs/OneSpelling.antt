@@ -77,8 +77,8 @@ module _ (size : Size) (r q : Record) (sector : List ℕ) (first : IsRecord size
       ap (λ (f : ℕ). let x : Option Trial = Some (record { fallback = f; left = t.left }) in x) (sym one.1 ∙ two.1)
       ∙ ap (λ (l : ℕ). let x : Option Trial = Some (record { fallback = u.fallback; left = l }) in x) (sym one.2 ∙ two.2)
 
-  pub one_record : r ≡ q
-  one_record =
+  pub bytes_determine_record : r ≡ q
+  bytes_determine_record =
       record_is q r.version r.slot r.reason r.next r.image r.trial
       (one_version r.version q.version (sym (version_in size r sector first) ∙ version_in size q sector second))
       (sym (slot_in size r sector first) ∙ slot_in size q sector second)

@@ -25,6 +25,6 @@ module _ (size : Size) (head : PlaceHead) (sector : List ℕ) (is : IsPlaceHead 
       made page serial = record { page = page; serial = serial }
 
 -- one header, one place
-pub one_place_head : (size : Size) (head other : PlaceHead) (sector : List ℕ) → IsPlaceHead size head sector → IsPlaceHead size other sector → head ≡ other
-one_place_head size head other sector first second =
+pub bytes_determine_place_head : (size : Size) (head other : PlaceHead) (sector : List ℕ) → IsPlaceHead size head sector → IsPlaceHead size other sector → head ≡ other
+bytes_determine_place_head size head other sector first second =
     head_is size other sector second head.page head.serial (sym (page_in size head sector first)) (sym (place_serial_in size head sector first))

@@ -9,19 +9,19 @@ ghost use Rattle.layout.specs.declared.places.PlaceHead.{PlaceHead};
 ghost use Rattle.layout.specs.declared.records.Record.{Record};
 
 /// A superblock is that of one size, and begins with the mark. A sector of zeros does not.
-pub fn one_superblock()
+pub fn bytes_determine_superblock()
     ensures one { (y z : Size) (sector : List ℕ) → IsSuperblock y sector → IsSuperblock z sector → y ≡ z }
     ensures marked { (size : Size) (sector : List ℕ) → IsSuperblock size sector → HasMagic sector }
     ensures blank { (n : ℕ) → HasMagic (replicate n 0) → ⊥ }
 {}
 
 /// A sector is the spelling of one record, whatever the board.
-pub fn one_record()
+pub fn bytes_determine_record()
     ensures { (size : Size) (r q : Record) (sector : List ℕ) → IsRecord size r sector → IsRecord size q sector → r ≡ q }
 {}
 
 /// A sector is the header of one place, whatever the board.
-pub fn one_place_head()
+pub fn bytes_determine_place_head()
     ensures { (size : Size) (head other : PlaceHead) (sector : List ℕ) → IsPlaceHead size head sector
         → IsPlaceHead size other sector → head ≡ other }
 {}

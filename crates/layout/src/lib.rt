@@ -17,7 +17,7 @@ mod superblocks;
 mod trials;
 
 pub use gates::{gate_bytes, selected};
-pub use laws::{one_place_head, one_record, one_superblock};
+pub use laws::{bytes_determine_place_head, bytes_determine_record, bytes_determine_superblock};
 pub use places::{PlaceHead, parse_place_head, place_head_bytes};
 pub use records::{Record, Version, parse_record, record_bytes};
 pub use saved::Saved;

@@ -72,8 +72,8 @@ one_by step None h old new other word also p q =
     let e = one_of step old.size (turns.moment_of h old) p.0 q.0 word also p.1 q.1 in
     (with_same h old new other p.0 q.0 p.2 q.2 e.0, e.1)
 
-pub one_turn : IsOneStep → (h : ℕ) (old new other : Machine) (word also : Turned) → turns.MakesTurn h old new word → turns.MakesTurn h old other also → (new ≡ other) × (word ≡ also)
-one_turn step h old new other word also p q = one_by step (doze_of h old.doze) h old new other word also p q
+pub machine_determines_turn : IsOneStep → (h : ℕ) (old new other : Machine) (word also : Turned) → turns.MakesTurn h old new word → turns.MakesTurn h old other also → (new ≡ other) × (word ≡ also)
+machine_determines_turn step h old new other word also p q = one_by step (doze_of h old.doze) h old new other word also p q
 
 -- ---- a call
 pub is_decided : (y : HartState) → (y ≡ started) ⊎ (y ≡ started → ⊥)
@@ -99,5 +99,5 @@ one_call_by None h u old new other called also p q =
     (with_same h old new other p.0 q.0 p.2 q.2 e.0, e.1)
 one_call_by (Some d) h u old new other called also p q = (p.0 ∙ sym q.0, p.1 ∙ sym q.1)
 
-pub one_call : (h : ℕ) (asked : CallWords) (old new other : Machine) (called also : Option Turned) → turns.MakesOneCall h asked old new called → turns.MakesOneCall h asked old other also → (new ≡ other) × (called ≡ also)
-one_call h asked old new other called also p q = one_call_by (doze_of h old.doze) h (turns.calling (hart_at old h) asked) old new other called also p q
+pub registers_determine_call : (h : ℕ) (asked : CallWords) (old new other : Machine) (called also : Option Turned) → turns.MakesOneCall h asked old new called → turns.MakesOneCall h asked old other also → (new ≡ other) × (called ≡ also)
+registers_determine_call h asked old new other called also p q = one_call_by (doze_of h old.doze) h (turns.calling (hart_at old h) asked) old new other called also p q

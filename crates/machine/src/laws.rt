@@ -13,14 +13,14 @@ ghost use Rattle.machine.specs.Dozes.{Dozes, MovesOften};
 
 /// A board has one outcome of a turn of a hart, and one of a call that is made in a hart's place: the memory,
 /// the harts and the tables, and what is said.
-pub fn one_turn()
+pub fn machine_determines_turn()
     ensures turn { (h : ℕ) (old new other : Machine) (word also : Turned) → MakesTurn h old new word
         → MakesTurn h old other also → (new ≡ other) × (word ≡ also) }
     ensures call { (h : ℕ) (asked : CallWords) (old new other : Machine) (called also : Option Turned)
         → MakesOneCall h asked old new called → MakesOneCall h asked old other also
         → (new ≡ other) × (called ≡ also) }
 {
-    hart::one_step();
+    hart::state_determines_step();
 }
 
 /// While a board dozes and was not woken, each turn of a hart is idle, no call is made in a hart's place, and

@@ -17,9 +17,9 @@ mod shows;
 mod states;
 
 pub use hsm::State;
-pub use laws::{a_doze_stands, one_turn};
+pub use laws::{a_doze_stands, machine_determines_turn};
 pub use line::{MachineLine, MemBytes};
-pub use line_laws::one_line;
+pub use line_laws::hart_determines_line;
 pub use machine::Machine;
 pub use parts::Parts;
 pub use sbi::{Did, LifeEnd, ResetType, Turned, Word};

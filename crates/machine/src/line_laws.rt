@@ -6,6 +6,6 @@ ghost use Rattle.machine.specs.Shows.{CsrLine};
 ghost use Rattle.machine.specs.declared.line.MachineLine.{MachineLine};
 
 /// A line of a control and status register says one thing of a board.
-pub fn one_line()
+pub fn hart_determines_line()
     ensures { (h n : ℕ) (m : Machine) (line also : MachineLine) → CsrLine h n m line → CsrLine h n m also → line ≡ also }
 {}

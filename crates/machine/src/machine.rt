@@ -1,4 +1,6 @@
 //! The memory, the harts, and both tables with the one seat of all harts.
+//! A law runs nothing, and tells the prover a fact: `hsm::seat_determines_states`, `ipi::seat_determines_pairs`,
+//! `hart::step_keeps_number`.
 
 ghost use Rattle.std.specs.Prelude.{◌≡◌, ◌⊎◌, ◌≤◌, ◌<◌, ◌+◌, ◌-◌, ◌*◌, ◌++◌, ℕ, length, replicate, IfOk, IfErr, IsOk, IsErrOf, OnOk, OnErr, true, Ok, Err, Some, None, IsTrue, ◌↔◌};
 ghost use Rattle.board_model.specs.Durable.{Image};
@@ -22,7 +24,7 @@ ghost use Rattle.sbi.specs.Words.{word_of_sleep};
 ghost use Rattle.susp.specs.declared.sleeps.Sleep.TheVariants.{ToRam};
 
 use crate::calls::call_in_place;
-use crate::copies::{are_harts_as, are_tables_as, copy_harts, copy_tables};
+use crate::copies::{copy_harts, copy_tables};
 use crate::holds::make_held;
 use crate::parts::Parts;
 use crate::states::see;
@@ -100,8 +102,8 @@ impl Machine {
         let all = stopped_harts(alloc, shape)?;
         let starts = HartTable::new(alloc, *shape, first)?;
         let raises = PendingTable::new(alloc, *shape)?;
-        hsm::one_table();
-        ipi::one_set();
+        hsm::seat_determines_states();
+        ipi::seat_determines_pairs();
         Ok(Machine {
             bus: Bus { ram, doze: None },
             harts: all,
@@ -188,8 +190,8 @@ impl Machine {
     {
         let seats = self.seats.take().unwrap();
         let (seats, pending) = turns::look(seats, &self.tables, id);
-        hsm::one_table();
-        ipi::one_set();
+        hsm::seat_determines_states();
+        ipi::seat_determines_pairs();
         self.seats = Some(seats);
         pending
     }
@@ -203,8 +205,8 @@ impl Machine {
     {
         let seats = self.seats.take().unwrap();
         let (seats, state) = see(seats, &self.tables, id);
-        hsm::one_table();
-        ipi::one_set();
+        hsm::seat_determines_states();
+        ipi::seat_determines_pairs();
         self.seats = Some(seats);
         state
     }
@@ -235,8 +237,8 @@ impl Machine {
             address,
             opaque,
         );
-        hsm::one_table();
-        ipi::one_set();
+        hsm::seat_determines_states();
+        ipi::seat_determines_pairs();
         self.bus.doze = None;
         self.seats = Some(seats);
         Turned::Made(Did::Resumed)
@@ -249,7 +251,7 @@ impl Machine {
         ensures asks { result ≡ Durable → StandsAtCall id self.new }
         ensures harts { length self.new.harts ≡ length self.old.harts }
     {
-        hart::one_number();
+        hart::step_keeps_number();
         match self.dozes(id) {
             Some(doze) => self.doze_turn(id, doze),
             None => self.own_turn(id),
@@ -270,8 +272,8 @@ impl Machine {
             &mut self.bus.ram,
             &self.shape,
         );
-        hsm::one_table();
-        ipi::one_set();
+        hsm::seat_determines_states();
+        ipi::seat_determines_pairs();
         self.seats = Some(seats);
         turned
     }
@@ -286,7 +288,7 @@ impl Machine {
         ensures asks { result.1 ≡ Durable → StandsAtCall id self.new }
         ensures harts { length self.new.harts ≡ length self.old.harts }
     {
-        hart::one_number();
+        hart::step_keeps_number();
         match self.dozes(id) {
             Some(doze) => (1, self.doze_turn(id, doze)),
             None => self.own_row(id, most),
@@ -310,8 +312,8 @@ impl Machine {
             &self.shape,
             most,
         );
-        hsm::one_table();
-        ipi::one_set();
+        hsm::seat_determines_states();
+        ipi::seat_determines_pairs();
         self.seats = Some(seats);
         (made, turned)
     }
@@ -346,8 +348,8 @@ impl Machine {
             &self.shape,
             call,
         );
-        hsm::one_table();
-        ipi::one_set();
+        hsm::seat_determines_states();
+        ipi::seat_determines_pairs();
         self.seats = Some(seats);
         called
     }
@@ -377,8 +379,8 @@ impl Machine {
             &mut self.bus,
             store,
         );
-        hsm::one_table();
-        ipi::one_set();
+        hsm::seat_determines_states();
+        ipi::seat_determines_pairs();
         self.seats = Some(seats);
         word
     }
@@ -415,30 +417,6 @@ impl Machine {
             tables,
             seats: Some(all),
         })
-    }
-
-    /// Whether that machine stands as this one: its memory, its harts, its doze and its tables. Both stay as they were.
-    pub fn is_as(&mut self, other: &mut Machine) -> bool
-        ensures stays { (self.new ≡ self.old) × (other.new ≡ other.old) }
-        ensures same { result ≡ true → other.old ≡ self.old }
-    {
-        if other.shape != self.shape || !are_harts_as(&self.harts, &other.harts) {
-            return false;
-        }
-        let mut seats = self.seats.take().unwrap();
-        let mut others = other.seats.take().unwrap();
-        let tables = are_tables_as(
-            &self.tables,
-            &mut seats,
-            &self.bus.doze,
-            &other.tables,
-            &mut others,
-            &other.bus.doze,
-            &self.shape,
-        );
-        self.seats = Some(seats);
-        other.seats = Some(others);
-        tables && other.bus.ram.bytes() == self.bus.ram.bytes()
     }
 
     /// The parts of the machine, with the seat of all harts, by which `split` makes one for each.

@@ -8,9 +8,10 @@ ghost use Rattle.store.specs.Leaves.{IsIdle};
 use crate::commits::{GATE, RECORDS};
 use crate::plans::{Plan, Request};
 use crate::runs::run;
-use board_model::{Reason, Refusal, Shape, Slot};
+use board_model::{Refusal, Shape};
 use disk::{Disk, Fault, Sector};
-use layout::{Record, Side, Version, gate_bytes, has_magic, record_bytes, superblock_bytes};
+use layout::{Side, gate_bytes, has_magic, record_bytes, superblock_bytes};
+use store::formatted_record;
 
 /// How far a format has come: the call that it asks for, or how it has ended.
 #[derive(Clone, Copy, PartialEq, Eq, Drop)]
@@ -58,7 +59,7 @@ impl Formatting {
         match self.step {
             FormatStep::ReadSuperblock => Request::Read(0),
             FormatStep::WriteRecord => {
-                *sector = record_bytes(&new_record());
+                *sector = record_bytes(&formatted_record());
                 Request::Write(RECORDS)
             }
             FormatStep::WriteGate => {
@@ -120,20 +121,6 @@ impl Formatting {
             FormatStep::Marked => Err(Refusal::AlreadyFormatted),
             _ => Err(Refusal::Device),
         }
-    }
-}
-
-/// The record of a disk that was just formatted.
-fn new_record() -> Record
-    ensures { result ≡ formatted_record }
-{
-    Record {
-        version: Version::Two,
-        slot: Slot::new(0).unwrap(),
-        reason: Reason::NoReason,
-        next: 0,
-        image: None,
-        trial: None,
     }
 }
 

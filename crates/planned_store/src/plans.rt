@@ -8,7 +8,8 @@ use crate::commits::{Commit, GATE, RECORDS, Selected};
 use crate::formats::Formatting;
 use board_model::{Refusal, Shape};
 use disk::{Fault, Sector};
-use layout::{Record, Side, Version, parse_record, parse_superblock, selected};
+use layout::{Side, Version, parse_record, parse_superblock, selected};
+use store::in_version_two;
 
 /// A call of the disk that a plan asks for, of one sector or of none.
 #[derive(Clone, Copy, PartialEq, Eq, Drop)]
@@ -161,15 +162,5 @@ fn found_so(found: Selected) -> Plan
     match found.live.version {
         Version::Two => Plan::Found(found),
         Version::One => Plan::Renewing(Commit::new(found, in_version_two(&found.live))),
-    }
-}
-
-/// That record in version 2.
-fn in_version_two(r: &Record) -> Record
-    ensures { result ≡ renewed_record r.now }
-{
-    Record {
-        version: Version::Two,
-        ..*r
     }
 }

@@ -1,12 +1,8 @@
 //! An open store: what is kept of one life from one command to the next.
-ghost use Rattle.std.specs.Prelude.{◌≡◌, ◌-◌, ◌^◌, ◌<◌, ◌⊎◌, Some, None, Err, IfOk, IfErr, OnOk, true, false};
-ghost use Rattle.board_model.specs.Durable.{refusal_of};
-ghost use Rattle.board_model.specs.Shapes.{Size};
-ghost use Rattle.board_model.specs.Views.{change_of, number_of_refusal};
+ghost use Rattle.std.specs.Prelude.{◌≡◌, ◌-◌, ◌^◌, ◌<◌, ◌⊎◌, Err, IfOk, IfErr, OnOk, true, false};
+ghost use Rattle.board_model.specs.Views.{change_of};
 ghost use Rattle.disk.specs.Facts.{Content};
 ghost use Rattle.layout.specs.Records.{durable_in};
-ghost use Rattle.store.specs.Follows.{next_of, Follows};
-ghost use Rattle.store.specs.Standing.{state_of};
 ghost use Rattle.planned_store.specs.Stores.{begun, state_now, Holds, Told, Asked, PlansCommand, receipt_of, store_after};
 
 use crate::commits::{Commit, CommitStep, Selected};
@@ -14,7 +10,8 @@ use crate::plans::Plan;
 use crate::runs::run;
 use board_model::{Command, Durable, Entry, Refusal};
 use disk::Disk;
-use layout::{Record, Version};
+
+use store::record_after;
 
 /// An open store, over a disk that nobody else writes: what is selected there, and the receipts of this life.
 #[derive(Clone, Copy, PartialEq, Eq, Drop)]
@@ -125,35 +122,4 @@ pub fn apply<D: Disk>(disk: &mut D, store: &mut OpenStore, command: Command) -> 
     let mut plan = store.plan(command)?;
     run(disk, &mut plan);
     store.ended(Entry::Command(command).ends_life(), &plan)
-}
-
-/// The record that the command makes. Refused by the table of commands.
-fn record_after(old: &Record, command: Command) -> Result<Record, Refusal>
-    ensures ok { IfOk result (λ next. (size : Size) (content : Content)
-        → (refusal_of (state_of size old.now content) (change_of command) ≡ None)
-        × Follows size old.now (Entry.Command command) next) }
-    ensures refused { IfErr result (λ e. (size : Size) (content : Content)
-        → refusal_of (state_of size old.now content) (change_of command) ≡ Some (number_of_refusal e)) }
-    ensures others { IfErr result (λ e. (e ≡ Refusal.Device → ⊥) × (e ≡ Refusal.Down → ⊥)) }
-{
-    let durable = old.durable().after(command)?;
-    Ok(next_record(old, &durable))
-}
-
-/// The record of that durable state, whose image, where it has one, is the old record's.
-fn next_record(old: &Record, durable: &Durable) -> Record
-    ensures { result ≡ next_of old.now durable.now }
-{
-    Record {
-        version: Version::Two,
-        slot: durable.slot,
-        reason: durable.reason,
-        next: durable.next,
-        image: if durable.image.is_some() {
-            old.image
-        } else {
-            None
-        },
-        trial: durable.trial,
-    }
 }

@@ -3,7 +3,7 @@
 //! [`decode`] answers the instruction that a word of 32 bits spells, or `None` where no
 //! instruction of this profile is written so; [`encode`] writes an instruction as its one word.
 //! What an instruction is written as stands in `specs/Spells.antt`, as a relation between
-//! instructions and numbers: fields times powers of two. [`one_reading`] is the law that the
+//! instructions and numbers: fields times powers of two. [`word_determines_instruction`] is the law that the
 //! relation is one to one. An instruction prints as an assembler writes it.
 //! [`flatten`] gives an instruction in one flat form, for who carries it out.
 //!
@@ -26,7 +26,7 @@ mod ops;
 mod tables;
 mod word;
 
-pub use code::{decode, encode, one_reading};
+pub use code::{decode, encode, word_determines_instruction};
 pub use csrs::{SATP, SCAUSE, SEPC, SIE, SIP, SSCRATCH, SSTATUS, STVAL, STVEC};
 pub use fields::{
     BranchOffset, CsrNumber, CsrUimm, Imm12, Imm20, JumpOffset, Reg, Shamt, WordShamt,

@@ -145,5 +145,5 @@ finds e f a b c (calls.SystemReset k r) is = found e f a b c (calls.SystemReset 
 finds e f a b c (calls.SystemSuspend k x o) is = found e f a b c (calls.SystemSuspend k x o) is.0 is.1
 finds e f a b c calls.Unknown is = is_unknown e f a b c is (call_at e f a b c) (row e f a b c)
 
-pub one_call : (e f a b c : ℕ) (call : Call) → call_at e f a b c ≡ call ↔ IsCallAt e f a b c call
-one_call e f a b c call = ((λ is. subst (λ (x : Call). IsCallAt e f a b c x) is (row e f a b c)), finds e f a b c call)
+pub registers_determine_call : (e f a b c : ℕ) (call : Call) → call_at e f a b c ≡ call ↔ IsCallAt e f a b c call
+registers_determine_call e f a b c call = ((λ is. subst (λ (x : Call). IsCallAt e f a b c x) is (row e f a b c)), finds e f a b c call)

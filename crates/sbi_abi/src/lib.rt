@@ -8,6 +8,6 @@ mod masks;
 mod ret;
 
 pub use call::{Call, Extension};
-pub use laws::one_call;
+pub use laws::registers_determine_call;
 pub use masks::targets;
 pub use ret::{SbiError, SbiRet, put};

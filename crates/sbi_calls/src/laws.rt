@@ -3,7 +3,7 @@
 ghost use Rattle.sbi_calls.specs.Laws.{ErrorsChangeNothing, StartsTheStopped, StatusIsOne};
 
 /// What the table of answers says in the words of the calls.
-pub fn one_table_of_answers()
+pub fn call_determines_answer()
     ensures errors { ErrorsChangeNothing }
     ensures starts { StartsTheStopped }
     ensures status { StatusIsOne }

@@ -14,7 +14,7 @@ mod words;
 
 pub use dispatches::dispatch;
 pub use endings::Ending;
-pub use laws::one_table_of_answers;
+pub use laws::call_determines_answer;
 pub use requests::{Request, request_of};
 pub use tables::{Seats, Tables};
 pub use words::{Did, Turned};

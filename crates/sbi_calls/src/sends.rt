@@ -1,4 +1,5 @@
 //! Interrupts to a set of harts.
+//! A law runs nothing, and tells the prover a fact: `ipi::seat_determines_pairs`.
 
 ghost use Rattle.std.specs.Prelude.{◌≡◌, ◌<◌, ◌≤◌, ℕ, Ok, List, Bool};
 ghost use Rattle.ipi.specs.Pairs.{Sits, SameHarts};
@@ -35,7 +36,7 @@ fn send_one(
         → ArePairs (harts_of tables.entry.now.pending) (pending_view_of_seat result)
         (pairs_to by targets target pairs) }
 {
-    ipi::one_set();
+    ipi::seat_determines_pairs();
     if targets.contains(target) {
         let raised = tables.pending.raise(pending, by, target);
         raised.0

@@ -1,4 +1,5 @@
 //! Requests done by the hart table.
+//! A law runs nothing, and tells the prover a fact: `hsm::seat_determines_states`.
 
 ghost use Rattle.std.specs.Prelude.{◌≡◌, ◌<◌, Ok};
 ghost use Rattle.hsm.specs.declared.view.Stage.TheVariants.{Running, Out, Suspended};
@@ -32,7 +33,7 @@ pub(crate) fn start(
     ensures alone { DoesAlone (harts_of_both tables.entry.now) by (Ok (Start target site opaque)) seats result.0
         result.1 }
 {
-    hsm::one_table();
+    hsm::seat_determines_states();
     let Seats { harts, pending } = seats;
     let (harts, granted) = hsm::start(&tables.harts, harts, by, target, site, opaque);
     let seats = Seats { harts, pending };
@@ -70,7 +71,7 @@ pub(crate) fn stop(seats: Seats, tables: &Tables, by: HartId) -> (Seats, Ending)
     ensures ending { result.1 ≡ Stops }
     ensures alone { DoesAlone (harts_of_both tables.entry.now) by (Ok Stop) seats result.0 result.1 }
 {
-    hsm::one_table();
+    hsm::seat_determines_states();
     let Seats { harts, pending } = seats;
     let harts = hsm::stop(&tables.harts, harts, by);
     (Seats { harts, pending }, Ending::Stops)
@@ -87,7 +88,7 @@ pub(crate) fn suspend(seats: Seats, tables: &Tables, by: HartId) -> (Seats, Endi
     ensures ending { result.1 ≡ Suspends }
     ensures alone { DoesAlone (harts_of_both tables.entry.now) by (Ok Suspend) seats result.0 result.1 }
 {
-    hsm::one_table();
+    hsm::seat_determines_states();
     let Seats { harts, pending } = seats;
     let harts = hsm::suspend(&tables.harts, harts, by);
     (Seats { harts, pending }, Ending::Suspends)

@@ -1,4 +1,4 @@
-//! libsbistore.a: the store for C, as planned calls (c/sbistore.h). The caller keeps the state, makes the calls of its device that are
+//! libsbistore.a: the store for C, as planned calls (include/sbistore.h). The caller keeps the state, makes the calls of its device that are
 //! asked for, and tells how each ended. Here is what turns that state into the values of the crate `planned_store`, and back.
 #![tactic(auto)]
 

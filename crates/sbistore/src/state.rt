@@ -1,4 +1,4 @@
-//! What C keeps for the library: numbers and bytes alone (c/sbistore.h).
+//! What C keeps for the library: numbers and bytes alone (include/sbistore.h).
 
 ghost use Rattle.std.specs.Prelude.{◌≡◌};
 ghost use Rattle.sbistore.specs.Told.{told_of, plain_of, with_trial, with_image};

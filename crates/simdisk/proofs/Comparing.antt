@@ -1,5 +1,5 @@
 -- Disks on which nothing was written since their last syncs, and which stand alike.
-use Rattle.std.proofs.Common.{◌≡◌, ◌∙◌, inl, inr, ℕ, List, [], ◌∷◌, All, length, sym, arith}
+use Rattle.std.proofs.Common.{◌≡◌, inl, inr, ℕ, List, [], ◌∷◌, All, length, arith}
 use Rattle.std.proofs.lemmas.List.Elements.{All-head, All-tail}
 use Rattle.std.proofs.lemmas.Bool.{cases_lt}
 use Rattle.disk.specs.Facts.{Content}
@@ -19,13 +19,6 @@ untouched_none (p ∷ ps) k none = (
   elim (cases_lt k p.first) [ inl low ↦ inl low | inr le ↦ inr (omega (arith, le, p.long, All-head is_empty p ps none)) ],
   untouched_none ps k (All-tail is_empty p ps none),
 )
-
--- what a crash may leave of one of two disks of that content, where its patches are empty, it may leave of the other
-pub leaves_alike : (stood stood' now c : Content) (ps : List Patch) (rs : List (ℕ × ℕ)) → All is_empty ps
-    → AgreesOutside stood (ranges (pieces ps)) now → AgreesOutside stood' rs now → AgreesOutside stood (ranges (pieces ps)) c → AgreesOutside stood' rs c
-leaves_alike stood stood' now c ps rs none was is a =
-    let same : (k : ℕ) → Untouched (ranges (pieces ps)) k = λ k. untouched_none ps k none in
-    record { as_long = a.as_long ∙ sym was.as_long ∙ is.as_long; same = λ k u. a.same k (same k) ∙ sym (was.same k (same k)) ∙ is.same k u }
 
 -- what a read gives stood at the last sync
 pub stood_settled : (stood now : Content) (ps : List Patch) → All is_empty ps → AgreesOutside stood (ranges (pieces ps)) now → now ≡ stood

@@ -1,7 +1,6 @@
-//! A disk in memory is copied, with what it keeps of its writes and syncs and what is armed, and compared.
-ghost use Rattle.std.specs.Prelude.{◌≡◌, ◌↔◌, true, length, All, IsTrue, IfOk};
-ghost use Rattle.disk.specs.Alike.{FailsAlike, StandsAs};
-ghost use Rattle.disk.specs.Facts.{Content, Unchanged};
+//! A disk in memory is copied, with what it keeps of its writes and syncs and what is armed.
+ghost use Rattle.std.specs.Prelude.{◌≡◌, ◌↔◌, length, All, IsTrue, IfOk};
+ghost use Rattle.disk.specs.Facts.{Unchanged};
 ghost use Rattle.disk.specs.declared.device.ArmedFault.{ArmedFault};
 ghost use Rattle.simdisk.specs.Views.{piece, pieces};
 
@@ -146,24 +145,5 @@ impl CopyDisk for SimDisk {
             faults: self.faults,
             past: self.past.again(),
         })
-    }
-
-    /// What was written since the last sync is not compared: where anything was, on either disk, the answer is false.
-    fn is_as(&self, other: &SimDisk) -> bool
-        ensures facts { result ≡ true
-            → StandsAs (⟦<SimDisk as Disk>⟧.facts self.now) (⟦<SimDisk as Disk>⟧.facts other.now) }
-        ensures fault_state { result ≡ true
-            → FailsAlike (⟦<SimDisk as Disk>⟧.fault_state self.now) (⟦<SimDisk as Disk>⟧.fault_state other.now) }
-        ensures arms { result ≡ true → (fault : ArmedFault) → ⟦<SimDisk as Disk>⟧.arms other.now fault
-            ↔ ⟦<SimDisk as Disk>⟧.arms self.now fault }
-    {
-        other.failures == self.failures
-            && other.refused == self.refused
-            && other.faults == self.faults
-            && other.lane_calls == self.lane_calls
-            && other.loan == self.loan
-            && are_empty(&self.history.written)
-            && are_empty(&other.history.written)
-            && other.content.as_slice() == self.content.as_slice()
     }
 }

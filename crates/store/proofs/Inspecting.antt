@@ -8,7 +8,7 @@ use Rattle.layout.specs.Records.{IsRecord}
 use Rattle.layout.specs.declared.records.Record.{Record}
 use Rattle.layout.specs.declared.saved.Saved.{Saved}
 use Rattle.layout.proofs.Spellings.{one_size, superblock_has_magic}
-use Rattle.layout.proofs.OneSpelling.{one_record}
+use Rattle.layout.proofs.OneSpelling.{bytes_determine_record}
 use Rattle.disk.specs.Facts.{Content, Facts, sector, counted}
 use Rattle.store.specs.Opens.{IsBoard}
 use Rattle.store.specs.Standing.{live_sector, saved_memory}
@@ -58,7 +58,7 @@ same_told false false P first second = refl
 -- the live record has one image
 one_saved : (size : Size) (c : Content) (x y : Saved) → KeepsImage size c x → KeepsImage size c y → x ≡ y
 one_saved size c x y first second =
-    let same = one_record size first.0 second.0 (live_sector c) first.1 second.1 in
+    let same = bytes_determine_record size first.0 second.0 (live_sector c) first.1 second.1 in
     some_is x y (sym first.2 ∙ ap (λ (r : Record). r.image) same ∙ second.2)
   where
     some_is : (a b : Saved) → Some a ≡ Some b → a ≡ b
@@ -80,8 +80,8 @@ same_seen size c Bad Absent first second = absurd (second first.0 first.1)
 same_seen size c Bad Whole first second = absurd (apart size c second first)
 same_seen size c Bad Bad first second = refl
 
-pub one_inspection : (y z : Size) (c : Content) (i j : Inspection) → IsBoard y c → IsInspected y c i → IsBoard z c → IsInspected z c j → i ≡ j
-one_inspection y z c i j board first other second =
+pub content_determines_inspection : (y z : Size) (c : Content) (i j : Inspection) → IsBoard y c → IsInspected y c i → IsBoard z c → IsInspected z c j → i ≡ j
+content_determines_inspection y z c i j board first other second =
     let size : z ≡ y = one_size z y (sector c 0) other.0 board.0 in
     let here : IsInspected y c j = subst (λ (s : Size). IsInspected s c j) size second in
     ap (λ (n : ℕ). made n i.live i.other i.image) (first.gate ∙ sym here.gate)

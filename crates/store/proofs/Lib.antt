@@ -17,7 +17,6 @@ pub mod Bridges
 pub mod Armed
 pub mod Entering
 pub mod Copied
-pub mod Same
 pub mod Kept
 pub mod Inspecting
 pub mod Taken

@@ -17,7 +17,7 @@ use Rattle.store.specs.Leaves.{SameLength, ReadsAlone, IsRenewed, LeftAsBefore, 
 use Rattle.store.specs.Opens.{open_calls, OpenRefused, FindCalls, OpenCalls}
 use Rattle.store.specs.Standing.{live_sector, version_at, state_of, Selects, StandsFor}
 use Rattle.store.proofs.Found.{stands_here}
-use Rattle.store.proofs.States.{one_standing, either_stands}
+use Rattle.store.proofs.States.{content_determines_state, either_stands}
 
 module _ (size : Size) (side : ℕ) (r next : Record) (same : (c : Content) → state_of size next c ≡ state_of size r c) where
   one : (base c : Content) → SelectsEither size side r next base c → StandsFor c size (state_of size r base)
@@ -50,7 +50,7 @@ in_range_two size r range = record {
 -- ---- what an open leaves
 renewed_then : (x y z : Content) → IsRenewed x y → IsRenewed y z → IsRenewed x z
 renewed_then x y z xy yz =
-    let one = one_standing y yz.1 xy.1 yz.2 xy.2 yz.3 xy.4 in
+    let one = content_determines_state y yz.1 xy.1 yz.2 xy.2 yz.3 xy.4 in
     (xy.0, xy.1, xy.2, xy.3, subst (λ (s : DurableState). StandsFor z xy.1 s) one.1 (subst (λ (size : Size). StandsFor z size yz.2) one.0 yz.4))
 
 -- what was left as before one moment, after calls that left what there was before another
@@ -146,7 +146,7 @@ refused_by_renewal disk new e is failed = subst (λ (x : Refusal). OpenRefused d
 
 -- ---- the record that is written anew
 pub renewed_state : (b : Facts) (y z : Size) (side : ℕ) (r : Record) (s : DurableState) → IsUp b y side r → b.may_leave b.content → StandsFor b.content z s → state_of y r b.content ≡ s
-renewed_state b y z side r s up may_keep stands = (one_standing b.content y z (state_of y r b.content) s (stands_here b y side r up may_keep) stands).1
+renewed_state b y z side r s up may_keep stands = (content_determines_state b.content y z (state_of y r b.content) s (stands_here b y side r up may_keep) stands).1
 
 pub four_sectors : (a : Facts) (size : Size) (side : ℕ) (r : Record) → IsUp a size side r → a.may_leave a.content → 4 ≤ length a.content
 four_sectors a size side r up may_keep = few (length a.content) (sectors_of size) (up a.content may_keep).selects.enough (omega arith)

@@ -149,11 +149,4 @@ impl Journal {
             suspended: self.suspended,
         })
     }
-
-    /// Whether that journal has the same entries.
-    pub fn is_same(&self, other: &Journal) -> bool
-        ensures { result ≡ true → other.now ≡ self.now }
-    {
-        self.commands.as_slice() == other.commands.as_slice() && self.suspended == other.suspended
-    }
 }

@@ -5,11 +5,12 @@ ghost use Rattle.disk.specs.Facts.{Content, LeavesSince, Failed, counted};
 ghost use Rattle.layout.specs.Records.{IsInRange};
 ghost use Rattle.store.specs.Commits.{SameAreas, Keeps};
 ghost use Rattle.store.specs.Leaves.{IsSettled};
-ghost use Rattle.store.specs.Opens.{FailsForCause, RenewalCalls, renewed_record};
+ghost use Rattle.store.specs.Opens.{FailsForCause, RenewalCalls};
 ghost use Rattle.store.specs.Renewals.{IsKeptAnew};
 ghost use Rattle.store.specs.Standing.{StandsFor, state_of};
 
 use crate::commits::commit;
+use crate::next_records::in_version_two;
 use crate::opens::FoundRecord;
 use board_model::Refusal;
 use disk::Disk;
@@ -62,15 +63,5 @@ pub fn migrated<D: Disk>(disk: &mut D, found: FoundRecord) -> Result<FoundRecord
             let kept = renewed(disk, found, &next)?;
             Ok(kept)
         }
-    }
-}
-
-/// That record in version 2.
-fn in_version_two(r: &Record) -> Record
-    ensures { result ≡ renewed_record r.now }
-{
-    Record {
-        version: Version::Two,
-        ..*r
     }
 }

@@ -1,23 +1,24 @@
 //! The store: one life of the durable state.
-ghost use Rattle.std.specs.Prelude.{◌≡◌, ◌≤◌, ◌<◌, ◌+◌, ◌-◌, ◌*◌, ◌^◌, ◌⊎◌, ◌↔◌, IsTrue, ℕ, List, get_or, false, true, length, map, Some, None, Err, IfSome, IfOk, IfErr, OnOk, IsErrOf, MatchResult, MatchOption};
+ghost use Rattle.std.specs.Prelude.{◌≡◌, ◌≤◌, ◌<◌, ◌+◌, ◌-◌, ◌*◌, ◌^◌, ◌⊎◌, ◌↔◌, IsTrue, false, true, length, map, Some, None, Err, IfOk, IfErr, OnOk, IsErrOf, MatchResult};
 ghost use Rattle.board_model.specs.Durable.{DurableState, Change, Suspend, after, fold, ends_life, refusal_of};
-ghost use Rattle.board_model.specs.Views.{change_of, change_in, number_of_refusal};
+ghost use Rattle.board_model.specs.Views.{change_of, change_in};
 ghost use Rattle.board_model.specs.Shapes.{Size, ram_bytes_of};
-ghost use Rattle.layout.specs.declared.saved.Saved.{Saved};
 ghost use Rattle.image.specs.Refusals.{StopsWithin};
-ghost use Rattle.disk.specs.Facts.{Failed, Content};
+ghost use Rattle.disk.specs.Facts.{Failed};
 ghost use Rattle.store.specs.Standing.{state_of, memory_in};
 ghost use Rattle.store.specs.Entries.{are_plain, drop_image};
 ghost use Rattle.store.specs.Taken.{are_taken};
 ghost use Rattle.store.specs.Commits.{Keeps};
-ghost use Rattle.store.specs.Follows.{next_of, durable_after, suspended, FitsBoard, Follows};
+ghost use Rattle.store.specs.Follows.{durable_after, suspended, FitsBoard, Follows};
 ghost use Rattle.store.specs.declared.doubts.Doubt.{Doubt};
 
 mod copies;
+mod looks;
 
 use crate::commits::{Uncommitted, commit};
 use crate::doubts::Doubt;
 use crate::journals::Journal;
+use crate::next_records::{free_area, record_after, suspended, suspended_state};
 use crate::opens::find;
 use crate::receipts::Receipt;
 use crate::renews::migrated;
@@ -26,7 +27,7 @@ use board_model::{Addr, Command, Durable, Entry, HartId, MAX_COMMANDS, Refusal, 
 use crew::Crew;
 use disk::{ArmedFault, Disk};
 use image::{read_area, write_area};
-use layout::{Record, Saved, Side, Version};
+use layout::{Record, Side};
 use ram::Ram;
 use savers::{LaneCounts, Snapshot};
 use std::alloc::Global;
@@ -65,7 +66,6 @@ pub struct Store<D: Disk + Drop> {
 }
 
 impl<D: Disk + Drop> Store<D> {
-    ghost use Rattle.board_model.specs.Views.{durable_of};
     ghost use Rattle.store.specs.Leaves.{IsIdle, LeavesOnly, LeavesEither, ReadsAlone, IsSettled, LeavesVersionTwo};
     ghost use Rattle.store.specs.Opens.{ReadsAs, OpenRefused, open_calls, OpenCalls, CausedRefusal};
     ghost use Rattle.store.specs.Lives.{Reaches, TakesNone, Refused, Applied, SuspendRefused, Suspended, IsLoaded, LoadRefused};
@@ -138,52 +138,6 @@ impl<D: Disk + Drop> Store<D> {
             failures_at_open,
             refused_memory: false,
         })
-    }
-
-    /// The shape of the board that the disk was formatted for.
-    pub fn shape(&self) -> Shape
-        ensures { result ≡ size_of_store self.now }
-    {
-        self.shape
-    }
-
-    /// The durable state that the open found.
-    pub fn found(&self) -> Durable
-        ensures { result ≡ durable_of (found_state self.now) }
-    {
-        self.opened.durable()
-    }
-
-    /// The durable state now: what was found and the journal, without a command in doubt.
-    pub fn now(&self) -> Durable
-        ensures { result ≡ durable_of (now_state self.now) }
-    {
-        self.current.durable()
-    }
-
-    /// The command of this life that is in doubt, a suspension without its memory; none where the store is up.
-    pub fn in_doubt(&self) -> Option<Entry>
-        ensures { MatchOption result (doubt_of self.now ≡ None) (λ e. (memory : List ℕ)
-            × (doubt_of self.now ≡ Some (change_in e memory))) }
-    {
-        let doubt = self.doubt?;
-        Some(doubt.entry)
-    }
-
-    /// The entry of this life's journal at that place, from 1 as receipts count; none past its end.
-    pub fn entry(&self, number: u64) -> Option<Entry>
-        ensures some { IfSome result (λ e. (1 ≤ number) × (number ≤ receipts self.now)
-            × ((memory : List ℕ)
-            × (get_or (journal_of self.now) (number - 1) (change_in e memory) ≡ change_in e memory))) }
-        ensures none { result ≡ None → (number ≡ 0) ⊎ (receipts self.now < number) }
-    {
-        if number == 0 {
-            return None;
-        }
-        if (self.journal.len() as u64) < number {
-            return None;
-        }
-        Some(self.journal.entry(number as usize - 1))
     }
 
     /// Issues a command: its record is made durable, and then the gate that selects it. The receipt is its
@@ -473,39 +427,6 @@ fn remembers(was: bool, refusal: Refusal) -> bool
     }
 }
 
-/// The record that the command makes. Refused by the table of commands, and so by none of the refusals that a
-/// store has of its own.
-fn record_after(old: &Record, command: Command) -> Result<Record, Refusal>
-    ensures ok { IfOk result (λ next. (size : Size) (content : Content)
-        → (refusal_of (state_of size old.now content) (change_of command) ≡ None)
-        × Follows size old.now (Entry.Command command) next) }
-    ensures refused { IfErr result (λ e. (size : Size) (content : Content)
-        → refusal_of (state_of size old.now content) (change_of command) ≡ Some (number_of_refusal e)) }
-    ensures others { IfErr result
-        (λ e. (e ≡ Refusal.Device → ⊥) × (e ≡ Refusal.Down → ⊥) × (e ≡ Refusal.Memory → ⊥)) }
-{
-    let durable = old.durable().after(command)?;
-    Ok(next_record(old, &durable))
-}
-
-/// The record of that durable state, whose image, where it has one, is the old record's.
-fn next_record(old: &Record, durable: &Durable) -> Record
-    ensures { result ≡ next_of old.now durable.now }
-{
-    Record {
-        version: Version::Two,
-        slot: durable.slot,
-        reason: durable.reason,
-        next: durable.next,
-        image: if durable.image.is_some() {
-            old.image
-        } else {
-            None
-        },
-        trial: durable.trial,
-    }
-}
-
 /// Whether the memory, the hart and the address are the board's.
 fn fits_board(shape: &Shape, ram: &Ram, hart: HartId, address: Addr) -> bool
     ensures { IsTrue result ↔ FitsBoard shape.now ram.now hart address }
@@ -513,41 +434,4 @@ fn fits_board(shape: &Shape, ram: &Ram, hart: HartId, address: Addr) -> bool
     ram.pages() == shape.pages()
         && shape.hart(hart.number() as u64).is_some()
         && shape.address(address.value()).is_some()
-}
-
-/// The area that the record's image does not use, area 0 where there is none.
-fn free_area(r: &Record) -> Side
-    ensures free { (saved : Saved) → r.now.image ≡ Some saved
-        → (result ≡ 0 → saved.area ≡ 0 → ⊥) × (result ≡ 1 → saved.area ≡ 1 → ⊥) }
-    ensures first { r.now.image ≡ None → result ≡ 0 }
-    ensures range { result < 2 }
-{
-    match r.image {
-        None => Side::first(),
-        Some(saved) => saved.area.other(),
-    }
-}
-
-/// The durable state that a suspension makes of a record's. Refused `SerialsSpent` by the table of commands.
-fn suspended_state(old: &Record, at: Resumption) -> Result<Durable, Refusal>
-    ensures ok { OnOk result (old.now.next + 1 < 2 ^ 64) }
-    ensures after { IfOk result (λ durable. durable ≡ durable_after old.now at) }
-    ensures refused { IfErr result (λ e. (e ≡ Refusal.SerialsSpent) × (old.now.next ≡ 2 ^ 64 - 1)) }
-{
-    let _serial = old.next;
-    old.durable().after_suspend(at.hart, at.address, at.opaque)
-}
-
-/// The record of that durable state, where the memory of its image stands in that area.
-fn suspended(durable: &Durable, area: Side, counts: LaneCounts) -> Record
-    ensures { result ≡ suspended durable.now area counts }
-{
-    Record {
-        version: Version::Two,
-        slot: durable.slot,
-        reason: durable.reason,
-        next: durable.next,
-        image: durable.image.map(|head| Saved { head, area, counts }),
-        trial: durable.trial,
-    }
 }

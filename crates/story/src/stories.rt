@@ -1,4 +1,5 @@
 //! What whoever runs the firmware asks of one disk, and what is seen, as one run.
+//! A law runs nothing, and tells the prover a fact: `blank_disks`, `content_determines_state`, `kept_disks`, `whole_images_load`.
 ghost use Rattle.std.specs.Prelude.{◌≡◌, ◌⊎◌, ◌≤◌, ℕ, [], None, length, vec_len, vec_capacity, IfOk, IfErr};
 ghost use Rattle.board_model.specs.Durable.{Suspend};
 ghost use Rattle.board_model.specs.Shapes.{Size};
@@ -19,7 +20,7 @@ use ram::Ram;
 use simdisk::{Fill, SimDisk};
 use std::alloc::Global;
 use store::{
-    Receipt, Resumption, Saving, Store, blank_disks, format, kept_disks, one_standing,
+    Receipt, Resumption, Saving, Store, blank_disks, content_determines_state, format, kept_disks,
     whole_images_load,
 };
 use susp::wake_image;
@@ -66,7 +67,7 @@ pub fn story_on<C: Crew>(
     ensures idle { IfOk result (λ run. IsIdle (⟦<SimDisk as Disk>⟧.facts run.1)) }
     ensures refused { IfErr result (λ left. left ≡ disk) }
 {
-    one_standing();
+    content_determines_state();
     let Ok(seen) = Vec::with_capacity(alloc, asked.len()) else {
         return Err(disk);
     };

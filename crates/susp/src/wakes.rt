@@ -1,4 +1,5 @@
 //! A board wakes from its image.
+//! A law runs nothing, and tells the prover a fact: `kept_disks`, `whole_images_load`.
 
 ghost use Rattle.std.specs.Prelude.{◌≡◌, ◌⊎◌, ◌+◌, ◌*◌, ℕ, length, Ok, Err, IfOk, IfErr, OnOk, IsErrOf};
 ghost use Rattle.disk.specs.Facts.{Failed, counted};

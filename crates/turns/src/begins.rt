@@ -1,4 +1,5 @@
 //! What comes before the step of a turn.
+//! A law runs nothing, and tells the prover a fact: `ipi::seat_determines_pairs`, `hsm::seat_determines_states`.
 
 ghost use Rattle.std.specs.Prelude.{◌≡◌, ◌<◌, ℕ, List};
 ghost use Rattle.hsm.specs.declared.view.Stage.TheVariants.{Out, Running, Suspended};
@@ -39,7 +40,7 @@ pub(crate) fn take(seats: Seats, tables: &Tables, by: HartId) -> Seats
     ensures own { TakesOwn by (known seats) (known result) }
     ensures alone { TakesAlone (harts_of_both tables.entry.now) by seats result }
 {
-    ipi::one_set();
+    ipi::seat_determines_pairs();
     let Seats { harts, pending } = seats;
     let (pending, _) = tables.pending.take(pending, by);
     Seats { harts, pending }
@@ -57,7 +58,7 @@ fn enter_taken(seats: Seats, tables: &Tables, by: HartId) -> (Seats, Ready)
     ensures own { EntersTaken by (known seats) (known result.0) result.1 }
     ensures alone { EntersTakenAlone (harts_of_both tables.entry.now) by seats result.0 result.1 }
 {
-    hsm::one_table();
+    hsm::seat_determines_states();
     let Seats { harts, pending } = seats;
     let (harts, entry) = hsm::try_enter_beside(&tables.harts, harts, by);
     let seats = Seats { harts, pending };
@@ -92,7 +93,7 @@ fn wake(seats: Seats, tables: &Tables, by: HartId) -> (Seats, Ready)
     ensures own { WakesOwn by (known seats) (known result.0) result.1 }
     ensures alone { WakesAlone (harts_of_both tables.entry.now) by seats result.0 result.1 }
 {
-    hsm::one_table();
+    hsm::seat_determines_states();
     let (seats, wakes) = look(seats, tables, by);
     if wakes {
         let Seats { harts, pending } = seats;

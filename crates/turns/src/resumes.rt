@@ -1,4 +1,5 @@
 //! A hart that dozed begins again.
+//! A law runs nothing, and tells the prover a fact: `hsm::seat_determines_states`.
 
 ghost use Rattle.std.specs.Prelude.{◌≡◌, ◌<◌};
 ghost use Rattle.hart.specs.State.{started};
@@ -24,7 +25,7 @@ pub fn resume(hart: &mut Hart, seats: Seats, tables: &Tables, site: Addr, opaque
     ensures own { ResumesOwn hart.old.id (known seats) (known result) }
     ensures alone { TakesAlone (harts_of_both tables.entry.now) hart.old.id seats result }
 {
-    hsm::one_table();
+    hsm::seat_determines_states();
     let by = hart.id();
     let seats = take(seats, tables, by);
     let Seats { harts, pending } = seats;

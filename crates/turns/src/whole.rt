@@ -1,4 +1,5 @@
 //! A whole turn.
+//! A law runs nothing, and tells the prover a fact: `hart::step_keeps_number`.
 
 ghost use Rattle.std.specs.Prelude.{◌≡◌, ◌<◌, ℕ, List};
 ghost use Rattle.hsm.specs.declared.view.Stage.TheVariants.{Running};
@@ -48,7 +49,7 @@ pub fn turn_by_bus<B: MemoryBus>(
         }
         Ready::Steps(pending) => {
             let outcome = bus.step(hart, pending);
-            hart::one_number();
+            hart::step_keeps_number();
             finish(outcome, hart, seats, tables, shape)
         }
     }

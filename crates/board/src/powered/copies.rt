@@ -1,6 +1,6 @@
-//! A board is copied, with its disk, and compared.
+//! A board is copied, with its disk.
 
-ghost use Rattle.std.specs.Prelude.{◌≡◌, ◌↔◌, true, Err, IfOk, OnErr};
+ghost use Rattle.std.specs.Prelude.{◌≡◌, ◌↔◌, Err, IfOk, OnErr};
 ghost use Rattle.disk.specs.declared.device.ArmedFault.{ArmedFault};
 
 use super::Board;
@@ -9,7 +9,6 @@ use disk::CopyDisk;
 use std::alloc::Global;
 
 impl<D: CopyDisk + Drop> Board<D> {
-    ghost use Rattle.disk.specs.Alike.{FailsAlike, StandsAs};
     ghost use Rattle.disk.specs.Facts.{Unchanged};
     ghost use Rattle.store.specs.Views.{device_of, disk_of, fault_state_of, arms_of, size_of_store, life_of, failures_at_open, was_refused_memory};
     ghost use Rattle.board.specs.Views.{store_of, machine_of};
@@ -38,26 +37,6 @@ impl<D: CopyDisk + Drop> Board<D> {
         let machine = self.machine.copy(alloc)?;
         let store = self.store.copy(alloc)?;
         Ok(Board { store, machine })
-    }
-
-    /// Whether that board stands as this one, as far as any later line can tell: its memory, its harts, its tables, its doze, its life,
-    /// its disk and what is armed. Both stay as they were. Where the answer is false they may stand alike all the same.
-    pub fn is_as(&mut self, other: &mut Board<D>) -> bool
-        ensures stays { (machine_of self.new ≡ machine_of self.old) × (store_of self.new ≡ store_of self.old) }
-        ensures other_stays { (machine_of other.new ≡ machine_of other.old) × (store_of other.new ≡ store_of other.old) }
-        ensures machine { result ≡ true → machine_of other.old ≡ machine_of self.old }
-        ensures life { result ≡ true → life_of (store_of other.old) ≡ life_of (store_of self.old) }
-        ensures facts { result ≡ true → StandsAs (disk_of (store_of self.old)) (disk_of (store_of other.old)) }
-        ensures fault_state { result ≡ true
-            → FailsAlike (fault_state_of (store_of self.old)) (fault_state_of (store_of other.old)) }
-        ensures arms { result ≡ true → (fault : ArmedFault) → arms_of (store_of other.old) fault
-            ↔ arms_of (store_of self.old) fault }
-        ensures board { result ≡ true → size_of_store (store_of other.old) ≡ size_of_store (store_of self.old) }
-        ensures opened { result ≡ true → failures_at_open (store_of other.old) ≡ failures_at_open (store_of self.old) }
-        ensures memory { result ≡ true
-            → was_refused_memory (store_of other.old) ≡ was_refused_memory (store_of self.old) }
-    {
-        self.machine.is_as(&mut other.machine) && self.store.is_as(&other.store)
     }
 
     /// The disk below, as it stands.

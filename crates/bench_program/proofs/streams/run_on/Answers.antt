@@ -55,7 +55,7 @@ returns-in-Err g c =
     let F : Type 0 = writer_buffer c.show_on.new.out ≡ [] in
     let A : Type 0 = IsDone words bytes_at input 0 old now × F in
     let W : Type 0 = (differ : ℕ) × (0 < differ) × (IsDone words bytes_at input differ old now × F) in
-    let is = c.without_work-done.ensures ∙ ap without_work c.show_on.ensures in
+    let is = c.without_work-done.ensures ∙ ap without_work c.show_on.ensures.why in
     record {
       status = (
         c.without_work-done.result,

@@ -12,7 +12,7 @@ returns-in-Ok c = λ b h.
     let did = c.in-Ok.ensures in
     let k = c.kept_disks.ensures in
     let kept : KeptLaw = record { goes_on = k.goes_on; marked = k.marked; one_size = k.one_size; sized = k.sized; opens = k.opens; formats = k.formats } in
-    let sides = anew c.one_standing.ensures.marked c.args.shape.now b c.args.off.disk c.format.new.disk did.ok did.in_order h.1 did.unmarked h.2.3 in
+    let sides = anew c.content_determines_state.ensures.marked c.args.shape.now b c.args.off.disk c.format.new.disk did.ok did.in_order h.1 did.unmarked h.2.3 in
     let device = stays_as c.args.shape.now b (formatted_anew b) (fault_state c.args.off.disk) (fault_state c.format.new.disk) (facts c.args.off.disk) (facts c.format.new.disk) h.2 refl refl did.cause did.in_order.no_fewer did.in_order.content.head.as_long sides in
     formats_ok kept c.args.shape.now b.disk_state b c.args.off.disk c.format.new.disk c.says.result h.0 h.1 device c.says.ensures did.ok did.unmarked
 

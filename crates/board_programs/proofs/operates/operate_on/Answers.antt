@@ -14,7 +14,7 @@ returns-in-Ok-clause-status g c =
 
 pub returns-in-Err-clause-status : goal.returns-in-Err-clause-status
 returns-in-Err-clause-status g c =
-    (fault_of c.no_work-done.result, c.end_with-in-Err.ensures.status, inr (c.show_on-why.result, asks_for_none (map g.S.AsStr.text c.args.words.now) (kind_of c.in-Err.text) c.show_on-why.result c.show_on-why.ensures c.in-Err.ensures.refused, c.no_work-done.ensures, refl))
+    (fault_of c.no_work-done.result, c.end_with-in-Err.ensures.status, inr (c.show_on-why.result, asks_for_none (map g.S.AsStr.text c.args.words.now) (kind_of c.in-Err.text) c.show_on-why.result c.show_on-why.ensures.why c.in-Err.ensures.refused, c.no_work-done.ensures, refl))
 
 pub returns-in-Ok-clause-usage : goal.returns-in-Ok-clause-usage
 returns-in-Ok-clause-usage g c = λ two.
@@ -31,4 +31,4 @@ returns-in-Err-clause-usage g c = λ two.
     let words = map g.S.AsStr.text c.args.words.now in
     let why = c.show_on-why.result in
     gives_none words why (fault_of c.no_work-done.result) c.end_with-in-Err.result
-    (asks_for_none words (kind_of c.in-Err.text) why c.show_on-why.ensures c.in-Err.ensures.refused) c.no_work-done.ensures c.end_with-in-Err.ensures.status two
+    (asks_for_none words (kind_of c.in-Err.text) why c.show_on-why.ensures.why c.in-Err.ensures.refused) c.no_work-done.ensures c.end_with-in-Err.ensures.status two

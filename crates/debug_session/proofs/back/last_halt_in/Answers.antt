@@ -2,7 +2,7 @@ use Rattle.std.proofs.Common.{◌≡◌, ◌+◌, ◌<◌, ℕ, Option, refl, sy
 use Rattle.std.specs.Prelude.{IfSome, replicate}
 use Rattle.debug_session.specs.declared.halts.Stop.{Stop}
 use Rattle.debug_session.specs.Backs.{FoundIn}
-use Rattle.debug_session.specs.Firsts.{one_turn}
+use Rattle.debug_session.specs.Firsts.{machine_determines_turn}
 use Rattle.debug_session.proofs.Backs.{found_turn, later_within}
 use Rattle.std.proofs.lemmas.Result.{IfOk-from_err}
 use Rattle.board_model.proofs.Exits.{err_exit}
@@ -25,7 +25,7 @@ loop-k-preserved g c =
       found =
           λ size b shows. (let had = was.found size b shows in
           let did = seen.seen size had.0 had.2 in
-          let Q : Option (ℕ × Stop) → Type 0 = λ found. FoundIn size c.args.stops.now found (replicate (k + 1) (one_turn h)) b did.0 in
+          let Q : Option (ℕ × Stop) → Type 0 = λ found. FoundIn size c.args.stops.now found (replicate (k + 1) (machine_determines_turn h)) b did.0 in
           (did.0, subst Q same (found_turn size c.args.stops.now c.loop-k.found h k halt b had.0 did.0 had.1 did.1), did.2));
       sound = seen.sound;
     }

@@ -5,7 +5,7 @@ use Rattle.hsm.specs.Rule.{stands}
 use Rattle.hsm.specs.Seating.{harts_in}
 use Rattle.hsm.specs.Views.{state_in}
 use Rattle.hsm.specs.Copies.{IsShown, stage_by}
-use Rattle.hsm.proofs.Computed.{one_table, shows_seen}
+use Rattle.hsm.proofs.Computed.{seat_determines_states, shows_seen}
 use Rattle.hsm.proofs.Copying.{quiet_runs, stands_by_one, stands_by_none, stood, found_alone, then_quiet}
 use Rattle.hsm.proofs.copies.quiet_as.Goals.{After-quiet-own}
 use Rattle.hsm.proofs.copies.quiet_as.Goals as goal
@@ -32,7 +32,7 @@ returns-in-Some-clause-shown c =
 pub returns-in-Some-clause-states : goal.returns-in-Some-clause-states
 returns-in-Some-clause-states c = λ k lt.
     let at = (goal.at.returns-in-Some-clause-states c).After-quiet-own in
-    one_table c.args.made.now.table.shared.key.harts c.quiet-own.result.0.me.0 (state_in c.args.own.me.0) (after at) k (subst (λ (j : ℕ). k < j) (sym c.requires.same) lt)
+    seat_determines_states c.args.made.now.table.shared.key.harts c.quiet-own.result.0.me.0 (state_in c.args.own.me.0) (after at) k (subst (λ (j : ℕ). k < j) (sym c.requires.same) lt)
     ∙ c.requires.states k lt
 
 pub returns-in-Some-clause-stands : goal.returns-in-Some-clause-stands

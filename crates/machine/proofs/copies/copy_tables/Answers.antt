@@ -40,7 +40,7 @@ returns-clause-seats c =
     let own : Seats = record { harts = c.in_ok-harts.all; pending = c.in_ok-pending.pairs } in
     let t = c.in_ok-harts.ensures in
     let p = c.in_ok-pending.ensures in
-    copy_whole c.one_table.ensures.list c.one_set.ensures.list c.args.shape.now.harts _ c.args.seats.now own c.args.doze.now (t.seat, p.seat) (t.all, p.all) (t.states, p.pairs)
+    copy_whole c.seat_determines_states.ensures.list c.seat_determines_pairs.ensures.list c.args.shape.now.harts _ c.args.seats.now own c.args.doze.now (t.seat, p.seat) (t.all, p.all) (t.states, p.pairs)
     (λ h lt. subst (λ (q : Option ℕ). stands h (stage_by q h (state_in (harts_known c.args.seats.now) h)) (views own)) c.quiet_hart-quiet.ensures (t.stands h lt))
 
 pub copy-requires-clause-seat : goal.copy-requires-clause-seat

@@ -10,7 +10,7 @@ pub returns-then-contains-clause-alone : goal.returns-then-contains-clause-alone
 returns-then-contains-clause-alone c = λ pairs are.
     let has = c.contains.ensures.0 c.if-contains.true in
     let a = c.raise-raised.ensures.alone (pair_at pairs) are.1 in
-    rw (eq-eqb (bit_at c.args.targets c.args.target) 1 has) (c.one_set.ensures.raised _ _ c.args.by c.args.target pairs are.0 c.requires.by c.requires.target a.1)
+    rw (eq-eqb (bit_at c.args.targets c.args.target) 1 has) (c.seat_determines_pairs.ensures.raised _ _ c.args.by c.args.target pairs are.0 c.requires.by c.requires.target a.1)
 
 pub returns-else-contains-clause-sends : goal.returns-else-contains-clause-sends
 returns-else-contains-clause-sends c = ((λ has. absurd (true≢false (sym (c.contains.ensures.1 has) ∙ c.if-contains.false))), (λ lacks. refl))

@@ -9,4 +9,4 @@ returns-clause-does c = let s = c.stop-harts.ensures.steps in (s.0, (s.1, refl),
 pub returns-clause-alone : goal.returns-clause-alone
 returns-clause-alone c = λ t are.
     let a = c.stop-harts.ensures.alone (listed t.states) are.0.1 in
-    (refl, (c.one_table.ensures.changed _ c.args.by (λ (x : HartState). stopped) _ t.states are.0.0 c.requires.by a.1, are.1))
+    (refl, (c.seat_determines_states.ensures.changed _ c.args.by (λ (x : HartState). stopped) _ t.states are.0.0 c.requires.by a.1, are.1))

@@ -23,7 +23,7 @@ returns-in-Some-clause-alone g c = λ t are out.
     let p = c.in-Some.start in
     let a = c.try_enter_beside-harts.ensures.alone (listed t.states) are.0.1 in
     let e = some_is p (listed t.states c.args.by) (sym c.in-Some.is ∙ a.0) in
-    let are_begun = c.one_table.ensures.changed n c.args.by begin _ t.states are.0.0 c.requires.1.0 a.1 in
+    let are_begun = c.seat_determines_states.ensures.changed n c.args.by begin _ t.states are.0.0 c.requires.1.0 a.1 in
     let runs : AreStates n (harts_known s) (slice_set t.states c.args.by started) = subst (λ (l : List HartState). AreStates n (harts_known s) l) (ap (λ (y : HartState). slice_set t.states c.args.by (begin y)) e) are_begun in
     (subst (λ (y : HartState). readies.Enters p.0 p.1 ≡ (begun_by c.args.by t y).ready) (sym e) refl, (runs, are.1))
 

@@ -10,7 +10,7 @@ returns-clause-alone c = λ t are.
     let before = subst (λ (k : ℕ). ArePairs k (pending_view_of_seat c.args.seats.pending) t.pairs) (sym e) are.1 in
     let lt = subst (λ (k : ℕ). c.args.by < k) (sym e) c.requires.by in
     let a = c.take-pending.ensures.alone (pair_at t.pairs) before.1 in
-    (are.0, subst (λ (k : ℕ). ArePairs k (pending_view_of_seat c.take-pending.result.0) (pairs_without c.args.by t.pairs)) e (c.one_set.ensures.taken n (pending_view_of_seat c.take-pending.result.0) c.args.by t.pairs before.0 lt a.1))
+    (are.0, subst (λ (k : ℕ). ArePairs k (pending_view_of_seat c.take-pending.result.0) (pairs_without c.args.by t.pairs)) e (c.seat_determines_pairs.ensures.taken n (pending_view_of_seat c.take-pending.result.0) c.args.by t.pairs before.0 lt a.1))
 
 pub returns-clause-own : goal.returns-clause-own
 returns-clause-own c = (refl, c.take-pending.result.1, c.take-pending.ensures.steps)

@@ -21,7 +21,7 @@ returns-then-wakes-clause-alone c = λ t are e.
     let s : Seats = record { harts = c.wake-harts.result; pending = c.look-seats.result.0.pending } in
     let l = c.look-seats.ensures.alone t are in
     let a = c.wake-harts.ensures.alone (listed t.states) l.1.0.1 in
-    let states = c.one_table.ensures.changed n c.args.by (λ (x : HartState). started) _ t.states l.1.0.0 c.requires.by a.1 in
+    let states = c.seat_determines_states.ensures.changed n c.args.by (λ (x : HartState). started) _ t.states l.1.0.0 c.requires.by a.1 in
     let p = sym l.0 ∙ c.if-wakes.true in
     subst (λ (y : HartState). (readies.Woke ≡ (begun_by c.args.by t y).ready) × IsTable n s (begun_by c.args.by t y).table) (sym e)
     (subst (λ (b : Bool). (readies.Woke ≡ (woken_turn b c.args.by t).ready) × IsTable n s (woken_turn b c.args.by t).table) (sym p) (refl, (states, l.1.1)))

@@ -12,17 +12,17 @@ use Rattle.turns.proofs.whole.turn_by_bus.Goals as goal
 -- ---- a step leaves the hart's number
 pub finish-requires-clause-hart : goal.finish-requires-clause-hart
 finish-requires-clause-hart g c =
-    let e = c.one_number.ensures _ c.args.hart.now c.step-outcome.new.hart _ _ _ c.step-outcome.ensures.4 in
+    let e = c.step_keeps_number.ensures _ c.args.hart.now c.step-outcome.new.hart _ _ _ c.step-outcome.ensures.4 in
     subst (λ (k : ℕ). k < c.args.shape.now.harts) (sym e) c.requires.hart
 
 pub finish-requires-clause-acts : goal.finish-requires-clause-acts
 finish-requires-clause-acts g c =
-    let e = c.one_number.ensures _ c.args.hart.now c.step-outcome.new.hart _ _ _ c.step-outcome.ensures.4 in
+    let e = c.step_keeps_number.ensures _ c.args.hart.now c.step-outcome.new.hart _ _ _ c.step-outcome.ensures.4 in
     rests_as c.id.result c.step-outcome.new.hart.id c.begin-seats.result.1 _ c.begin-seats.result.0 c.in-Steps.is (c.id.ensures ∙ sym e) c.begin-seats.ensures.rests
 
 pub returns-in-Steps-clause-gives : goal.returns-in-Steps-clause-gives
 returns-in-Steps-clause-gives g c =
-    let e = c.one_number.ensures _ c.args.hart.now c.step-outcome.new.hart _ _ _ c.step-outcome.ensures.4 in
+    let e = c.step_keeps_number.ensures _ c.args.hart.now c.step-outcome.new.hart _ _ _ c.step-outcome.ensures.4 in
     let t = c.args.tables.now in let s = c.args.seats in let s1 = c.begin-seats.result.0 in let s2 = c.finish.result.0 in
     gives_then t c.args.hart.now.id s s1 s2
     (subst (λ (k : ℕ). GivesBack t k s s1) c.id.ensures c.begin-seats.ensures.gives)
@@ -30,17 +30,17 @@ returns-in-Steps-clause-gives g c =
 
 pub returns-in-Steps-clause-rests : goal.returns-in-Steps-clause-rests
 returns-in-Steps-clause-rests g c =
-    let e = c.one_number.ensures _ c.args.hart.now c.step-outcome.new.hart _ _ _ c.step-outcome.ensures.4 in
+    let e = c.step_keeps_number.ensures _ c.args.hart.now c.step-outcome.new.hart _ _ _ c.step-outcome.ensures.4 in
     subst (λ (k : ℕ). Rests k c.finish.result.0) e c.finish.ensures.rests
 
 pub returns-in-Steps-clause-id : goal.returns-in-Steps-clause-id
 returns-in-Steps-clause-id g c =
-    let e = c.one_number.ensures _ c.args.hart.now c.step-outcome.new.hart _ _ _ c.step-outcome.ensures.4 in
+    let e = c.step_keeps_number.ensures _ c.args.hart.now c.step-outcome.new.hart _ _ _ c.step-outcome.ensures.4 in
     c.finish.ensures.id ∙ e
 
 pub returns-in-Steps-clause-asks : goal.returns-in-Steps-clause-asks
 returns-in-Steps-clause-asks g c is =
-    let e = c.one_number.ensures _ c.args.hart.now c.step-outcome.new.hart _ _ _ c.step-outcome.ensures.4 in
+    let e = c.step_keeps_number.ensures _ c.args.hart.now c.step-outcome.new.hart _ _ _ c.step-outcome.ensures.4 in
     let by = c.step-outcome.new.hart.id in
     let acts = rests_as c.id.result by c.begin-seats.result.1 _ c.begin-seats.result.0 c.in-Steps.is (c.id.ensures ∙ sym e) c.begin-seats.ensures.rests in
     subst (λ (k : ℕ). Acts k Running c.finish.result.0) e

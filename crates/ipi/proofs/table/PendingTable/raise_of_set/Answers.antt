@@ -1,6 +1,6 @@
 use Rattle.ipi.specs.Views.{pair_in}
 use Rattle.ipi.specs.Pairs.{with_pair}
-use Rattle.ipi.proofs.Computed.{one_set, shows_seen, whole_of}
+use Rattle.ipi.proofs.Computed.{seat_determines_pairs, shows_seen, whole_of}
 use Rattle.ipi.proofs.table.PendingTable.raise_of_set.Goals as goal
 
 pub raise-seat-requires-clause-acts : goal.raise-seat-requires-clause-acts
@@ -12,4 +12,4 @@ returns-clause-raised c = λ has s t.
     let view = c.args.seat.me.0 in
     let whole = whole_of harts view c.requires.all in
     let after = c.raise-seat.ensures.alone (pair_in view) (shows_seen harts view whole) in
-    one_set harts c.raise-seat.result.0.me.0 (with_pair c.args.sender c.args.target (pair_in view)) after.1 s t
+    seat_determines_pairs harts c.raise-seat.result.0.me.0 (with_pair c.args.sender c.args.target (pair_in view)) after.1 s t

@@ -11,7 +11,7 @@ use Rattle.machine.specs.Machine.{Machine}
 use Rattle.machine.specs.Turns.{DozeTurn, resumed, with_moment}
 use Rattle.machine.proofs.Owners.{of_no_other}
 use Rattle.machine.proofs.Holding.{Action, shown_as, Finds, Left, finds, seats_there, in_place, seats_found, rests_found, number_found, low_number, others_rest, left}
-use Rattle.machine.proofs.machine.Machine.doze_turn.Goals.{After-index_mut, After-one_set}
+use Rattle.machine.proofs.machine.Machine.doze_turn.Goals.{After-index_mut, After-seat_determines_pairs}
 use Rattle.machine.proofs.machine.Machine.doze_turn.Goals as goal
 
 found : (c : After-index_mut) → Finds c.self.inside c.unwrap-seats.result c.index.result c.args.id c.index_mut.result.now
@@ -24,14 +24,14 @@ begins_again site opaque size a b = b ≡ moment (after_take a.table a.hart.id) 
 dozes : (c : After-index_mut) → doze_of c.args.id c.self.inside.bus.doze ≡ Some c.args.doze
 dozes c = subst (λ (m : Machine). doze_of c.args.id m.doze ≡ Some c.args.doze) (sym c.self.view_is) c.requires.dozes
 
-did : (c : After-one_set) → Finds c.self.inside c.unwrap-seats.result c.index.result c.args.id c.index_mut.result.now → doze_of c.args.id c.self.inside.bus.doze ≡ Some c.args.doze
+did : (c : After-seat_determines_pairs) → Finds c.self.inside c.unwrap-seats.result c.index.result c.args.id c.index_mut.result.now → doze_of c.args.id c.self.inside.bus.doze ≡ Some c.args.doze
     → Left (begins_again c.args.doze.at.address c.args.doze.at.opaque) c.self.inside c.resume-seats.result c.index.result c.args.id c.resume-seats.new.hart c.self.inside.bus.ram None
 did c it is =
     let e = c.resume-seats.ensures in
     let x = c.index_mut.result.now in
     let alone : TakesAlone c.self.inside.shape.harts x.id c.unwrap-seats.result c.resume-seats.result = subst (λ (n : ℕ). TakesAlone n x.id c.unwrap-seats.result c.resume-seats.result) it.held.tables e.alone in
     let rests : Rests x.id c.resume-seats.result = (inr (inl e.acts.0), e.acts.1) in
-    left it (begins_again c.args.doze.at.address c.args.doze.at.opaque) None c.one_table.ensures.list c.one_set.ensures.list
+    left it (begins_again c.args.doze.at.address c.args.doze.at.opaque) None c.seat_determines_states.ensures.list c.seat_determines_pairs.ensures.list
     (λ t are. (after_take t x.id, ap (λ (y : ArchState). moment (after_take t x.id) y c.self.inside.bus.ram) e.hart, alone t are))
     (ap (λ (y : ArchState). y.id) e.hart) e.gives rests
     (λ k below ne.
@@ -50,7 +50,7 @@ resume-seats-requires-clause-quiet c =
     rests_found (found at) (Some c.args.doze) (dozes at)
 
 pub invariant_of-self : goal.invariant_of-self
-invariant_of-self c = let at = goal.at.invariant_of-self c in (did at.After-one_set (found at.After-index_mut) (dozes at.After-index_mut)).held
+invariant_of-self c = let at = goal.at.invariant_of-self c in (did at.After-seat_determines_pairs (found at.After-index_mut) (dozes at.After-index_mut)).held
 
 not_not : (b : Bool) → not b ≡ false → true ≡ b
 not_not true e = refl
@@ -62,7 +62,7 @@ returns c =
     let i = c.self.inside in
     let d = c.args.doze in
     let id = c.args.id in
-    let l = did at.After-one_set (found at.After-index_mut) (dozes at.After-index_mut) in
+    let l = did at.After-seat_determines_pairs (found at.After-index_mut) (dozes at.After-index_mut) in
     let new : Machine = record { size = i.shape; memory = i.bus.ram; doze = None; harts = slice_set i.harts.items c.index.result c.resume-seats.new.hart; table = shown_by i.shape.harts c.resume-seats.result } in
     let same : new ≡ resumed d id (shown_as i) = l.made ∙ ap (λ (m : Moment). let r : Machine = record (with_moment id (shown_as i) m) { doze = None } in r) l.did in
     let turn : DozeTurn true d id c.args.self.now new (Made Resumed) = (subst (λ (m : Machine). new ≡ resumed d id m) c.self.view_is same, refl) in

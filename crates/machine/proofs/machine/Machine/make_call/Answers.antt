@@ -14,7 +14,7 @@ use Rattle.susp.specs.Sleeps.{AreStopped}
 use Rattle.susp.specs.declared.buses.Bus.{Bus}
 use Rattle.machine.proofs.Commands.{started_acts, held_action, LeavesBus, leaves_bus, held_then, own_then, others_then}
 use Rattle.machine.proofs.machine.Machine.make_call.Given.{Over}
-use Rattle.machine.proofs.machine.Machine.make_call.Goals.{After-index_mut, After-one_set}
+use Rattle.machine.proofs.machine.Machine.make_call.Goals.{After-index_mut, After-seat_determines_pairs}
 use Rattle.machine.proofs.machine.Machine.make_call.Goals as goal
 
 found : (g : Over) (c : After-index_mut g) → Finds c.self.inside c.unwrap-seats.result c.index.result c.args.id c.index_mut.result.now
@@ -24,17 +24,17 @@ stands : (g : Over) (c : After-index_mut g) → StandsAtCall c.args.id (shown_as
 stands g c = subst (λ (m : Machine). StandsAtCall c.args.id m) (sym c.self.view_is) c.requires.stands
 
 -- the call by the harts of the board's shape, as many as the tables have
-alone : (g : Over) (c : After-one_set g) → Finds c.self.inside c.unwrap-seats.result c.index.result c.args.id c.index_mut.result.now
+alone : (g : Over) (c : After-seat_determines_pairs g) → Finds c.self.inside c.unwrap-seats.result c.index.result c.args.id c.index_mut.result.now
     → HeldAlone c.self.inside.shape.harts (call_of c.index_mut.result.now) c.index_mut.result.now c.make_held-seats.new.hart c.unwrap-seats.result c.make_held-seats.result.0
     c.self.inside.bus c.make_held-seats.new.bus c.args.store.now c.make_held-seats.new.store c.make_held-seats.result.1
 alone g c it =
     held_then _ c.self.inside.shape.harts (call_of c.index_mut.result.now) c.index_mut.result.now c.make_held-seats.new.hart c.unwrap-seats.result c.make_held-seats.result.0 c.make_held-seats.result.0
     c.self.inside.bus c.make_held-seats.new.bus c.args.store.now c.make_held-seats.new.store c.make_held-seats.result.1 it.held.tables c.make_held-seats.ensures.alone (λ x are. are)
 
-abbrev makes : (g : Over) (c : After-one_set g) → Action
+abbrev makes : (g : Over) (c : After-seat_determines_pairs g) → Action
 makes g c size a b = HeldOf size c.self.inside.bus.doze c.make_held-seats.new.bus.doze a b c.args.store.now c.make_held-seats.new.store c.make_held-seats.result.1
 
-did : (g : Over) (c : After-one_set g) → Finds c.self.inside c.unwrap-seats.result c.index.result c.args.id c.index_mut.result.now → StandsAtCall c.args.id (shown_as c.self.inside)
+did : (g : Over) (c : After-seat_determines_pairs g) → Finds c.self.inside c.unwrap-seats.result c.index.result c.args.id c.index_mut.result.now → StandsAtCall c.args.id (shown_as c.self.inside)
     → Left (makes g c) c.self.inside c.make_held-seats.result.0 c.index.result c.args.id c.make_held-seats.new.hart c.make_held-seats.new.bus.ram c.make_held-seats.new.bus.doze
 did g c it is =
     let i = c.self.inside in
@@ -46,7 +46,7 @@ did g c it is =
     let made = alone g c it (shown_by i.shape.harts s) (seats_found it).shows in
     let leaves : LeavesBus i.shape.harts x.id (listed (shown_by i.shape.harts s).states) i.bus bus word =
     leaves_bus i.shape.harts (call_of x) x c.make_held-seats.new.hart (shown_by i.shape.harts s) i.bus bus c.args.store.now c.make_held-seats.new.store word made.0 in
-    left it (makes g c) bus.doze c.one_table.ensures.list c.one_set.ensures.list
+    left it (makes g c) bus.doze c.seat_determines_states.ensures.list c.seat_determines_pairs.ensures.list
     (held_action i.shape x c.make_held-seats.new.hart s c.make_held-seats.result.0 i.bus bus c.args.store.now c.make_held-seats.new.store word (alone g c it))
     e.id e.gives (own_then it is bus word leaves e.gives e.acts) (others_then it is bus word leaves e.gives e.acts)
 
@@ -55,16 +55,16 @@ returns-clause-dozes g c is =
     let at = goal.at.returns-clause-dozes g c in
     let i = c.self.inside in
     let it = found g at.After-index_mut in
-    let l = did g at.After-one_set it (stands g at.After-index_mut) in
+    let l = did g at.After-seat_determines_pairs it (stands g at.After-index_mut) in
     let x = c.index_mut.result.now in
     let s = c.unwrap-seats.result in
     let s' = c.make_held-seats.result.0 in
     let bus = c.make_held-seats.new.bus in
     let word = c.make_held-seats.result.1 in
-    let made = alone g at.After-one_set it (shown_by i.shape.harts s) (seats_found it).shows in
+    let made = alone g at.After-seat_determines_pairs it (shown_by i.shape.harts s) (seats_found it).shows in
     let leaves : LeavesBus i.shape.harts x.id (listed (shown_by i.shape.harts s).states) i.bus bus word =
     leaves_bus i.shape.harts (call_of x) x c.make_held-seats.new.hart (shown_by i.shape.harts s) i.bus bus c.args.store.now c.make_held-seats.new.store word made.0 in
-    let same : shown_by i.shape.harts s' ≡ shown_by i.shape.harts s = one_shown c.one_table.ensures.list c.one_set.ensures.list i.shape.harts s' (shown_by i.shape.harts s) made.1 in
+    let same : shown_by i.shape.harts s' ≡ shown_by i.shape.harts s = one_shown c.seat_determines_states.ensures.list c.seat_determines_pairs.ensures.list i.shape.harts s' (shown_by i.shape.harts s) made.1 in
     let new : Machine = record { size = i.shape; memory = bus.ram; doze = bus.doze; harts = slice_set i.harts.items c.index.result c.make_held-seats.new.hart; table = shown_by i.shape.harts s' } in
     elim leaves [
       | inl p ↦ (
@@ -84,12 +84,12 @@ make_held-seats-requires-clause-acts g c κs within =
     started_acts (found g at) (stands g at)
 
 pub invariant_of-self : goal.invariant_of-self
-invariant_of-self g c = let at = goal.at.invariant_of-self g c in (did g at.After-one_set (found g at.After-index_mut) (stands g at.After-index_mut)).held
+invariant_of-self g c = let at = goal.at.invariant_of-self g c in (did g at.After-seat_determines_pairs (found g at.After-index_mut) (stands g at.After-index_mut)).held
 
 pub returns-clause-makes : goal.returns-clause-makes
 returns-clause-makes g c =
     let at = goal.at.returns-clause-makes g c in
-    let l = did g at.After-one_set (found g at.After-index_mut) (stands g at.After-index_mut) in
+    let l = did g at.After-seat_determines_pairs (found g at.After-index_mut) (stands g at.After-index_mut) in
     let new : Machine = record { size = c.self.inside.shape; memory = c.make_held-seats.new.bus.ram; doze = c.make_held-seats.new.bus.doze; harts = slice_set c.self.inside.harts.items c.index.result c.make_held-seats.new.hart; table = shown_by c.self.inside.shape.harts c.make_held-seats.result.0 } in
     subst (λ (m : Machine). MakesCall c.args.id m new c.args.store.now c.make_held-seats.new.store c.make_held-seats.result.1) c.self.view_is (c.make_held-seats.new.bus.doze, l.after, l.did, l.made)
 

@@ -3,16 +3,16 @@ use Rattle.sbi_calls.specs.Same.{AreOfOneBoard}
 use Rattle.sbi_calls.specs.declared.tables.Tables.{Tables}
 use Rattle.sbi_calls.specs.declared.tables.Seats.{Seats}
 use Rattle.machine.proofs.Opening.{AreMade, opening_held, is_resting}
-use Rattle.machine.proofs.machine.Machine.new.Goals.{After-one_set}
+use Rattle.machine.proofs.machine.Machine.new.Goals.{After-seat_determines_pairs}
 use Rattle.machine.proofs.machine.Machine.new.Goals as goal
 
-abbrev tables_made : (c : After-one_set) → AreOfOneBoard c.in_ok-starts.starts.0 c.in_ok-raises.raises.0 → Tables
+abbrev tables_made : (c : After-seat_determines_pairs) → AreOfOneBoard c.in_ok-starts.starts.0 c.in_ok-raises.raises.0 → Tables
 tables_made c same = record { harts = c.in_ok-starts.starts.0; pending = c.in_ok-raises.raises.0; same = same }
 
-abbrev seats_made : After-one_set → Seats
+abbrev seats_made : After-seat_determines_pairs → Seats
 seats_made c = record { harts = c.in_ok-starts.starts.1; pending = c.in_ok-raises.raises.1 }
 
-are_made : (c : After-one_set) (same : AreOfOneBoard c.in_ok-starts.starts.0 c.in_ok-raises.raises.0) → AreMade c.args.shape.now (tables_made c same) (seats_made c) c.args.first
+are_made : (c : After-seat_determines_pairs) (same : AreOfOneBoard c.in_ok-starts.starts.0 c.in_ok-raises.raises.0) → AreMade c.args.shape.now (tables_made c same) (seats_made c) c.args.first
 are_made c same = record {
   tables = c.in_ok-starts.ensures.harts;
   seats = (c.in_ok-starts.ensures.seat, c.in_ok-raises.ensures.seat);
@@ -25,11 +25,11 @@ are_made c same = record {
 
 pub invariant_of-result-2 : goal.invariant_of-result-2
 invariant_of-result-2 c =
-    let at = (goal.at.invariant_of-result-2 c).After-one_set in
-    opening_held c.args.shape.now _ (seats_made at) c.args.first c.one_table.ensures.list c.one_set.ensures.list c.requires (are_made at _) c.in_ok-all.all.items c.in_ok-all.ensures.harts
+    let at = (goal.at.invariant_of-result-2 c).After-seat_determines_pairs in
+    opening_held c.args.shape.now _ (seats_made at) c.args.first c.seat_determines_states.ensures.list c.seat_determines_pairs.ensures.list c.requires (are_made at _) c.in_ok-all.all.items c.in_ok-all.ensures.harts
 
 pub returns-clause-resting : goal.returns-clause-resting
 returns-clause-resting c =
-    let at = (goal.at.returns-clause-resting c).After-one_set in
+    let at = (goal.at.returns-clause-resting c).After-seat_determines_pairs in
     let same = c.in_ok-raises.ensures.harts ∙ sym c.in_ok-starts.ensures.harts in
-    is_resting c.args.shape.now (tables_made at same) (seats_made at) c.args.first c.one_table.ensures.list c.one_set.ensures.list c.requires (are_made at same) c.in_ok-ram.ram c.in_ok-all.all.items c.in_ok-ram.ensures.zeros c.in_ok-all.ensures.harts
+    is_resting c.args.shape.now (tables_made at same) (seats_made at) c.args.first c.seat_determines_states.ensures.list c.seat_determines_pairs.ensures.list c.requires (are_made at same) c.in_ok-ram.ram c.in_ok-all.all.items c.in_ok-ram.ensures.zeros c.in_ok-all.ensures.harts

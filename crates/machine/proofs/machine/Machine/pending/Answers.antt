@@ -12,20 +12,20 @@ use Rattle.machine.proofs.machine.Machine.pending.Goals as goal
 pub invariant_of-self : goal.invariant_of-self
 invariant_of-self c =
     let i = c.self.inside in
-    held_still i.shape i.bus.ram i.harts.items i.tables i.seats i.bus.doze c.unwrap-seats.result c.look-seats.result.0 _ c.args.id (λ (l : TableState). c.look-seats.result.1 ≡ has_pending c.args.id l.pairs) c.one_table.ensures.list c.one_set.ensures.list c.self.invariant
+    held_still i.shape i.bus.ram i.harts.items i.tables i.seats i.bus.doze c.unwrap-seats.result c.look-seats.result.0 _ c.args.id (λ (l : TableState). c.look-seats.result.1 ≡ has_pending c.args.id l.pairs) c.seat_determines_states.ensures.list c.seat_determines_pairs.ensures.list c.self.invariant
     (sym c.take.ensures.value ∙ c.unwrap-seats.ensures) c.self.invariant.tables c.look-seats.ensures.gives (stand_same c.unwrap-seats.result c.look-seats.result.0 c.look-seats.ensures.harts) c.look-seats.ensures.alone
 
 pub returns-clause-value : goal.returns-clause-value
 returns-clause-value c =
     let i = c.self.inside in
     subst (λ (m : Machine). c.look-seats.result.1 ≡ has_pending c.args.id m.table.pairs) c.self.view_is
-    (found_it i.shape i.bus.ram i.harts.items i.tables i.seats i.bus.doze c.unwrap-seats.result c.look-seats.result.0 _ c.args.id (λ (l : TableState). c.look-seats.result.1 ≡ has_pending c.args.id l.pairs) c.one_table.ensures.list c.one_set.ensures.list c.self.invariant
+    (found_it i.shape i.bus.ram i.harts.items i.tables i.seats i.bus.doze c.unwrap-seats.result c.look-seats.result.0 _ c.args.id (λ (l : TableState). c.look-seats.result.1 ≡ has_pending c.args.id l.pairs) c.seat_determines_states.ensures.list c.seat_determines_pairs.ensures.list c.self.invariant
     (sym c.take.ensures.value ∙ c.unwrap-seats.ensures) c.self.invariant.tables c.look-seats.ensures.gives (stand_same c.unwrap-seats.result c.look-seats.result.0 c.look-seats.ensures.harts) c.look-seats.ensures.alone)
 
 pub returns-clause-stays : goal.returns-clause-stays
 returns-clause-stays c =
     let i = c.self.inside in
-    shows_still i.shape i.bus.ram i.harts.items i.tables i.seats i.bus.doze c.unwrap-seats.result c.look-seats.result.0 _ c.args.id (λ (l : TableState). c.look-seats.result.1 ≡ has_pending c.args.id l.pairs) c.one_table.ensures.list c.one_set.ensures.list c.self.invariant
+    shows_still i.shape i.bus.ram i.harts.items i.tables i.seats i.bus.doze c.unwrap-seats.result c.look-seats.result.0 _ c.args.id (λ (l : TableState). c.look-seats.result.1 ≡ has_pending c.args.id l.pairs) c.seat_determines_states.ensures.list c.seat_determines_pairs.ensures.list c.self.invariant
     (sym c.take.ensures.value ∙ c.unwrap-seats.ensures) c.self.invariant.tables c.look-seats.ensures.gives (stand_same c.unwrap-seats.result c.look-seats.result.0 c.look-seats.ensures.harts) c.look-seats.ensures.alone
     ∙ c.self.view_is
 

@@ -13,20 +13,20 @@ use Rattle.machine.proofs.machine.Machine.state.Goals as goal
 pub invariant_of-self : goal.invariant_of-self
 invariant_of-self c =
     let i = c.self.inside in
-    held_still i.shape i.bus.ram i.harts.items i.tables i.seats i.bus.doze c.unwrap-seats.result c.see-seats.result.0 _ c.args.id (λ (l : TableState). c.see-seats.result.1 ≡ named (listed l.states c.args.id)) c.one_table.ensures.list c.one_set.ensures.list c.self.invariant
+    held_still i.shape i.bus.ram i.harts.items i.tables i.seats i.bus.doze c.unwrap-seats.result c.see-seats.result.0 _ c.args.id (λ (l : TableState). c.see-seats.result.1 ≡ named (listed l.states c.args.id)) c.seat_determines_states.ensures.list c.seat_determines_pairs.ensures.list c.self.invariant
     (sym c.take.ensures.value ∙ c.unwrap-seats.ensures) c.self.invariant.tables c.see-seats.ensures.gives (λ h st p. c.see-seats.ensures.stays.stages h st p) c.see-seats.ensures.alone
 
 pub returns-clause-value : goal.returns-clause-value
 returns-clause-value c =
     let i = c.self.inside in
     subst (λ (m : Machine). c.see-seats.result.1 ≡ status_at m c.args.id) c.self.view_is
-    (found_it i.shape i.bus.ram i.harts.items i.tables i.seats i.bus.doze c.unwrap-seats.result c.see-seats.result.0 _ c.args.id (λ (l : TableState). c.see-seats.result.1 ≡ named (listed l.states c.args.id)) c.one_table.ensures.list c.one_set.ensures.list c.self.invariant
+    (found_it i.shape i.bus.ram i.harts.items i.tables i.seats i.bus.doze c.unwrap-seats.result c.see-seats.result.0 _ c.args.id (λ (l : TableState). c.see-seats.result.1 ≡ named (listed l.states c.args.id)) c.seat_determines_states.ensures.list c.seat_determines_pairs.ensures.list c.self.invariant
     (sym c.take.ensures.value ∙ c.unwrap-seats.ensures) c.self.invariant.tables c.see-seats.ensures.gives (λ h st p. c.see-seats.ensures.stays.stages h st p) c.see-seats.ensures.alone)
 
 pub returns-clause-stays : goal.returns-clause-stays
 returns-clause-stays c =
     let i = c.self.inside in
-    shows_still i.shape i.bus.ram i.harts.items i.tables i.seats i.bus.doze c.unwrap-seats.result c.see-seats.result.0 _ c.args.id (λ (l : TableState). c.see-seats.result.1 ≡ named (listed l.states c.args.id)) c.one_table.ensures.list c.one_set.ensures.list c.self.invariant
+    shows_still i.shape i.bus.ram i.harts.items i.tables i.seats i.bus.doze c.unwrap-seats.result c.see-seats.result.0 _ c.args.id (λ (l : TableState). c.see-seats.result.1 ≡ named (listed l.states c.args.id)) c.seat_determines_states.ensures.list c.seat_determines_pairs.ensures.list c.self.invariant
     (sym c.take.ensures.value ∙ c.unwrap-seats.ensures) c.self.invariant.tables c.see-seats.ensures.gives (λ h st p. c.see-seats.ensures.stays.stages h st p) c.see-seats.ensures.alone
     ∙ c.self.view_is
 

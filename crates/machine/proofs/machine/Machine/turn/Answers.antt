@@ -11,10 +11,10 @@ pub returns-in-None-clause-turns : goal.returns-in-None-clause-turns
 returns-in-None-clause-turns c = subst (λ o. TurnBy o c.args.id c.args.self.now c.own_turn.new.self c.own_turn.result) (sym c.in-None.is ∙ c.dozes.ensures) c.own_turn.ensures
 
 pub returns-in-Some-clause-asks : goal.returns-in-Some-clause-asks
-returns-in-Some-clause-asks c = turn_asks c.one_number.ensures c.args.id _ _ _ c.requires (returns-in-Some-clause-turns c)
+returns-in-Some-clause-asks c = turn_asks c.step_keeps_number.ensures c.args.id _ _ _ c.requires (returns-in-Some-clause-turns c)
 
 pub returns-in-None-clause-asks : goal.returns-in-None-clause-asks
-returns-in-None-clause-asks c = turn_asks c.one_number.ensures c.args.id _ _ _ c.requires (returns-in-None-clause-turns c)
+returns-in-None-clause-asks c = turn_asks c.step_keeps_number.ensures c.args.id _ _ _ c.requires (returns-in-None-clause-turns c)
 
 pub returns-in-Some-clause-harts : goal.returns-in-Some-clause-harts
 returns-in-Some-clause-harts c = turns_as_many c.args.id _ _ _ (returns-in-Some-clause-turns c)

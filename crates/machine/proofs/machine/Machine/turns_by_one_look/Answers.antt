@@ -10,10 +10,10 @@ pub returns-in-None-clause-row : goal.returns-in-None-clause-row
 returns-in-None-clause-row c = own_row c.args.id c.args.self.now c.requires.hart (sym c.dozes.ensures ∙ c.in-None.is) c.own_row.result.0 _ _ c.own_row.ensures.row
 
 pub returns-in-Some-clause-asks : goal.returns-in-Some-clause-asks
-returns-in-Some-clause-asks c = row_asks c.one_number.ensures c.args.id 1 _ _ _ c.requires.hart (returns-in-Some-clause-row c)
+returns-in-Some-clause-asks c = row_asks c.step_keeps_number.ensures c.args.id 1 _ _ _ c.requires.hart (returns-in-Some-clause-row c)
 
 pub returns-in-None-clause-asks : goal.returns-in-None-clause-asks
-returns-in-None-clause-asks c = row_asks c.one_number.ensures c.args.id _ _ _ _ c.requires.hart (returns-in-None-clause-row c)
+returns-in-None-clause-asks c = row_asks c.step_keeps_number.ensures c.args.id _ _ _ _ c.requires.hart (returns-in-None-clause-row c)
 
 pub returns-in-Some-clause-harts : goal.returns-in-Some-clause-harts
 returns-in-Some-clause-harts c = rows_as_many c.args.id 1 _ _ _ (returns-in-Some-clause-row c)
