@@ -10,7 +10,6 @@ use crate::plans::Plan;
 use crate::runs::run;
 use board_model::{Command, Durable, Entry, Refusal};
 use disk::Disk;
-
 use store::record_after;
 
 /// An open store, over a disk that nobody else writes: what is selected there, and the receipts of this life.
