@@ -4,8 +4,6 @@
 #[cfg(test)]
 mod faulty;
 #[cfg(test)]
-mod kinds;
-#[cfg(test)]
 mod threads;
 #[cfg(test)]
 mod verdicts;
