@@ -62,10 +62,10 @@ each_both : {A : Type 0} (P : A → Type 0) (xs ys : List A) → Each P xs → E
 each_both P [] ys all more = more
 each_both P (x ∷ xs) ys all more = (all.0, each_both P xs ys all.1 more)
 
-pub part_stands : (l : Log Entry) (d : PartView) → IsPart l d → AreStanding (entries_of l) d.told
+pub part_stands : (l : Log Entry) (d : PartView Entry) → IsPart l d → AreStanding (entries_of l) d.told
 part_stands l d is = subst (Each (StandsIn (entries_of l))) (sym is) (stands d.who l)
 
-pub are_standing : (l : Log Entry) (ds : List PartView) → Each (IsPart l) ds → AreStanding (entries_of l) (told_in ds)
+pub are_standing : (l : Log Entry) (ds : List (PartView Entry)) → Each (IsPart l) ds → AreStanding (entries_of l) (told_in ds)
 are_standing l [] all = tt
 are_standing l (d ∷ ds) all =
     each_both (StandsIn (entries_of l)) d.told (told_in ds) (part_stands l d all.0) (are_standing l ds all.1)
@@ -90,13 +90,13 @@ told_to count (e ∷ l) of k entry at = found (λ t. told_to count l of.1 k entr
         let number : length l ≡ k = sym (length_journal l) ∙ sym n in
         (e.0, of.0, 0, rw (eq-eqb e.0 e.0 refl) (ap (λ (t : ℕ × Entry). Some t) (λ i. (suc (number i), is i))))
 
-each_at : (P : PartView → Type 0) (ds : List PartView) (k : ℕ) (d : PartView) → slice_get ds k ≡ Some d → Each P ds → P d
+each_at : (P : PartView Entry → Type 0) (ds : List (PartView Entry)) (k : ℕ) (d : PartView Entry) → slice_get ds k ≡ Some d → Each P ds → P d
 each_at P [] k d e all = absurd (cc)
 each_at P (x ∷ xs) zero d e all = subst P (ap (some_or x) e) all.0
 each_at P (x ∷ xs) (suc k) d e all = each_at P xs k d e all.1
 
 -- a part of that number is among them
-find_part : (who : ℕ) (ds : List PartView) → 0 < total (is_of who) ds → (i : ℕ) × (d : PartView) × (slice_get ds i ≡ Some d) × (d.who ≡ who)
+find_part : (who : ℕ) (ds : List (PartView Entry)) → 0 < total (is_of who) ds → (i : ℕ) × (d : PartView Entry) × (slice_get ds i ≡ Some d) × (d.who ≡ who)
 find_part who [] some_of = absurd (omega arith)
 find_part who (d ∷ ds) some_of =
     dite (ℕ_discrete d.who who)
@@ -104,31 +104,31 @@ find_part who (d ∷ ds) some_of =
     (λ miss. let z = is_of_other who d miss in let r = find_part who ds (omega (arith, z, some_of)) in (suc r.0, r.1, r.2, r.3))
 
 -- where a receipt of one of the parts stands among all
-place_of : (ds : List PartView) (i k : ℕ) (d : PartView) (t : ℕ × Entry) → slice_get ds i ≡ Some d → slice_get d.told k ≡ Some t → (j : ℕ) × (slice_get (told_in ds) j ≡ Some t)
+place_of : (ds : List (PartView Entry)) (i k : ℕ) (d : PartView Entry) (t : ℕ × Entry) → slice_get ds i ≡ Some d → slice_get d.told k ≡ Some t → (j : ℕ) × (slice_get (told_in ds) j ≡ Some t)
 place_of [] i k d t at is = absurd (cc)
 place_of (x ∷ ds) zero k d t at is =
-    (k, get_front x.told (told_in ds) k t (subst (λ (p : PartView). slice_get p.told k ≡ Some t) (sym (ap (some_or x) at)) is))
+    (k, get_front x.told (told_in ds) k t (subst (λ (p : PartView Entry). slice_get p.told k ≡ Some t) (sym (ap (some_or x) at)) is))
 place_of (x ∷ ds) (suc i) k d t at is = let r = place_of ds i k d t at is in let j = get_back x.told (told_in ds) r.0 in (j.0, j.1 ∙ r.1)
 
 -- ---- as many receipts as entries
-told_more : (who : ℕ) (e : ℕ × Entry) (l : Log Entry) (d : PartView) → d.who ≡ who → length (told_by d.who (e ∷ l)) ≡ is_of e.0 d + length (told_by d.who l)
+told_more : (who : ℕ) (e : ℕ × Entry) (l : Log Entry) (d : PartView Entry) → d.who ≡ who → length (told_by d.who (e ∷ l)) ≡ is_of e.0 d + length (told_by d.who l)
 told_more who e l d is =
     dite (ℕ_discrete e.0 d.who)
     (λ hit. rw (eq-eqb e.0 d.who hit) (let one = is_of_same e.0 d (sym hit) in omega (arith, one)))
     (λ miss. rw (ne_eqb e.0 d.who miss) (let none = is_of_other e.0 d (λ f. miss (sym f)) in omega (arith, none)))
 
-abbrev receipts_by : Log Entry → PartView → ℕ
+abbrev receipts_by : Log Entry → PartView Entry → ℕ
 receipts_by l d = length (told_by d.who l)
 
-totals_more : (e : ℕ × Entry) (l : Log Entry) (ds : List PartView) → total (receipts_by (e ∷ l)) ds ≡ total (is_of e.0) ds + total (receipts_by l) ds
+totals_more : (e : ℕ × Entry) (l : Log Entry) (ds : List (PartView Entry)) → total (receipts_by (e ∷ l)) ds ≡ total (is_of e.0) ds + total (receipts_by l) ds
 totals_more e l [] = refl
 totals_more e l (d ∷ ds) = let one = told_more d.who e l d refl in let rest = totals_more e l ds in omega (arith, one, rest)
 
-totals_none : (ds : List PartView) → total (receipts_by []) ds ≡ 0
+totals_none : (ds : List (PartView Entry)) → total (receipts_by []) ds ≡ 0
 totals_none [] = refl
 totals_none (d ∷ ds) = let rest = totals_none ds in omega (arith, rest)
 
-totals : (count : ℕ) (l : Log Entry) (ds : List PartView) → Each (λ e. e.0 < count) l → ((who : ℕ) → who < count → total (is_of who) ds ≡ 1) → total (receipts_by l) ds ≡ length l
+totals : (count : ℕ) (l : Log Entry) (ds : List (PartView Entry)) → Each (λ e. e.0 < count) l → ((who : ℕ) → who < count → total (is_of who) ds ≡ 1) → total (receipts_by l) ds ≡ length l
 totals count [] ds of all = totals_none ds
 totals count (e ∷ l) ds of all =
     let more = totals_more e l ds in
@@ -136,7 +136,7 @@ totals count (e ∷ l) ds of all =
     let rest = totals count l ds of.1 all in
     omega (arith, more, one, rest)
 
-length_told : (l : Log Entry) (ds : List PartView) → Each (IsPart l) ds → length (told_in ds) ≡ total (receipts_by l) ds
+length_told : (l : Log Entry) (ds : List (PartView Entry)) → Each (IsPart l) ds → length (told_in ds) ≡ total (receipts_by l) ds
 length_told l [] all = refl
 length_told l (d ∷ ds) all =
     let both = length-append d.told (told_in ds) in
@@ -144,7 +144,7 @@ length_told l (d ∷ ds) all =
     let rest = length_told l ds all.1 in
     omega (arith, both, own, rest)
 
-pub are_receipts : (count : ℕ) (l : Log Entry) (ds : List PartView) → Each (λ e. e.0 < count) l → Each (IsPart l) ds → ((who : ℕ) → who < count → total (is_of who) ds ≡ 1) → AreReceiptsOf (entries_of l) (told_in ds)
+pub are_receipts : (count : ℕ) (l : Log Entry) (ds : List (PartView Entry)) → Each (λ e. e.0 < count) l → Each (IsPart l) ds → ((who : ℕ) → who < count → total (is_of who) ds ≡ 1) → AreReceiptsOf (entries_of l) (told_in ds)
 are_receipts count l ds of parts all = record {
   stand = are_standing l ds parts;
   all = λ k entry at.

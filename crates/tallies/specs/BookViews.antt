@@ -3,8 +3,9 @@ use Rattle.std.specs.Prelude.{ℕ}
 use Rattle.atomic_table.specs.Seated.{TableId}
 use Rattle.tallies.specs.declared.book.NewBook.{NewBook}
 
-abbrev pub id_of : NewBook → TableId
-id_of book = book.table.shared.table_id
+module _ {E : Type 0} where
+  abbrev pub id_of : NewBook E → TableId
+  id_of book = book.table.shared.table_id
 
-abbrev pub parts_of : NewBook → ℕ
-parts_of book = book.table.shared.key
+  abbrev pub parts_of : NewBook E → ℕ
+  parts_of book = book.table.shared.key

@@ -5,7 +5,7 @@ use Rattle.tallies.specs.Books.{Each}
 use Rattle.tallies.specs.declared.book_views.PartView.{PartView}
 
 -- the receipts of those parts
-abbrev pub told_in : List PartView → List (ℕ × Entry)
+abbrev pub told_in : List (PartView Entry) → List (ℕ × Entry)
 told_in [] = []
 told_in (d ∷ ds) = d.told ++ told_in ds
 

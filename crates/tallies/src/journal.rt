@@ -10,8 +10,8 @@ use std::marker::Brand;
 
 /// The name of the journal of one life: what the store's open found, how often its disk had failed by then, the board's
 /// size, the commands that the boot issued, the memory that it left, the book of its receipts, how many parts that has, the
-/// book of what is in doubt, and the moment of the store's disk at which the boot was over, and what a crash
-/// since an earlier one might have left by then. A type that has it stands for that life alone; the call that begins to share a
+/// book of what is in doubt, the book of what is done with the bus, and the moment of the store's disk at which the boot was over, and what a
+/// crash since an earlier one might have left by then. A type that has it stands for that life alone; the call that begins to share a
 /// store picks it.
 pub trait Journal {
     ghost found: { DurableState };
@@ -29,6 +29,8 @@ pub trait Journal {
     ghost failures: { ℕ };
 
     ghost doubts: { TableId };
+
+    ghost runs: { TableId };
 
     ghost moment: { ℕ };
 
@@ -51,6 +53,8 @@ impl Journal for Brand {
     ghost failures = { 0 };
 
     ghost doubts = { no_book };
+
+    ghost runs = { no_book };
 
     ghost moment = { 0 };
 

@@ -22,7 +22,7 @@ mod journal;
 mod seats;
 mod view;
 
-pub use book::{Book, BookPart, Keeper, NewBook};
+pub use book::{Adding, Book, BookPart, Journaled, Keeper, NewBook};
 pub use book_views::{BookView, PartView};
 pub use halt::{Halt, Watch};
 pub use halt_views::HaltView;

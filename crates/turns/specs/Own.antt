@@ -91,3 +91,10 @@ TurnAsOwn size (readies.Steps pending) s m t n k k' word =
 abbrev pub TurnOwn : Size → ArchState → List ℕ → ArchState → List ℕ → Known → Known → Turned → Type 0
 TurnOwn size s m t n k k' word =
     (ready : Ready) × (mid : Known) × BeginsOwn s.id k mid ready × TurnAsOwn size ready s m t n mid k' word
+
+-- the first of a turn that steps, and the second of any other
+abbrev pub StepsIf : Ready → Type 0 → Type 0 → Type 0
+StepsIf (readies.Steps pending) stepped stayed = stepped
+StepsIf readies.Idle stepped stayed = stayed
+StepsIf readies.Woke stepped stayed = stayed
+StepsIf (readies.Enters a o) stepped stayed = stayed

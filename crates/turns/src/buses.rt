@@ -11,10 +11,13 @@ pub trait MemoryBus {
     /// That memory may be found there. Of one behind a lock nothing is known before the lock is taken.
     ghost may_hold: { Self → List ℕ → Type 0 };
 
+    /// One step of a hart took it from the first to the second: the step found that memory there, and left that one.
+    ghost stepped: { Self → Self → List ℕ → List ℕ → Type 0 };
+
     /// One step of the hart, for which an interrupt is pending or not: of a memory that was found there, and
     /// of no other.
     fn step(&mut self, hart: &mut Hart, pending: bool) -> Outcome
-        ensures { (found : List ℕ) × (left : List ℕ) × may_hold self.old found × may_hold self.new left
+        ensures { (found : List ℕ) × (left : List ℕ) × stepped self.old self.new found left
             × Steps pending hart.old found hart.new left result };
 
     /// There is a memory that may be found.
@@ -24,6 +27,8 @@ pub trait MemoryBus {
 /// The memory at hand, which is the one that is found.
 impl MemoryBus for Ram {
     ghost may_hold = { λ ram memory. memory ≡ ram };
+
+    ghost stepped = { λ ram after found left. (found ≡ ram) × (left ≡ after) };
 
     ghost holds_one = { λ ram. (ram, refl) };
 

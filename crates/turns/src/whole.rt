@@ -4,7 +4,7 @@
 ghost use Rattle.std.specs.Prelude.{◌≡◌, ◌<◌, ℕ, List};
 ghost use Rattle.hsm.specs.declared.view.Stage.TheVariants.{Running};
 ghost use Rattle.sbi_calls.specs.Both.{AreTablesOf, AreSeatsOfBoth, GivesBack, Acts, known};
-ghost use Rattle.turns.specs.Own.{TurnOwn};
+ghost use Rattle.turns.specs.Own.{StepsIf, TurnOwn};
 ghost use Rattle.turns.specs.Turns.{Rests, TurnsAlone};
 ghost use Rattle.sbi_calls.specs.declared.words.Turned.TheVariants.{Durable};
 
@@ -35,8 +35,9 @@ pub fn turn_by_bus<B: MemoryBus>(
     ensures rests { Rests hart.old.id result.0 }
     ensures id { hart.new.id ≡ hart.old.id }
     ensures asks { result.1 ≡ Durable → Acts hart.old.id Running result.0 }
-    ensures turns { (found : List ℕ) × (left : List ℕ) × B.may_hold bus.old found × B.may_hold bus.new left
-        × TurnOwn shape.now hart.old found hart.new left (known seats) (known result.0) result.1
+    ensures turns { (found : List ℕ) × (left : List ℕ)
+        × (own : TurnOwn shape.now hart.old found hart.new left (known seats) (known result.0) result.1)
+        × StepsIf own.0 (B.stepped bus.old bus.new found left) (B.may_hold bus.old found × (bus.new ≡ bus.old))
         × TurnsAlone shape.now hart.old found hart.new left seats result.0 result.1 }
 {
     let (seats, ready) = begin(seats, tables, hart.id());

@@ -1,3 +1,8 @@
+use Rattle.std.proofs.Common.{ℕ, List, subst}
+use Rattle.sbi_calls.specs.Both.{known}
+use Rattle.turns.specs.Own.{TurnOwn}
+use Rattle.turns.specs.Turns.{TurnsAlone}
+use Rattle.turns.proofs.OneTurn.{at_hand}
 use Rattle.turns.proofs.whole.turn.Goals as goal
 
 pub turn_by_bus-requires-clause-tables : goal.turn_by_bus-requires-clause-tables
@@ -20,3 +25,15 @@ returns-clause-rests c = c.turn_by_bus.ensures.rests
 
 pub returns-clause-id : goal.returns-clause-id
 returns-clause-id c = c.turn_by_bus.ensures.id
+
+pub returns-clause-own : goal.returns-clause-own
+returns-clause-own c =
+    let b = c.turn_by_bus in let e = b.ensures.turns in let shape = c.args.shape.now in let s = c.args.hart.now in
+    let at = at_hand shape s b.new.hart e.0 e.1 c.args.ram.now b.new.bus (known c.args.seats) (known b.result.0) b.result.1 e.2 e.3 in
+    subst (λ (x : List ℕ × List ℕ). TurnOwn shape s x.0 b.new.hart x.1 (known c.args.seats) (known b.result.0) b.result.1) (λ i. (at.0 i, at.1 i)) e.2
+
+pub returns-clause-alone : goal.returns-clause-alone
+returns-clause-alone c =
+    let b = c.turn_by_bus in let e = b.ensures.turns in let shape = c.args.shape.now in let s = c.args.hart.now in
+    let at = at_hand shape s b.new.hart e.0 e.1 c.args.ram.now b.new.bus (known c.args.seats) (known b.result.0) b.result.1 e.2 e.3 in
+    subst (λ (x : List ℕ × List ℕ). TurnsAlone shape s x.0 b.new.hart x.1 c.args.seats b.result.0 b.result.1) (λ i. (at.0 i, at.1 i)) e.4

@@ -12,7 +12,7 @@ join_seat-requires g c =
     let p = c.part.inside.seat in (
       c.keeper.invariant.0 ∙ sym t.invariant.1,
       c.part.invariant.0 ∙ sym t.invariant.1,
-      ap (λ (m : Me (Unit {0}) BookView). m.1) c.part.invariant.1,
+      ap (λ (m : Me (Unit {0}) (BookView _)). m.1) c.part.invariant.1,
       t.invariant.0,
-      subst (λ (w : BookView). Joins IsKept k.id k.me.0 p.id w (with_part k.me.0 w) nobody) (sym (ap (λ (m : Me (Unit {0}) BookView). m.0) c.part.invariant.1)) (takes_in k.id p.id k.me.0 (first_of p.me.0.parts)),
+      subst (λ (w : (BookView _)). Joins IsKept k.id k.me.0 p.id w (with_part k.me.0 w) nobody) (sym (ap (λ (m : Me (Unit {0}) (BookView _)). m.0) c.part.invariant.1)) (takes_in k.id p.id k.me.0 (first_of p.me.0.parts)),
     )

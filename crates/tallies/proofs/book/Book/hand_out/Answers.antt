@@ -7,4 +7,4 @@ pub split_seat-seat-requires : goal.split_seat-seat-requires
 split_seat-seat-requires g c =
     let t = c.self in
     let k = c.keeper.inside.seat in
-    (c.keeper.invariant.0 ∙ sym t.invariant.1, t.invariant.0, parts_off k.id k.me.0 (subst (λ (v : BookView). 0 < length v.parts) (sym c.keeper.view_is) c.requires.some))
+    (c.keeper.invariant.0 ∙ sym t.invariant.1, t.invariant.0, parts_off k.id k.me.0 (subst (λ (v : (BookView _)). 0 < length v.parts) (sym c.keeper.view_is) c.requires.some))

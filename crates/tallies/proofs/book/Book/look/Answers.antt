@@ -16,14 +16,14 @@ load-requires g c =
 pub returns-clause-of : goal.returns-clause-of
 returns-clause-of g c =
     let k = c.keeper.inside.seat in
-    let learnt = c.load.ensures.2.1 (ap (λ (m : Me (Unit {0}) BookView). m.0.keeps) c.keeper.invariant.1) in
-    let few = subst (λ (n : ℕ). Each (λ e. e.0 < n) k.me.0.log) (ap (λ (m : Me (Unit {0}) BookView). m.0.count) c.keeper.invariant.1) learnt.1 in
-    subst (λ (v : BookView). Each (λ e. e.0 < g.J.Journal.parts) v.log) c.keeper.view_is few
+    let learnt = c.load.ensures.2.1 (ap (λ (m : Me (Unit {0}) (BookView _)). m.0.keeps) c.keeper.invariant.1) in
+    let few = subst (λ (n : ℕ). Each (λ e. e.0 < n) k.me.0.log) (ap (λ (m : Me (Unit {0}) (BookView _)). m.0.count) c.keeper.invariant.1) learnt.1 in
+    subst (λ (v : (BookView _)). Each (λ e. e.0 < g.J.Journal.parts) v.log) c.keeper.view_is few
 
 pub returns-clause-all : goal.returns-clause-all
 returns-clause-all g c =
     let k = c.keeper.inside.seat in
-    let learnt = c.load.ensures.2.1 (ap (λ (m : Me (Unit {0}) BookView). m.0.keeps) c.keeper.invariant.1) in
-    let count = ap (λ (m : Me (Unit {0}) BookView). m.0.count) c.keeper.invariant.1 in
+    let learnt = c.load.ensures.2.1 (ap (λ (m : Me (Unit {0}) (BookView _)). m.0.keeps) c.keeper.invariant.1) in
+    let count = ap (λ (m : Me (Unit {0}) (BookView _)). m.0.count) c.keeper.invariant.1 in
     let here = subst (λ (n : ℕ). length k.me.0.parts ≡ n → (who : ℕ) → who < n → total (is_of who) k.me.0.parts ≡ 1) count learnt.2 in
-    subst (λ (v : BookView). length v.parts ≡ g.J.Journal.parts → (who : ℕ) → who < g.J.Journal.parts → total (is_of who) v.parts ≡ 1) c.keeper.view_is here
+    subst (λ (v : (BookView _)). length v.parts ≡ g.J.Journal.parts → (who : ℕ) → who < g.J.Journal.parts → total (is_of who) v.parts ≡ 1) c.keeper.view_is here
