@@ -22,12 +22,12 @@ harts_more : (told : Option (ℕ × Entry)) (harts : List (Option (ℕ × Entry)
 harts_more told harts one all zero d lt = one
 harts_more told harts one all (suc k) d lt = all k d (omega (arith, lt))
 
-pub none_back : (ds : List PartView) → length ds ≡ 0 → AreBack ds
+pub none_back : (ds : List (PartView Entry)) → length ds ≡ 0 → AreBack ds
 none_back [] e = record { harts = []; many = refl; each = harts_none; told = refl }
 none_back (d ∷ ds) e = absurd (omega (arith, e))
 
 -- one part more, with the receipt of a run, or none
-pub one_back : (d : PartView) (ds : List PartView) (told : Option (ℕ × Entry)) → ends_life told ≡ true → d.told ≡ option_to_list told → AreBack ds → AreBack (d ∷ ds)
+pub one_back : (d : PartView Entry) (ds : List (PartView Entry)) (told : Option (ℕ × Entry)) → ends_life told ≡ true → d.told ≡ option_to_list told → AreBack ds → AreBack (d ∷ ds)
 one_back d ds told ran is b = record {
   harts = told ∷ b.harts;
   many = let m = b.many in omega (arith, m);
@@ -36,15 +36,15 @@ one_back d ds told ran is b = record {
 }
 
 -- and one that was told nothing
-pub fresh_back : (d : PartView) (ds : List PartView) → d.told ≡ [] → AreBack ds → AreBack (d ∷ ds)
+pub fresh_back : (d : PartView Entry) (ds : List (PartView Entry)) → d.told ≡ [] → AreBack ds → AreBack (d ∷ ds)
 fresh_back d ds is b = one_back d ds None refl is b
 
-pub all_fresh : (ds : List PartView) → All (λ d. d.told ≡ []) ds → AreBack ds
+pub all_fresh : (ds : List (PartView Entry)) → All (λ d. d.told ≡ []) ds → AreBack ds
 all_fresh [] all = none_back [] refl
 all_fresh (d ∷ ds) all = fresh_back d ds (all 0 d (omega arith)) (all_fresh ds (λ k x lt. all (suc k) x (omega (arith, lt))))
 
 -- all are back: the harts', the console's and the boot's
-pub acknowledged : (size : Size) (issued journal : List Change) (boot console : PartView) (ds : List PartView) → AreBack ds → length ds ≡ size.harts → boot.told ≡ boot_told issued
+pub acknowledged : (size : Size) (issued journal : List Change) (boot console : PartView Entry) (ds : List (PartView Entry)) → AreBack ds → length ds ≡ size.harts → boot.told ≡ boot_told issued
     → AreReceiptsOf (entries_in journal) (told_in (boot ∷ console ∷ ds)) → IsAcknowledged size issued journal console.told
 acknowledged size issued journal boot console ds b many is all = record {
   harts = b.harts;

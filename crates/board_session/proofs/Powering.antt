@@ -28,7 +28,7 @@ use Rattle.board_model.specs.declared.boot_mode.BootMode.TheVariants as modes
 use Rattle.store.specs.Lives.{Life, now_of}
 use Rattle.store.specs.Taken.{are_taken}
 use Rattle.hart_threads.specs.Legal.{BeginsWith}
-use Rattle.hart_threads.specs.Runs.{AllCarrySteps, IsCarried}
+use Rattle.hart_threads.specs.Runs.{AllCarry, IsCarriedBy}
 use Rattle.hart_threads.proofs.Carrying.{none_carry, more_carry, change_carries}
 use Rattle.board.specs.Boots.{boot_refusal, life_after}
 use Rattle.board.specs.Moments.{MayLeave, attempts_of, commands_by}
@@ -180,18 +180,18 @@ pub life_few : (mode : BootMode) (life : Life) → life ≡ life_after mode life
 life_few mode life is = subst (λ (cs : List Change). length cs ≤ 2) (sym (life_issued mode life is)) (few_commands mode life.found)
 
 -- no command of a boot is a suspension
-attempts_carried : (begins : List ℕ) (trial : Option Trial) → AllCarrySteps begins (attempts_of trial)
-attempts_carried begins None = none_carry begins
-attempts_carried begins (Some trial) = more_carry begins Attempt [] (change_carries begins commands.Attempt Attempt refl) (none_carry begins)
+attempts_carried : (P : List ℕ → Type 0) (trial : Option Trial) → AllCarry P (attempts_of trial)
+attempts_carried P None = none_carry P
+attempts_carried P (Some trial) = more_carry P Attempt [] (change_carries P commands.Attempt Attempt refl) (none_carry P)
 
-commands_carried : (begins : List ℕ) (mode : BootMode) (s : DurableState) → AllCarrySteps begins (commands_by mode s)
-commands_carried begins modes.Fresh s = attempts_carried begins s.trial
-commands_carried begins modes.Keep s = attempts_carried begins s.trial
-commands_carried begins modes.Discard s = more_carry begins Discard (attempts_of s.trial) (change_carries begins commands.Discard Discard refl) (attempts_carried begins s.trial)
-commands_carried begins modes.Resume s = more_carry begins Consume [] (change_carries begins commands.Consume Consume refl) (none_carry begins)
+commands_carried : (P : List ℕ → Type 0) (mode : BootMode) (s : DurableState) → AllCarry P (commands_by mode s)
+commands_carried P modes.Fresh s = attempts_carried P s.trial
+commands_carried P modes.Keep s = attempts_carried P s.trial
+commands_carried P modes.Discard s = more_carry P Discard (attempts_of s.trial) (change_carries P commands.Discard Discard refl) (attempts_carried P s.trial)
+commands_carried P modes.Resume s = more_carry P Consume [] (change_carries P commands.Consume Consume refl) (none_carry P)
 
-pub life_carried : (mode : BootMode) (life : Life) → life ≡ life_after mode life.found → (begins : List ℕ) → IsCarried begins life
-life_carried mode life is begins = subst (λ (x : Life). IsCarried begins x) (sym is) (record { journal = commands_carried begins mode life.found; doubt = λ c e. let no : ⊥ = cc in absurd no })
+pub life_carried : (P : List ℕ → Type 0) (mode : BootMode) (life : Life) → life ≡ life_after mode life.found → IsCarriedBy P life
+life_carried P mode life is = subst (λ (x : Life). IsCarriedBy P x) (sym is) (record { journal = commands_carried P mode life.found; doubt = λ c e. let no : ⊥ = cc in absurd no })
 
 -- of which none is in doubt
 pub life_up : (mode : BootMode) (life : Life) → life ≡ life_after mode life.found → life.doubt ≡ None

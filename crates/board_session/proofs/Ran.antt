@@ -15,18 +15,25 @@ use Rattle.board_session.specs.Commands.{party}
 use Rattle.board_session.specs.Dialogues.{DialogueEnds, Talks, dialogue_ends}
 use Rattle.board_session.specs.declared.talks.Left.{Left}
 use Rattle.hart_threads.specs.Ends.{Ending}
-use Rattle.board_session.specs.Sessions.{RunsOver, Begins, IsOfLife, TalksIf, AreByLast, AreDriven, RanOver, LeftBefore, said_since}
+use Rattle.board_session.specs.Histories.{HasHistory}
+use Rattle.board_session.specs.Sessions.{RunsOver, Begins, IsOfLife, TalksIf, AreByLast, RanOver, LeftBefore, said_since}
 
 -- what is said of the time before the boot says less
 or_else : (A B P : Type 0) → (A → B) → A ⊎ P → B ⊎ P
 or_else A B P f (inl a) = inl (f a)
 or_else A B P f (inr p) = inr p
 
-weaker : (size : Size) (found : DurableState) (issued : List Change) (memory : List ℕ) (failures : ℕ) (earlier said : ℕ → Content → Type 0) (moment from : ℕ) (moments : List ℕ) (console : List (ℕ × Entry)) (doubt : Option Command) (disk : Facts)
-    → from ≤ moment → ((t : ℕ) (c : Content) → t ≤ from → earlier t c → said t c) → (ends : List Ending)
-    → (life : IsOfLife size found issued memory failures earlier moment moments console doubt disk) → AreByLast life.journal ends
-    → (is : IsOfLife size found issued memory failures said from moments console doubt disk) × AreByLast is.journal ends
-weaker size found issued memory failures earlier said moment from moments console doubt disk le says ends life ended = (
+-- a life that has ended so, with the history of its bus
+abbrev HasEnded : Size → DurableState → List Change → List ℕ → ℕ → (ℕ → Content → Type 0) → ℕ → List ℕ → List (ℕ × Entry) → Hearing → Facts → Machine → ℕ → Option Left → List Ending → Type 0
+HasEnded size found issued memory failures earlier moment moments console heard disk machine turns left ends =
+    (life : IsOfLife size found issued memory failures earlier moment moments console heard.doubt disk) × AreByLast life.journal ends
+    × HasHistory size machine turns found life.journal life.doubt heard.woken left ends
+
+weaker : (size : Size) (found : DurableState) (issued : List Change) (memory : List ℕ) (failures : ℕ) (earlier said : ℕ → Content → Type 0) (moment from : ℕ) (moments : List ℕ) (console : List (ℕ × Entry)) (heard : Hearing) (disk : Facts) (machine : Machine) (turns : ℕ) (left : Option Left) (ends : List Ending)
+    → from ≤ moment → ((t : ℕ) (c : Content) → t ≤ from → earlier t c → said t c)
+    → HasEnded size found issued memory failures earlier moment moments console heard disk machine turns left ends
+    → HasEnded size found issued memory failures said from moments console heard disk machine turns left ends
+weaker size found issued memory failures earlier said moment from moments console heard disk machine turns left ends le says (life, ended, history) = (
   record {
     journal = life.journal;
     acknowledged = life.acknowledged;
@@ -49,29 +56,31 @@ weaker size found issued memory failures earlier said moment from moments consol
     };
   },
   ended,
+  history,
 )
 
--- a life under its other names, and what ended its harts
-named : (z size : Size) (s found : DurableState) (issued commands : List Change) (memory begins : List ℕ) (failures before : ℕ) (said : ℕ → Content → Type 0) (from : ℕ) (moments : List ℕ) (console : List (ℕ × Entry)) (doubt : Option Command) (disk : Facts) (ends : List Ending)
-    → z ≡ size → s ≡ found → issued ≡ commands → memory ≡ begins → failures ≡ before
-    → (life : IsOfLife z s issued memory failures said from moments console doubt disk) × AreByLast life.journal ends → (life : IsOfLife size found commands begins before said from moments console doubt disk) × AreByLast life.journal ends
-named z size s found issued commands memory begins failures before said from moments console doubt disk ends sized was made left_by opened both =
-    let Named : Size → DurableState → List Change → List ℕ → ℕ → Type 0 = λ y t cs m n. (is : IsOfLife y t cs m n said from moments console doubt disk) × AreByLast is.journal ends in
-    subst (λ (x : Size). Named x found commands begins before) sized
-    (subst (λ (x : DurableState). Named z x commands begins before) was
-    (subst (λ (x : List Change). Named z s x begins before) made
-    (subst (λ (x : List ℕ). Named z s issued x before) left_by
-    (subst (λ (x : ℕ). Named z s issued memory x) opened both))))
+-- a life under its other names
+named : (z size : Size) (s found : DurableState) (issued commands : List Change) (memory begins : List ℕ) (failures before : ℕ) (said : ℕ → Content → Type 0) (from : ℕ) (moments : List ℕ) (console : List (ℕ × Entry)) (heard : Hearing) (disk : Facts) (board machine : Machine) (turns : ℕ) (left : Option Left) (ends : List Ending)
+    → z ≡ size → s ≡ found → issued ≡ commands → memory ≡ begins → failures ≡ before → board ≡ machine
+    → HasEnded z s issued memory failures said from moments console heard disk board turns left ends → HasEnded size found commands begins before said from moments console heard disk machine turns left ends
+named z size s found issued commands memory begins failures before said from moments console heard disk board machine turns left ends sized was made left_by opened same ended =
+    let Named : Size → DurableState → List Change → List ℕ → ℕ → Machine → Type 0 = λ y t cs m n b. HasEnded y t cs m n said from moments console heard disk b turns left ends in
+    subst (λ (x : Size). Named x found commands begins before machine) sized
+    (subst (λ (x : DurableState). Named z x commands begins before machine) was
+    (subst (λ (x : List Change). Named z s x begins before machine) made
+    (subst (λ (x : List ℕ). Named z s issued x before machine) left_by
+    (subst (λ (x : ℕ). Named z s issued memory x machine) opened
+    (subst (λ (x : Machine). Named z s issued memory failures x) same ended)))))
 
 -- what is of the life of the store that the board gave up is of the one that it had
 pub ran_over : (new : Bool) (shape : Size) (mode : BootMode) (payloads : List (List ℕ)) (turns : ℕ) (old disk : Facts) (moments : List ℕ) (left : Option Left) (a : DialogueEnds) (input output : Option (List ℕ)) (heard : Hearing) (ends : List Ending) (size z : Size) (found s : DurableState) (issued : List Change) (machine board : Machine) (memory : List ℕ) (failures : ℕ) (earlier : ℕ → Content → Type 0) (moment : ℕ)
     → said_since new old ≤ moment → ((t : ℕ) (c : Content) → t ≤ said_since new old → earlier t c → LeftBefore new old size found (commands_by mode found) t c)
     → z ≡ size → s ≡ found → issued ≡ commands_by mode found → memory ≡ machine.memory → board ≡ machine → failures ≡ old.failures → RunsOver new shape mode payloads old.content → Begins new shape old.content size found → IsBegun mode size payloads found machine
-    → (console : List (ℕ × Entry)) → (life : IsOfLife z s issued memory failures earlier moment moments console heard.doubt disk)
-    → TalksIf s issued left a (dialogue_ends input output (party console heard)) → AreByLast life.journal ends → AreDriven z.harts board turns s left ends → RanOver new shape mode payloads turns old disk moments left a input output heard ends
-ran_over new shape mode payloads turns old disk moments left a input output heard ends size z found s issued machine board memory failures earlier moment le says sized was made left_by same opened allowed begins powered console life talks ended driven =
-    let kept = named z size s found issued (commands_by mode found) memory machine.memory failures old.failures (LeftBefore new old size found (commands_by mode found)) (said_since new old) moments console heard.doubt disk ends sized was made left_by opened
-    (weaker z s issued memory failures earlier (LeftBefore new old size found (commands_by mode found)) moment (said_since new old) moments console heard.doubt disk le says ends life ended) in
+    → (console : List (ℕ × Entry)) → HasEnded z s issued memory failures earlier moment moments console heard disk board turns left ends
+    → TalksIf s issued left a (dialogue_ends input output (party console heard)) → RanOver new shape mode payloads turns old disk moments left a input output heard ends
+ran_over new shape mode payloads turns old disk moments left a input output heard ends size z found s issued machine board memory failures earlier moment le says sized was made left_by same opened allowed begins powered console life talks =
+    let kept = named z size s found issued (commands_by mode found) memory machine.memory failures old.failures (LeftBefore new old size found (commands_by mode found)) (said_since new old) moments console heard disk board machine turns left ends sized was made left_by opened same
+    (weaker z s issued memory failures earlier (LeftBefore new old size found (commands_by mode found)) moment (said_since new old) moments console heard disk board turns left ends le says life) in
     record {
       allowed = allowed;
       size = size;
@@ -84,10 +93,7 @@ ran_over new shape mode payloads turns old disk moments left a input output hear
       talks =
           subst (λ (x : DurableState). TalksIf x (commands_by mode found) left a (dialogue_ends input output (party console heard))) was
           (subst (λ (x : List Change). TalksIf s x left a (dialogue_ends input output (party console heard))) made talks);
-      driven =
-          subst (λ (x : DurableState). AreDriven size.harts machine turns x left ends) was
-          (subst (λ (x : Machine). AreDriven size.harts x turns s left ends) same
-          (subst (λ (x : Size). AreDriven x.harts board turns s left ends) sized driven));
+      history = kept.2;
       ended = kept.1;
     }
 

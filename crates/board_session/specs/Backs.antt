@@ -7,7 +7,7 @@ use Rattle.hart_threads.specs.Threads.{ends_life}
 use Rattle.board_session.specs.Sessions.{hart_receipts}
 
 -- each was told the receipt of the command with which its hart ended the life, or none
-pub record AreBack (parts : List PartView) : Type 0 where
+pub record AreBack (parts : List (PartView Entry)) : Type 0 where
   pub harts : List (Option (ℕ × Entry))
   pub many : length harts ≡ length parts
   pub each : All (λ told. ends_life told ≡ true) harts

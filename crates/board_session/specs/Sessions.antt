@@ -25,9 +25,7 @@ use Rattle.machine.specs.Machine.{Machine}
 use Rattle.tallies.specs.Closed.{AreReceiptsOf}
 use Rattle.hart_threads.specs.Noted.{boot_told, entries_in}
 use Rattle.hart_threads.specs.Threads.{ends_life}
-use Rattle.hart_threads.specs.Ends.{Ending, AreNumberedFrom, IsEnding}
-use Rattle.hart_threads.specs.declared.closing.AfterConsole.{AfterConsole}
-use Rattle.hart_threads.specs.declared.closing.AfterConsole.TheVariants.{RunOut, Halt}
+use Rattle.hart_threads.specs.Ends.{Ending}
 use Rattle.hart_threads.specs.declared.ends.ShutBy.{ShutBy}
 use Rattle.hart_threads.specs.declared.ends.ShutBy.TheVariants.{Life, Console}
 use Rattle.hart_threads.specs.Called.{IsLastOf}
@@ -37,6 +35,7 @@ use Rattle.hart_threads.specs.Runs.{CarriesSteps, AllCarrySteps}
 use Rattle.hart_threads.specs.Since.{AreKept}
 use Rattle.board_session.specs.Commands.{party}
 use Rattle.board_session.specs.Dialogues.{DialogueEnds, Talks, dialogue_ends}
+use Rattle.board_session.specs.Histories.{HasHistory}
 use Rattle.board_session.specs.declared.talks.Left.{Left}
 use Rattle.board_session.specs.declared.talks.Left.TheVariants as lefts
 
@@ -158,21 +157,6 @@ outcome_of (Some lefts.InputFailed) = Ok tt
 outcome_of (Some lefts.Unwritten) = Err Output
 
 -- ---- the harts of the session
--- what they do once the console has left
-abbrev pub harts_after : Left → AfterConsole
-harts_after lefts.Quit = Halt
-harts_after lefts.EndOfInput = RunOut
-harts_after lefts.InputFailed = RunOut
-harts_after lefts.Unwritten = Halt
-
--- Where the console was begun each hart of that board had a loop, and there is an end of each, from hart 0 on. It went from where
--- the power-on left it by just the turns that its loop made. It made all the turns that each hart is given, or a hart ended the
--- life by a command that was acknowledged, or the console had left so that the harts are halted.
-abbrev pub AreDriven : ℕ → Machine → ℕ → DurableState → Option Left → List Ending → Type 0
-AreDriven harts machine turns found None ends = Unit {0}
-AreDriven harts machine turns found (Some left) ends =
-    (length ends ≡ harts) × AreNumberedFrom 0 ends × All (IsEnding machine turns found false (harts_after left)) ends
-
 -- where another hart ended the life, it was by that command
 abbrev pub IsBy : Option (ℕ × Entry) → Option ShutBy → Type 0
 IsBy last None = Unit {0}
@@ -190,9 +174,9 @@ AreByLast journal ends = All (λ e. IsByLast journal e.by) ends
 
 -- The board was on, over a disk that allows it, with the memory and harts that the mode begins. The disk given back is
 -- that of the life that it then began, whose suspension carries what steps of harts made of that memory; and what was read
--- and answered is of that life, with its receipts, and with the refusals and states that the console heard. Its harts are
--- those of the board that was on, were driven, and ended so; where another hart ended the life, by the last command of its
--- journal.
+-- and answered is of that life, with its receipts, and with the refusals and states that the console heard. Its bus has one
+-- history, of which that suspension's memory was a moment. Its harts are those of the board that was on, were driven, and
+-- ended so, with what that history has of them; where another hart ended the life, by the last command of its journal.
 pub record RanOver (new : Bool) (shape : Size) (mode : BootMode) (payloads : List (List ℕ)) (turns : ℕ)
     (old disk : Facts) (moments : List ℕ) (left : Option Left) (a : DialogueEnds) (input output : Option (List ℕ))
     (heard : Hearing) (ends : List Ending) : Type 0 where
@@ -206,5 +190,5 @@ pub record RanOver (new : Bool) (shape : Size) (mode : BootMode) (payloads : Lis
   pub life : IsOfLife size found (commands_by mode found) machine.memory old.failures
       (LeftBefore new old size found (commands_by mode found)) (said_since new old) moments console heard.doubt disk
   pub talks : TalksIf found (commands_by mode found) left a (dialogue_ends input output (party console heard))
-  pub driven : AreDriven size.harts machine turns found left ends
+  pub history : HasHistory size machine turns found life.journal life.doubt heard.woken left ends
   pub ended : AreByLast life.journal ends

@@ -7,17 +7,17 @@ ghost use Rattle.board_session.specs.Commands.{AnswersCommand, AnswersSaid, Answ
 use crate::reply::Reply;
 use crate::waking::Waking;
 use crate::words::Said;
-use board_model::ConsoleCommand;
+use board_model::{ConsoleCommand, Entry};
 use disk::Disk;
 use hart_threads::{BookPart, Heard, Journal, SharedBus, SharedStore};
 
 /// Issues a command, which is answered by its word.
 fn issue<D: Disk + Drop, J: Journal>(
     store: &mut SharedStore<D, J>,
-    part: BookPart<J>,
+    part: BookPart<J, Entry>,
     heard: &mut Heard<J>,
     command: ConsoleCommand,
-) -> (BookPart<J>, Reply)
+) -> (BookPart<J, Entry>, Reply)
     ensures asks { AnswersCommand command (store_in store.old) (store_in store.new) result.1 }
     ensures fits { IsCommandAnswer J.found command result.1 (party part.told heard.old)
         (party result.0.told heard.new) }
@@ -36,10 +36,10 @@ fn issue<D: Disk + Drop, J: Journal>(
 /// each refusal and of each state that it is shown. `wake` asks the bus (`rouse`), and the other lines ask nothing.
 pub fn obey<D: Disk + Drop, J: Journal>(
     store: &mut SharedStore<D, J>,
-    part: BookPart<J>,
+    part: BookPart<J, Entry>,
     heard: &mut Heard<J>,
     said: Said,
-) -> (BookPart<J>, Reply)
+) -> (BookPart<J, Entry>, Reply)
     requires { asks_store said ≡ true }
     ensures asks { AnswersSaid said (store_in store.old) (store_in store.new) result.1 }
     ensures fits { IsAnswerTo J.found J.issued said result.1 (party part.told heard.old)

@@ -5,16 +5,21 @@ ghost use Rattle.store.specs.Leaves.{IsIdle};
 ghost use Rattle.store.specs.Taken.{are_taken};
 ghost use Rattle.store.specs.Views.{size_of_store, found_state, journal_of, life_of, doubt_of, failures_at_open, disk_of};
 ghost use Rattle.hart_threads.specs.Noted.{boot_told};
-ghost use Rattle.hart_threads.specs.Runs.{IsCarried};
-ghost use Rattle.hart_threads.specs.Views.{inside, moments_with, parts_with};
+ghost use Rattle.hart_threads.specs.Runs.{IsCarriedBy};
+ghost use Rattle.hart_threads.specs.Bused.{AreSaved, AreWakes};
+ghost use Rattle.hart_threads.specs.Views.{bus_parts, inside, moments_with, parts_with};
 ghost use Rattle.hart_threads.specs.Ends.{AreNumberedFrom, IsEnding};
+ghost use Rattle.hart_threads.specs.declared.bus_turns.BusTurn.{BusTurn as TurnView};
+ghost use Rattle.tallies.specs.Logs.{Log};
 ghost use Rattle.board_session.specs.Backs.{AreBack};
+ghost use Rattle.board_session.specs.Histories.{EndsHistory, EndsWith};
 ghost use Rattle.board_session.specs.Sessions.{IsBy, IsOfLife};
 
 use board_model::Entry;
 use disk::Disk;
 use hart_threads::{
-    BookPart, HartEnd, HartLocal, Heard, Moments, Parted, Rested, ShutBy, Threaded, Unshared,
+    BookPart, BusPart, HartEnd, HartLocal, HartParts, Heard, Moments, Parted, Rested, SharedBus,
+    ShutBy, Threaded, Unshared,
 };
 use std::sync::Wait;
 use store::Store;
@@ -41,7 +46,7 @@ fn end_of<'c, R: Wait, J: Threaded>(
 ) -> HartEnd
     ensures number { result.number ≡ number }
     ensures by { IsBy last.now result.by }
-    ensures well { IsEnding J.machine J.turns J.found J.gated parted.now.token.value result }
+    ensures well { IsEnding J.machine J.turns J.found J.gated parted.now.token.value rested.now.ended.local.run result }
 {
     let end = rested.end(parted);
     if end.hart().index() == number && is_by(last, end.by()) {
@@ -52,26 +57,56 @@ fn end_of<'c, R: Wait, J: Threaded>(
 }
 
 /// How the harts of those loops ended, in the order of their numbers, from 0. In the list of loops the highest number comes
-/// first. `parted` holds what their console said of the harts when it left, and `last` the last command of their life.
-pub(crate) fn ends_of<'c, R: Wait, J: Threaded>(
+/// first. `parted` holds what their console said of the harts when it left, and `last` the last command of their life. The parts of the
+/// loops come back to the store and to the bus.
+pub(crate) fn ends_of<'c, R: Wait, D: Disk + Drop, J: Threaded>(
     rt: &R,
-    loops: &[Rested<'c, J>],
+    whole: &mut Unshared<D, J>,
+    bus: &mut SharedBus<J>,
+    loops: Vec<Rested<'c, J>>,
     parted: &Parted<'c, J>,
     room: Vec<HartEnd>,
     last: &Option<(u32, Entry)>,
 ) -> Vec<HartEnd>
+    requires back { AreBack (parts_with whole.old) }
     requires empty { vec_len room ≡ 0 }
-    requires room { length loops.now ≤ vec_capacity room }
-    ensures many { vec_len result ≡ length loops.entry.now }
+    requires room { vec_len loops ≤ vec_capacity room }
+    ensures store { inside whole.new ≡ inside whole.old }
+    ensures moments { moments_with whole.new ≡ moments_with whole.old }
+    ensures back { AreBack (parts_with whole.new) }
+    ensures parts { length (parts_with whole.new) ≡ length (parts_with whole.old) + vec_len loops.entry }
+    ensures many { vec_len result ≡ vec_len loops.entry }
     ensures numbered { AreNumberedFrom 0 result.items }
-    ensures well { All (IsEnding J.machine J.turns J.found J.gated parted.now.token.value) result.items }
+    ensures well { All (EndsWith J.machine J.turns J.found J.gated parted.now.token.value (bus_parts bus.new)) result.items }
     ensures by { All (λ e. IsBy last.now e.by) result.items }
 {
-    let (mut ends, many) = (room, loops.len());
-    for k in 0..many {
-        ends.push_reserved(end_of(rt, &loops[many - 1 - k], parted, k, last));
+    let (mut loops, mut ends) = (loops, room);
+    while let Some(rested) = loops.pop() {
+        let number = ends.len();
+        ends.push_reserved(end_of(rt, &rested, parted, number, last));
+        let HartLocal {
+            seats: _,
+            doze: _,
+            part,
+            run,
+            refused: _,
+        } = rested.ended.local;
+        whole.gather(part);
+        bus.gather(run);
     }
     ends
+}
+
+/// The history of the bus of a life that has ended, once the parts of its loops are back: with them the store's part and the console's,
+/// in this order.
+pub(crate) fn end_history<J: Threaded>(bus: SharedBus<J>, runs: (BusPart<J>, BusPart<J>))
+    ensures { (log : Log TurnView) × EndsHistory J.size J.memory log runs.0 runs.1 (bus_parts bus) }
+{
+    let (own, woken) = runs;
+    let mut bus = bus;
+    bus.gather(own);
+    bus.gather(woken);
+    bus.close();
 }
 
 /// The parts of loops that ended come back to the store.
@@ -88,6 +123,7 @@ fn gather_loops<D: Disk + Drop, J: Threaded>(whole: &mut Unshared<D, J>, loops: 
             seats: _,
             doze: _,
             part,
+            run: _,
             refused: _,
         } = rested.ended.local;
         whole.gather(part);
@@ -95,9 +131,9 @@ fn gather_loops<D: Disk + Drop, J: Threaded>(whole: &mut Unshared<D, J>, loops: 
 }
 
 /// Parts that were given to no loop come back to the store.
-fn gather_parts<D: Disk + Drop, J: Threaded>(whole: &mut Unshared<D, J>, parts: Vec<BookPart<J>>)
+fn gather_parts<D: Disk + Drop, J: Threaded>(whole: &mut Unshared<D, J>, parts: Vec<HartParts<J>>)
     requires back { AreBack (parts_with whole.old) }
-    requires fresh { All (λ p. p.told ≡ []) parts.items }
+    requires fresh { All (λ p. p.receipts.told ≡ []) parts.items }
     ensures store { inside whole.new ≡ inside whole.old }
     ensures moments { moments_with whole.new ≡ moments_with whole.old }
     ensures back { AreBack (parts_with whole.new) }
@@ -105,15 +141,15 @@ fn gather_parts<D: Disk + Drop, J: Threaded>(whole: &mut Unshared<D, J>, parts: 
 {
     let mut parts = parts;
     while let Some(part) = parts.pop() {
-        whole.gather(part);
+        whole.gather(part.receipts);
     }
 }
 
 /// The console's part and the boot's come back.
 fn gather_last<D: Disk + Drop, J: Threaded>(
     whole: &mut Unshared<D, J>,
-    console: BookPart<J>,
-    boot: BookPart<J>,
+    console: BookPart<J, Entry>,
+    boot: BookPart<J, Entry>,
 )
     ensures store { inside whole.new ≡ inside whole.old }
     ensures moments { moments_with whole.new ≡ moments_with whole.old }
@@ -124,38 +160,41 @@ fn gather_last<D: Disk + Drop, J: Threaded>(
 }
 
 /// The disk of a store whose life ends here, once the harts' parts, the console's and the boot's are back, and what the
-/// console heard; and the moments of its receipts.
+/// console heard; the moments of its receipts; and what the store and the console did with the bus.
 pub(crate) fn disk_of<D: Disk + Drop, J: Threaded>(
     whole: Unshared<D, J>,
     loops: Vec<Rested<'_, J>>,
-    parts: Vec<BookPart<J>>,
-    console: BookPart<J>,
+    parts: Vec<HartParts<J>>,
+    console: BookPart<J, Entry>,
     heard: Heard<J>,
-    boot: BookPart<J>,
-) -> (D, Moments)
+    boot: BookPart<J, Entry>,
+) -> (D, Moments, (BusPart<J>, BusPart<J>))
     requires back { AreBack (parts_with whole) }
-    requires fresh { All (λ p. p.told ≡ []) parts.items }
+    requires fresh { All (λ p. p.receipts.told ≡ []) parts.items }
     requires harts { length (parts_with whole) + vec_len loops + vec_len parts ≡ J.size.harts }
     requires boot { boot.told ≡ boot_told J.issued }
     requires all { J.parts ≡ J.size.harts + 2 }
     ensures none_out { IsIdle (D.facts result.0) }
     ensures moments { result.1.at ≡ moments_with whole }
     ensures life { (life : IsOfLife J.size J.found J.issued J.memory J.failures J.earlier J.moment result.1.at console.told
-        heard.doubt (D.facts result.0)) × (life.journal ≡ journal_of (inside whole)) }
+        heard.doubt (D.facts result.0)) × (life.journal ≡ journal_of (inside whole))
+        × (life.doubt ≡ doubt_of (inside whole)) }
+    ensures saved { AreSaved (life_of (inside whole)) result.2.0 }
+    ensures woken { AreWakes heard.woken result.2.1 }
 {
     let mut whole = whole;
     gather_loops(&mut whole, loops);
     gather_parts(&mut whole, parts);
     gather_last(&mut whole, console, boot);
-    let (store, moments) = whole.close(heard);
-    (store.into_disk(), moments)
+    let (store, moments, runs) = whole.close(heard);
+    (store.into_disk(), moments, runs)
 }
 
 /// The disk of a store whose life ends as the boot left it, before any part of the receipts was handed out.
 pub(crate) fn disk_at_once<D: Disk + Drop>(store: Store<D>) -> (D, Moments)
     requires taken { are_taken (found_state store) (journal_of store) ≡ true }
     requires few { length (journal_of store) ≤ 2 }
-    requires carried { (begins : List ℕ) → IsCarried begins (life_of store) }
+    requires unsaved { IsCarriedBy (λ memory. ⊥) (life_of store) }
     requires up { doubt_of store ≡ None }
     ensures none_out { IsIdle (D.facts result.0) }
     ensures life { (begins : List ℕ)

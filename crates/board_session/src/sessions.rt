@@ -1,7 +1,7 @@
 //! A board from its power-on to the end of its threads.
 //! A law runs nothing, and tells the prover a fact: `kept_disks`.
 
-ghost use Rattle.std.specs.Prelude.{◌≡◌, ◌⊎◌, ◌≤◌, ◌+◌, ℕ, List, [], All, length, Some, None, true, false, Err, OnOk, IfOk, IfErr, MatchResult, vec_len, vec_capacity};
+ghost use Rattle.std.specs.Prelude.{◌≡◌, ◌⊎◌, ◌≤◌, ◌+◌, ℕ, List, [], All, length, Some, None, true, false, Err, OnOk, IfOk, IfErr, MatchResult, map, vec_len, vec_capacity};
 ghost use Rattle.std.specs.Option.{option_to_list};
 ghost use Rattle.board_model.specs.Durable.{formatted};
 ghost use Rattle.board_model.specs.Shapes.{Size};
@@ -9,9 +9,11 @@ ghost use Rattle.disk.specs.Facts.{Content};
 ghost use Rattle.board_model.specs.declared.durable.Entry.{Entry};
 ghost use Rattle.board_model.specs.declared.refusal.Refusal.TheVariants.{Memory};
 ghost use Rattle.tallies.specs.BookViews.{id_of, parts_of};
+ghost use Rattle.tallies.specs.Books.{fresh_from};
 ghost use Rattle.hart_threads.specs.Heard.{heard_nothing};
 ghost use Rattle.hart_threads.specs.Noted.{boot_told};
-ghost use Rattle.hart_threads.specs.Runs.{IsCarried};
+ghost use Rattle.hart_threads.specs.Bused.{begun_bus};
+ghost use Rattle.hart_threads.specs.Runs.{IsCarriedBy};
 ghost use Rattle.hart_threads.specs.Views.{parts_with};
 ghost use Rattle.store.specs.Formats.{WritesHead};
 ghost use Rattle.store.specs.Leaves.{IsIdle, IsKept, LeavesOnly};
@@ -26,20 +28,22 @@ ghost use Rattle.store.specs.Taken.{are_taken};
 ghost use Rattle.board_session.specs.Commands.{party};
 ghost use Rattle.board_session.specs.Dialogues.{Talks, dialogue_ends};
 ghost use Rattle.board_session.specs.Backs.{AreBack};
-ghost use Rattle.board_session.specs.Sessions.{TakesFormat, RunsOver, RefusesDisk, RefusesSession, Begins, IsOfLife, RanOver, TalksIf, outcome_of, harts_after, AreByLast, AreDriven, IsBooted};
+ghost use Rattle.board_session.specs.Histories.{HasHistory, harts_after};
+ghost use Rattle.board_session.specs.Sessions.{TakesFormat, RunsOver, RefusesDisk, RefusesSession, Begins, IsOfLife, RanOver, TalksIf, outcome_of, AreByLast, IsBooted};
 
 use crate::gate::{Open, harts_after};
 use crate::given::Options;
 use crate::heard::ConsoleHeard;
-use crate::life_end::{disk_at_once, disk_of, ends_of};
+use crate::life_end::{disk_at_once, disk_of, end_history, ends_of};
 use crate::talks::{Left, console};
 use board::{Board, BoardParts, Payloads};
-use board_model::{Refusal, Shape};
+use board_model::{Entry, Refusal, Shape};
 use disk::Disk;
 use hart::Hart;
 use hart_threads::{
-    AfterConsole, BookPart, BootedHarts, Closing, HartEnd, Heard, Journal, Locks, Moments, NewBook,
-    Parted, Rested, SharedBoard, SharedBus, SharedStore, Threaded, Undriven, Unshared, drive,
+    AfterConsole, BookPart, BootedHarts, BusTurn, Closing, HartEnd, HartParts, Heard, Journal,
+    Locks, Moments, NewBook, Parted, Rested, SharedBoard, SharedBus, SharedStore, Threaded,
+    Undriven, Unshared, drive,
 };
 use sbi_calls::{Seats, Tables};
 use std::alloc::{AllocError, Global};
@@ -95,12 +99,21 @@ struct Hardware {
     bus: Bus,
 }
 
-/// What the threads of a board need beside it: the book of its receipts, that of what is in doubt, the word that halts its harts,
-/// the lock in which the console says what they do once it has left, and room for how they end.
+/// The same, with the bus as its threads share it.
+#[derive(Drop)]
+struct SharedHardware<J: Journal> {
+    shape: Shape,
+    tables: Tables,
+    bus: SharedBus<J>,
+}
+
+/// What the threads of a board need beside it: the book of its receipts, that of what is in doubt, that of the history of its bus, the
+/// word that halts its harts, the lock in which the console says what they do once it has left, and room for how they end.
 #[derive(Drop)]
 struct Provisions {
-    book: NewBook,
-    doubts: NewBook,
+    book: NewBook<Entry>,
+    doubts: NewBook<Entry>,
+    runs: NewBook<BusTurn>,
     halt: Halt,
     lock: OnceLock<AfterConsole>,
     room: Vec<HartEnd>,
@@ -110,7 +123,7 @@ struct Provisions {
 #[derive(Drop)]
 struct ConsoleSide<J: Journal, I: Read + Drop, W: Write + Drop> {
     streams: Streams<I, W>,
-    part: BookPart<J>,
+    part: BookPart<J, Entry>,
     heard: Heard<J>,
 }
 
@@ -190,9 +203,9 @@ fn run_board<
     requires harts { vec_len on.harts ≡ J.size.harts }
     requires shape { hardware.shape ≡ J.size }
     requires store { (size_of_store store ≡ J.size) × (found_state store ≡ J.found) × (journal_of store ≡ J.issued) }
-    requires memory { hardware.bus.ram ≡ J.memory }
+    requires bus { hardware.bus ≡ begun_bus J.memory }
     requires machine { J.machine ≡ board_of hardware.shape J.memory on.doze on.harts.items on.seats }
-    requires carried { IsCarried J.memory (life_of store) }
+    requires unsaved { IsCarriedBy (λ memory. ⊥) (life_of store) }
     requires turns { on.turns ≡ J.turns }
     requires lock { provisions.lock.id ≡ J.parting }
     requires halt { provisions.halt ≡ J.halt }
@@ -201,6 +214,7 @@ fn run_board<
     requires book { (id_of provisions.book ≡ J.book) × (parts_of provisions.book ≡ J.parts)
         × (J.parts ≡ J.size.harts + 2) }
     requires doubts { (id_of provisions.doubts ≡ J.doubts) × (parts_of provisions.doubts ≡ 2) }
+    requires runs { (id_of provisions.runs ≡ J.runs) × (parts_of provisions.runs ≡ J.size.harts + 2) }
     requires room { (vec_len provisions.room ≡ 0) × (J.size.harts ≤ vec_capacity provisions.room) }
     requires up { doubt_of store ≡ None }
     requires opened { failures_at_open store ≡ J.failures }
@@ -213,27 +227,31 @@ fn run_board<
         × TalksIf J.found J.issued result.console_left
         (dialogue_ends (I.remaining streams.input) (W.contents streams.out) (party [] heard_nothing))
         (dialogue_ends (I.remaining result.streams.input) (W.contents result.streams.out) (party console result.heard))
-        × AreByLast life.journal result.harts.items }
+        × AreByLast life.journal result.harts.items
+        × HasHistory J.size J.machine J.turns J.found life.journal life.doubt result.heard.woken result.console_left
+        result.harts.items }
     ensures ran { result.ran ≡ outcome_of result.console_left }
-    ensures driven { AreDriven J.size.harts J.machine J.turns J.found result.console_left result.harts.items }
     ensures unheard { result.console_left ≡ None → (result.streams ≡ streams) × (result.heard ≡ heard_nothing) }
 {
     let Provisions {
         book,
         doubts,
+        runs,
         halt,
         lock,
         room,
     } = provisions;
-    let (mut whole, boot, heard) = Unshared::<D, J>::new(store, book, doubts);
+    let Hardware { shape, tables, bus } = hardware;
+    let mut bus = SharedBus::<J>::new(bus, runs);
+    let (mut whole, boot, heard) = Unshared::<D, J>::new(store, book, doubts, &mut bus);
     let part = whole.hand_out();
     let side = ConsoleSide {
         streams,
         part,
         heard,
     };
-    let Ok(parts) = whole.hand_out_all(alloc, on.harts.len()) else {
-        drop((hardware, on));
+    let Ok(parts) = whole.hand_out_all(alloc, on.harts.len(), &mut bus) else {
+        drop((shape, tables, on));
         return without_console(alloc, whole, Vec::new(alloc), Vec::new(alloc), side, boot);
     };
     let booted = BootedHarts {
@@ -244,9 +262,12 @@ fn run_board<
         turns: on.turns,
     };
     let closing = Closing::new(lock, halt);
-    let (whole, driven) = drive_beside_console(rt, alloc, &closing, hardware, whole, booted, side);
+    let shared = SharedHardware { shape, tables, bus };
+    let (whole, bus, driven) = drive_beside_console(
+        rt, alloc, &closing, shared, whole, booted, side,
+    );
     match driven {
-        Ok((loops, talked)) => after_console(rt, alloc, whole, loops, talked, boot, room),
+        Ok((loops, talked)) => after_console(rt, alloc, (whole, bus), loops, talked, boot, room),
         Err(back) => without_console(alloc, whole, back.loops, back.parts, back.side, boot),
     }
 }
@@ -258,7 +279,7 @@ type Driven<'c, J, I, W> = Result<
 >;
 
 /// Runs the harts on threads and the console beside them, with the bus and the store behind their locks, until all have ended.
-/// Then the store is shared no longer.
+/// Then they are shared no longer.
 fn drive_beside_console<
     'c,
     D: Disk + Drop + Send,
@@ -270,31 +291,31 @@ fn drive_beside_console<
     rt: &R,
     alloc: Global,
     closing: &'c Closing<J>,
-    hardware: Hardware,
+    hardware: SharedHardware<J>,
     whole: Unshared<D, J>,
     booted: BootedHarts<J>,
     side: ConsoleSide<J, I, W>,
-) -> (Unshared<D, J>, Driven<'c, J, I, W>)
+) -> (Unshared<D, J>, SharedBus<J>, Driven<'c, J, I, W>)
     requires none { length (parts_with whole) ≡ 0 }
     requires shape { hardware.shape ≡ J.size }
-    requires memory { hardware.bus.ram ≡ J.memory }
     requires turns { booted.turns ≡ J.turns }
     requires parts { vec_len booted.parts ≡ vec_len booted.harts }
-    requires fresh { All (λ p. p.told ≡ []) booted.parts.items }
+    requires runs { map (λ p. p.run) booted.parts.items ≡ fresh_from 2 (vec_len booted.parts) }
+    requires fresh { All (λ p. p.receipts.told ≡ []) booted.parts.items }
     requires held { IsHeld hardware.shape booted.harts.items hardware.tables (Some booted.seats) booted.doze }
     requires machine { J.machine ≡ board_of hardware.shape J.memory booted.doze booted.harts.items booted.seats }
     ensures none { length (parts_with result.0) ≡ 0 }
-    ensures said { IfOk result.1 (λ r. Talks J.found J.issued r.1.left
+    ensures said { IfOk result.2 (λ r. Talks J.found J.issued r.1.left
         (dialogue_ends (I.remaining side.streams.input) (W.contents side.streams.out) (party side.part.told side.heard))
         (dialogue_ends (I.remaining r.1.side.streams.input) (W.contents r.1.side.streams.out)
         (party r.1.side.part.told r.1.side.heard))) }
-    ensures loops { IfOk result.1 (λ r. vec_len r.0 ≡ vec_len booted.harts) }
-    ensures side { IfErr result.1 (λ e. e.side ≡ side) }
-    ensures back { IfErr result.1 (λ e. vec_len e.loops + vec_len e.parts ≡ vec_len booted.harts) }
-    ensures fresh { IfErr result.1 (λ e. All (λ p. p.told ≡ []) e.parts.items) }
+    ensures loops { IfOk result.2 (λ r. vec_len r.0 ≡ vec_len booted.harts) }
+    ensures side { IfErr result.2 (λ e. e.side ≡ side) }
+    ensures back { IfErr result.2 (λ e. vec_len e.loops + vec_len e.parts ≡ vec_len booted.harts) }
+    ensures fresh { IfErr result.2 (λ e. All (λ p. p.receipts.told ≡ []) e.parts.items) }
 {
-    let Hardware { shape, tables, bus } = hardware;
-    let bus_lock: Mutex<SharedBus<J>> = Mutex::new(SharedBus::new(bus));
+    let SharedHardware { shape, tables, bus } = hardware;
+    let bus_lock: Mutex<SharedBus<J>> = Mutex::new(bus);
     let store_lock: Mutex<SharedStore<D, J>> = Mutex::new(whole.share());
     let (bus, store) = (&bus_lock, &store_lock);
     let crew = crew::Threads::new(rt);
@@ -320,46 +341,55 @@ fn drive_beside_console<
                 (party result.side.part.told result.side.heard)) }
         { attend(rt, bus, store, closing, side) },
     );
-    (store_lock.into_inner().unshare(), driven)
+    (
+        store_lock.into_inner().unshare(),
+        bus_lock.into_inner(),
+        driven,
+    )
 }
 
-/// What a session gives back whose console has left, once the loops of all harts have ended. `room` is for how they ended.
+/// What a session gives back whose console has left, once the loops of all harts have ended. `room` is for how they ended. The history of
+/// the bus ends with it.
 fn after_console<'c, R: Wait, D: Disk + Drop, J: Threaded, I: Read + Drop, W: Write + Drop>(
     rt: &R,
     alloc: Global,
-    whole: Unshared<D, J>,
+    shared: (Unshared<D, J>, SharedBus<J>),
     loops: Vec<Rested<'c, J>>,
     talked: Talked<'c, J, I, W>,
-    boot: BookPart<J>,
+    boot: BookPart<J, Entry>,
     room: Vec<HartEnd>,
 ) -> SessionEnd<D, I, W>
-    requires none { length (parts_with whole) ≡ 0 }
+    requires none { length (parts_with shared.0) ≡ 0 }
     requires harts { vec_len loops ≡ J.size.harts }
     requires boot { boot.told ≡ boot_told J.issued }
     requires all { J.parts ≡ J.size.harts + 2 }
     requires ungated { J.gated ≡ false }
+    requires machine { J.machine.memory ≡ J.memory }
     requires empty { vec_len room ≡ 0 }
     requires room { vec_len loops ≤ vec_capacity room }
     ensures none_out { IsIdle (D.facts result.disk) }
     ensures life { (life : IsOfLife J.size J.found J.issued J.memory J.failures J.earlier J.moment result.moments.at
         talked.entry.side.part.told talked.entry.side.heard.doubt (D.facts result.disk))
-        × AreByLast life.journal result.harts.items }
+        × AreByLast life.journal result.harts.items
+        × HasHistory J.size J.machine J.turns J.found life.journal life.doubt talked.entry.side.heard.woken
+        (Some talked.entry.left) result.harts.items }
     ensures streams { result.streams ≡ talked.entry.side.streams }
     ensures heard { result.heard ≡ talked.entry.side.heard }
     ensures console_left { result.console_left ≡ Some talked.entry.left }
     ensures ran { result.ran ≡ outcome_of (Some talked.entry.left) }
-    ensures driven { AreDriven J.size.harts J.machine J.turns J.found (Some talked.entry.left) result.harts.items }
 {
+    let (mut whole, mut bus) = shared;
     let Talked { side, left, parted } = talked;
     let last = whole.last();
-    let harts = ends_of(rt, &loops, &parted, room, &last);
+    let harts = ends_of(rt, &mut whole, &mut bus, loops, &parted, room, &last);
     let ConsoleSide {
         streams,
         part,
         heard,
     } = side;
     let told = ConsoleHeard::of(&heard);
-    let (disk, moments) = disk_of(whole, loops, Vec::new(alloc), part, heard, boot);
+    let (disk, moments, runs) = disk_of(whole, Vec::new(alloc), Vec::new(alloc), part, heard, boot);
+    end_history(bus, runs);
     SessionEnd {
         disk,
         ran: outcome(left),
@@ -376,12 +406,12 @@ fn without_console<D: Disk + Drop, J: Threaded, I: Read + Drop, W: Write + Drop>
     alloc: Global,
     whole: Unshared<D, J>,
     loops: Vec<Rested<'_, J>>,
-    parts: Vec<BookPart<J>>,
+    parts: Vec<HartParts<J>>,
     side: ConsoleSide<J, I, W>,
-    boot: BookPart<J>,
+    boot: BookPart<J, Entry>,
 ) -> SessionEnd<D, I, W>
     requires back { AreBack (parts_with whole) }
-    requires fresh { All (λ p. p.told ≡ []) parts.items }
+    requires fresh { All (λ p. p.receipts.told ≡ []) parts.items }
     requires harts { length (parts_with whole) + vec_len loops + vec_len parts ≡ J.size.harts }
     requires boot { boot.told ≡ boot_told J.issued }
     requires all { J.parts ≡ J.size.harts + 2 }
@@ -400,7 +430,7 @@ fn without_console<D: Disk + Drop, J: Threaded, I: Read + Drop, W: Write + Drop>
         part,
         heard,
     } = side;
-    let (disk, moments) = disk_of(whole, loops, parts, part, heard, boot);
+    let (disk, moments, _) = disk_of(whole, loops, parts, part, heard, boot);
     unbegun(alloc, disk, moments, Refusal::Memory, streams)
 }
 
@@ -474,7 +504,7 @@ fn powered<D: Disk + Drop>(
         ≡ commands_by options.now.mode (found_state (store_of b))) }
     ensures taken { IfOk result (λ b. (are_taken (found_state (store_of b)) (journal_of (store_of b)) ≡ true)
         × (length (journal_of (store_of b)) ≤ 2)) }
-    ensures carried { IfOk result (λ b. (begins : List ℕ) → IsCarried begins (life_of (store_of b))) }
+    ensures unsaved { IfOk result (λ b. IsCarriedBy (λ memory. ⊥) (life_of (store_of b))) }
     ensures up { IfOk result (λ b. doubt_of (store_of b) ≡ None) }
     ensures opened { IfOk result (λ b. failures_at_open (store_of b) ≡ (D.facts disk).failures) }
     ensures moments { IfOk result (λ b. IsBooted options.now.new (D.facts disk) (size_of_store (store_of b))
@@ -496,18 +526,21 @@ fn powered<D: Disk + Drop>(
 }
 
 /// What the threads of a board of that shape need: the book of its receipts with a part for each hart, one for the console and
-/// one for the boot; the book of what is in doubt with one for the console and one for the harts; and room for each hart's end.
+/// one for the boot; the book of what is in doubt with one for the console and one for the harts; that of the history of the bus with one
+/// for each hart, one for the console and one for the store; and room for each hart's end.
 fn provide(alloc: Global, shape: &Shape) -> Result<Provisions, AllocError>
     ensures { IfOk result (λ p. (parts_of p.book ≡ shape.now.harts + 2) × (parts_of p.doubts ≡ 2)
-        × (vec_len p.room ≡ 0) × (shape.now.harts ≤ vec_capacity p.room)) }
+        × (parts_of p.runs ≡ shape.now.harts + 2) × (vec_len p.room ≡ 0) × (shape.now.harts ≤ vec_capacity p.room)) }
 {
     let book = NewBook::new(alloc, shape.harts() + 2)?;
     let doubts = NewBook::new(alloc, 2)?;
+    let runs = NewBook::new(alloc, shape.harts() + 2)?;
     let halt = Halt::new(alloc)?;
     let room = Vec::with_capacity(alloc, shape.harts() as usize)?;
     Ok(Provisions {
         book,
         doubts,
+        runs,
         halt,
         lock: OnceLock::new(),
         room,

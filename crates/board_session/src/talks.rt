@@ -14,7 +14,7 @@ use crate::lines::{LineEnd, next_line};
 use crate::reply::Reply;
 use crate::words::{Said, line_said};
 use arrayvec::ArrayVec;
-use board_model::Refusal;
+use board_model::{Entry, Refusal};
 use disk::Disk;
 use hart_threads::{BookPart, Heard, Journal, Locks};
 use std::io::{Read, Write};
@@ -102,7 +102,7 @@ fn take_line<I: Read, D: Disk + Drop, J: Journal>(
 /// receipt of that command in its hand, which a shared store makes once the command is durable.
 fn write_answer<W: Write, D: Disk + Drop, J: Journal>(
     locks: &Locks<'_, D, J>,
-    part: &BookPart<J>,
+    part: &BookPart<J, Entry>,
     out: &mut W,
     answer: Reply,
 ) -> Result<(), Refusal>
@@ -121,10 +121,10 @@ fn write_answer<W: Write, D: Disk + Drop, J: Journal>(
 fn answer_to<R: Wait, D: Disk + Drop, J: Journal>(
     rt: &R,
     locks: &mut Locks<'_, D, J>,
-    part: BookPart<J>,
+    part: BookPart<J, Entry>,
     heard: &mut Heard<J>,
     said: Said,
-) -> (BookPart<J>, Reply)
+) -> (BookPart<J, Entry>, Reply)
     requires free { locks.old ≡ no_locks }
     ensures free { locks.new ≡ no_locks }
     ensures fits { IsAnswerTo J.found J.issued said result.1 (party part.told heard.old) (party result.0.told heard.new) }
@@ -154,11 +154,11 @@ fn answer_to<R: Wait, D: Disk + Drop, J: Journal>(
 pub fn console<R: Wait, D: Disk + Drop, J: Journal, I: Read, W: Write>(
     rt: &R,
     locks: &mut Locks<'_, D, J>,
-    part: BookPart<J>,
+    part: BookPart<J, Entry>,
     heard: &mut Heard<J>,
     input: &mut I,
     out: &mut W,
-) -> (BookPart<J>, Left)
+) -> (BookPart<J, Entry>, Left)
     requires free { locks.old ≡ no_locks }
     ensures free { locks.new ≡ no_locks }
     ensures talks { Talks J.found J.issued result.1

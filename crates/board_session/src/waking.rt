@@ -8,7 +8,7 @@ ghost use Rattle.board_session.specs.Wakes.{Wakes, MayWake};
 
 use board_model::Refusal;
 use hart_threads::{Heard, Journal, SharedBus};
-use std::marker::Model;
+use std::marker::{Brand, Model};
 
 /// What a call of the wake-up device came to. Nothing but a call makes one, so the console answers `wake` only after one.
 #[derive(PartialEq, Eq, Drop)]
@@ -32,7 +32,7 @@ impl Waking {
         ensures may { MayWake result }
         ensures heard { heard.new ≡ after_waking result heard.old }
     {
-        let answered = bus.wake(heard);
+        let answered = bus.wake::<Brand>(heard);
         Waking { answered }
     }
 

@@ -1,4 +1,4 @@
--- The suspensions of a life carry memory that steps of harts made: a command keeps that.
+-- What holds of the memory that suspensions of a life carry: a command keeps that.
 use Rattle.std.proofs.Common.{◌≡◌, ⊎_elim, ℕ, zero, suc, Bool, List, [], ◌∷◌, ◌++◌, Option, Some, None, Result, Ok, Err, refl, sym, ap, subst, inl, inr}
 use Rattle.board_model.specs.Durable.{DurableState, Change, Reset, Suspend}
 use Rattle.board_model.specs.Views.{change_of}
@@ -30,7 +30,7 @@ use Rattle.sbi.specs.declared.resets.ResetType.{ResetType}
 use Rattle.sbi.specs.Resets.{reset_of}
 use Rattle.sbi.specs.Helds.{MakesReset, MakesHeld}
 use Rattle.std.proofs.Math.Logic.{∥∥₁_map}
-use Rattle.hart_threads.specs.Runs.{IsStep, StepsInRow, StepsMake, CarriesSteps, AllCarrySteps, IsCarried}
+use Rattle.hart_threads.specs.Runs.{IsStep, StepsInRow, StepsMake, Carries, AllCarry, IsCarriedBy}
 
 -- ---- steps
 pub none_yet : (m n : List ℕ) → n ≡ m → StepsMake m n
@@ -42,96 +42,96 @@ state_determines_step begun m n pending s t outcome made steps =
     ∥∥₁_map made (λ (row : (k : ℕ) × StepsInRow k begun m). let longer : (k : ℕ) × StepsInRow k begun n = (suc row.0, (m, row.1, last)) in longer)
 
 -- ---- commands
-command_carries : (begun : List ℕ) (command : Command) → CarriesSteps begun (change_of command)
-command_carries begun (commands.Slot n) = λ hart address opaque memory e. let no : ⊥ = cc in absurd no
-command_carries begun (commands.Reset r) = λ hart address opaque memory e. let no : ⊥ = cc in absurd no
-command_carries begun commands.Consume = λ hart address opaque memory e. let no : ⊥ = cc in absurd no
-command_carries begun commands.Discard = λ hart address opaque memory e. let no : ⊥ = cc in absurd no
-command_carries begun (commands.Tries n boots) = λ hart address opaque memory e. let no : ⊥ = cc in absurd no
-command_carries begun commands.Good = λ hart address opaque memory e. let no : ⊥ = cc in absurd no
-command_carries begun commands.Attempt = λ hart address opaque memory e. let no : ⊥ = cc in absurd no
+command_carries : (P : List ℕ → Type 0) (command : Command) → Carries P (change_of command)
+command_carries P (commands.Slot n) = λ hart address opaque memory e. let no : ⊥ = cc in absurd no
+command_carries P (commands.Reset r) = λ hart address opaque memory e. let no : ⊥ = cc in absurd no
+command_carries P commands.Consume = λ hart address opaque memory e. let no : ⊥ = cc in absurd no
+command_carries P commands.Discard = λ hart address opaque memory e. let no : ⊥ = cc in absurd no
+command_carries P (commands.Tries n boots) = λ hart address opaque memory e. let no : ⊥ = cc in absurd no
+command_carries P commands.Good = λ hart address opaque memory e. let no : ⊥ = cc in absurd no
+command_carries P commands.Attempt = λ hart address opaque memory e. let no : ⊥ = cc in absurd no
 
-reset_carries : (begun : List ℕ) (cause : Reason) → CarriesSteps begun (Reset cause)
-reset_carries begun cause = command_carries begun (commands.Reset cause)
+reset_carries : (P : List ℕ → Type 0) (cause : Reason) → Carries P (Reset cause)
+reset_carries P cause = command_carries P (commands.Reset cause)
 
 memory_of : Change → List ℕ → List ℕ
 memory_of (Suspend hart address opaque memory) other = memory
 memory_of c other = other
 
-sleep_carries : (begun : List ℕ) (hart address opaque : ℕ) (memory : List ℕ) → StepsMake begun memory → CarriesSteps begun (Suspend hart address opaque memory)
+sleep_carries : (P : List ℕ → Type 0) (hart address opaque : ℕ) (memory : List ℕ) → P memory → Carries P (Suspend hart address opaque memory)
 unfolding memory_of
-sleep_carries begun hart address opaque memory made = λ h a o m e. subst (λ (x : List ℕ). StepsMake begun x) (ap (λ (c : Change). memory_of c []) e) made
+sleep_carries P hart address opaque memory made = λ h a o m e. subst (λ (x : List ℕ). P x) (ap (λ (c : Change). memory_of c []) e) made
 
 some_or : Change → Option Change → Change
 some_or c None = c
 some_or c (Some d) = d
 
-pub none_carry : (begun : List ℕ) → AllCarrySteps begun []
-none_carry begun = λ k c e. let no : ⊥ = cc in absurd no
+pub none_carry : (P : List ℕ → Type 0) → AllCarry P []
+none_carry P = λ k c e. let no : ⊥ = cc in absurd no
 
-pub more_carry : (begun : List ℕ) (c : Change) (cs : List Change) → CarriesSteps begun c → AllCarrySteps begun cs → AllCarrySteps begun (c ∷ cs)
+pub more_carry : (P : List ℕ → Type 0) (c : Change) (cs : List Change) → Carries P c → AllCarry P cs → AllCarry P (c ∷ cs)
 unfolding some_or
-more_carry begun c cs one all zero d e = subst (λ (x : Change). CarriesSteps begun x) (ap (λ (o : Option Change). some_or c o) e) one
-more_carry begun c cs one all (suc k) d e = all k d e
+more_carry P c cs one all zero d e = subst (λ (x : Change). Carries P x) (ap (λ (o : Option Change). some_or c o) e) one
+more_carry P c cs one all (suc k) d e = all k d e
 
-pub change_carries : (begun : List ℕ) (command : Command) (c : Change) → c ≡ change_of command → CarriesSteps begun c
-change_carries begun command c is = subst (λ (x : Change). CarriesSteps begun x) (sym is) (command_carries begun command)
+pub change_carries : (P : List ℕ → Type 0) (command : Command) (c : Change) → c ≡ change_of command → Carries P c
+change_carries P command c is = subst (λ (x : Change). Carries P x) (sym is) (command_carries P command)
 
-each_more : (begun : List ℕ) (cs : List Change) (c : Change) → AllCarrySteps begun cs → CarriesSteps begun c → AllCarrySteps begun (cs ++ c ∷ [])
-each_more begun [] c all one = more_carry begun c [] one (none_carry begun)
-each_more begun (d ∷ cs) c all one = more_carry begun d (cs ++ c ∷ []) (all 0 d refl) (each_more begun cs c (λ k x e. all (suc k) x e) one)
+each_more : (P : List ℕ → Type 0) (cs : List Change) (c : Change) → AllCarry P cs → Carries P c → AllCarry P (cs ++ c ∷ [])
+each_more P [] c all one = more_carry P c [] one (none_carry P)
+each_more P (d ∷ cs) c all one = more_carry P d (cs ++ c ∷ []) (all 0 d refl) (each_more P cs c (λ k x e. all (suc k) x e) one)
 
 -- ---- lives
-module _ (begun : List ℕ) where
+module _ (P : List ℕ → Type 0) where
   in_doubt : (c d : Change) → Some c ≡ Some d → c ≡ d
   unfolding some_or
   in_doubt c d e = ap (λ (o : Option Change). some_or c o) e
 
-  same_carried : (old new : Life) → IsCarried begun old → new ≡ old → IsCarried begun new
-  same_carried old new is same = subst (λ (x : Life). IsCarried begun x) (sym same) is
+  same_carried : (old new : Life) → IsCarriedBy P old → new ≡ old → IsCarriedBy P new
+  same_carried old new is same = subst (λ (x : Life). IsCarriedBy P x) (sym same) is
 
-  refused_carried : (old new : Life) (c : Change) (e : Refusal) → IsCarried begun old → CarriesSteps begun c → Refused old c e new → IsCarried begun new
+  refused_carried : (old new : Life) (c : Change) (e : Refusal) → IsCarriedBy P old → Carries P c → Refused old c e new → IsCarriedBy P new
   refused_carried old new c e is one (inl p) = same_carried old new is p.2
-  refused_carried old new c e is one (inr (inl p)) = subst (λ (x : Life). IsCarried begun x) (sym p.2) (record { journal = is.journal; doubt = λ d e. subst (λ (x : Change). CarriesSteps begun x) (in_doubt c d e) one })
+  refused_carried old new c e is one (inr (inl p)) = subst (λ (x : Life). IsCarriedBy P x) (sym p.2) (record { journal = is.journal; doubt = λ d e. subst (λ (x : Change). Carries P x) (in_doubt c d e) one })
   refused_carried old new c e is one (inr (inr (inl p))) = same_carried old new is p.2
   refused_carried old new c e is one (inr (inr (inr (inl p)))) = same_carried old new is p.3
   refused_carried old new c e is one (inr (inr (inr (inr p)))) = same_carried old new is p.3
 
-  applied_carried : (old new : Life) (c : Change) (r : Result ℕ Refusal) → IsCarried begun old → CarriesSteps begun c → Applied old c r new → IsCarried begun new
+  applied_carried : (old new : Life) (c : Change) (r : Result ℕ Refusal) → IsCarriedBy P old → Carries P c → Applied old c r new → IsCarriedBy P new
   applied_carried old new c (Ok n) is one told =
-      subst (λ (x : Life). IsCarried begun x) (sym told.2) (record { journal = each_more begun old.journal c is.journal one; doubt = is.doubt })
+      subst (λ (x : Life). IsCarriedBy P x) (sym told.2) (record { journal = each_more P old.journal c is.journal one; doubt = is.doubt })
   applied_carried old new c (Err e) is one told = refused_carried old new c e is one told
 
-  suspend_carried : (Fits : Type 0) (old new : Life) (c : Change) (e : Refusal) → IsCarried begun old → CarriesSteps begun c → SuspendRefused Fits old c e new → IsCarried begun new
+  suspend_carried : (Fits : Type 0) (old new : Life) (c : Change) (e : Refusal) → IsCarriedBy P old → Carries P c → SuspendRefused Fits old c e new → IsCarriedBy P new
   suspend_carried Fits old new c e is one (inl p) = refused_carried old new c e is one p.1
   suspend_carried Fits old new c e is one (inr (inl p)) = same_carried old new is p.4
   suspend_carried Fits old new c e is one (inr (inr (inl p))) = same_carried old new is p.3
   suspend_carried Fits old new c e is one (inr (inr (inr (inl p)))) = same_carried old new is p.2
   suspend_carried Fits old new c e is one (inr (inr (inr (inr p)))) = same_carried old new is p.3
 
-  mid_carried : (old : Life) (found : DurableState) → IsCarried begun old → IsCarried begun (record old { found = found })
+  mid_carried : (old : Life) (found : DurableState) → IsCarriedBy P old → IsCarriedBy P (record old { found = found })
   mid_carried old found is = record { journal = is.journal; doubt = is.doubt }
 
-  suspended_carried : (Fits : Type 0) (old new : Life) (c : Change) (r : Result ℕ Refusal) → IsCarried begun old → CarriesSteps begun c → Suspended Fits old c r new → IsCarried begun new
+  suspended_carried : (Fits : Type 0) (old new : Life) (c : Change) (r : Result ℕ Refusal) → IsCarriedBy P old → Carries P c → Suspended Fits old c r new → IsCarriedBy P new
   suspended_carried Fits old new c (Ok n) is one did = applied_carried (record old { found = new.found }) new c (Ok n) (mid_carried old new.found is) one did.told.1
   suspended_carried Fits old new c (Err e) is one did = suspend_carried Fits (record old { found = new.found }) new c e (mid_carried old new.found is) one did.told
 
   -- ---- stores
   module _ {D L : Type 0} {g : Ghosts D L} {l : Lanes L} where
     abbrev Carried : Store D L g l → Type 0
-    Carried s = IsCarried begun (life_of s)
+    Carried s = IsCarriedBy P (life_of s)
 
     store_same : (old new : Store D L g l) → Carried old → new ≡ old → Carried new
     store_same old new is same = subst (λ (s : Store D L g l). Carried s) (sym same) is
 
-    asked_change : (old new : Store D L g l) (c : Change) (r : Result ℕ Refusal) (x : Option Change) → doubt_of old ≡ x → Carried old → CarriesSteps begun c → Asked Applied old c r new → Carried new
+    asked_change : (old new : Store D L g l) (c : Change) (r : Result ℕ Refusal) (x : Option Change) → doubt_of old ≡ x → Carried old → Carries P c → Asked Applied old c r new → Carried new
     asked_change old new c r None e is one asked = applied_carried (life_of old) (life_of new) c r is one (asked.answered e).life
     asked_change old new c r (Some d) e is one asked = store_same old new is (asked.down d e).1
 
     pub asked_carried : (old new : Store D L g l) (command : Command) (r : Result ℕ Refusal) → Carried old → Asked Applied old (change_of command) r new → Carried new
-    asked_carried old new command r is asked = asked_change old new (change_of command) r (doubt_of old) refl is (command_carries begun command) asked
+    asked_carried old new command r is asked = asked_change old new (change_of command) r (doubt_of old) refl is (command_carries P command) asked
 
-    slept_carried : (old new : Store D L g l) (Fits : Type 0) (c : Change) (r : Result ℕ Refusal) (x : Option Change) → doubt_of old ≡ x → Carried old → CarriesSteps begun c → Asked (Suspended Fits) old c r new → Carried new
+    slept_carried : (old new : Store D L g l) (Fits : Type 0) (c : Change) (r : Result ℕ Refusal) (x : Option Change) → doubt_of old ≡ x → Carried old → Carries P c → Asked (Suspended Fits) old c r new → Carried new
     slept_carried old new Fits c r None e is one asked = suspended_carried Fits (life_of old) (life_of new) c r is one (asked.answered e).life
     slept_carried old new Fits c r (Some d) e is one asked = store_same old new is (asked.down d e).1
 
@@ -146,19 +146,19 @@ module _ (begun : List ℕ) where
     reset_keeps : (asked : Result (ResetType × Reason) SbiError) (s t : ArchState) (bus bus' : Bus) (old new : Store D L g l) (word : Word) → Carried old → MakesReset asked s t old new word → bus' ≡ bus → Keeps bus bus' new
     reset_keeps (Err e) s t bus bus' old new word is p stays = kept_both bus bus' old new is p.1 stays
     reset_keeps (Ok reset) s t bus bus' old new word is p stays =
-        record { carried = asked_change old new (Reset reset.1) p.0 (doubt_of old) refl is (reset_carries begun reset.1) p.1; memory = ap (λ (b : Bus). b.ram) stays }
+        record { carried = asked_change old new (Reset reset.1) p.0 (doubt_of old) refl is (reset_carries P reset.1) p.1; memory = ap (λ (b : Bus). b.ram) stays }
 
-    fallen_keeps : (sleep : Sleep) (by site opaque : ℕ) (vs vs' : List HartView) (bus bus' : Bus) (fell : Result Sleep SbiError) (old new : Store D L g l) → Carried old → StepsMake begun bus.ram → FallsAsleep sleep by site opaque vs bus old fell vs' bus' new → Keeps bus bus' new
+    fallen_keeps : (sleep : Sleep) (by site opaque : ℕ) (vs vs' : List HartView) (bus bus' : Bus) (fell : Result Sleep SbiError) (old new : Store D L g l) → Carried old → P bus.ram → FallsAsleep sleep by site opaque vs bus old fell vs' bus' new → Keeps bus bus' new
     fallen_keeps ToRam by site opaque vs vs' bus bus' fell old new is made p = record { carried = store_same old new is p.0.2; memory = ap (λ (b : Bus). b.ram) p.0.1 }
     fallen_keeps ToDisk by site opaque vs vs' bus bus' fell old new is made p =
-        record { carried = slept_carried old new (FitsBoard (size_of_store old) bus.ram by site) (Suspend by site opaque bus.ram) p.0 (doubt_of old) refl is (sleep_carries begun by site opaque bus.ram made) p.1; memory = ap (λ (b : Bus). b.ram) p.3 }
+        record { carried = slept_carried old new (FitsBoard (size_of_store old) bus.ram by site) (Suspend by site opaque bus.ram) p.0 (doubt_of old) refl is (sleep_carries P by site opaque bus.ram made) p.1; memory = ap (λ (b : Bus). b.ram) p.3 }
 
-    slept_keeps : (harts by : ℕ) (asked : Result (Sleep × ℕ) SbiError) (opaque : ℕ) (vs vs' : List HartView) (bus bus' : Bus) (fell : Result Sleep SbiError) (old new : Store D L g l) → Carried old → StepsMake begun bus.ram → SleepsAt harts by asked opaque vs bus old fell vs' bus' new → Keeps bus bus' new
+    slept_keeps : (harts by : ℕ) (asked : Result (Sleep × ℕ) SbiError) (opaque : ℕ) (vs vs' : List HartView) (bus bus' : Bus) (fell : Result Sleep SbiError) (old new : Store D L g l) → Carried old → P bus.ram → SleepsAt harts by asked opaque vs bus old fell vs' bus' new → Keeps bus bus' new
     slept_keeps harts by (Err e) opaque vs vs' bus bus' fell old new is made p = kept_both bus bus' old new is p.3 p.2
     slept_keeps harts by (Ok asked) opaque vs vs' bus bus' fell old new is made p =
         ⊎_elim (λ denied. kept_both bus bus' old new is denied.4 denied.3) (λ fallen. fallen_keeps asked.0 by asked.1 opaque p.1 vs' bus bus' fell old new is made fallen.1) p.3
 
-    pub held_keeps : (harts : ℕ) (call : Call) (s t : ArchState) (k k' : Known) (bus bus' : Bus) (old new : Store D L g l) (word : Word) → Carried old → StepsMake begun bus.ram → MakesHeld harts call s t k k' bus bus' old new word → Keeps bus bus' new
+    pub held_keeps : (harts : ℕ) (call : Call) (s t : ArchState) (k k' : Known) (bus bus' : Bus) (old new : Store D L g l) (word : Word) → Carried old → P bus.ram → MakesHeld harts call s t k k' bus bus' old new word → Keeps bus bus' new
     held_keeps harts (calls.SystemReset kind cause) s t k k' bus bus' old new word is made p = reset_keeps (reset_of kind cause) s t bus bus' old new word is p.0 p.2
     held_keeps harts (calls.SystemSuspend kind address opaque) s t k k' bus bus' old new word is made p =
         slept_keeps harts s.id p.1.asked opaque k.harts k'.harts bus bus' p.0 old new is made p.1.slept

@@ -19,8 +19,8 @@ use Rattle.sbi_calls.specs.declared.words.Turned.TheVariants.{Made, Durable}
 use Rattle.hart_threads.specs.Called.{AsksFor, IsToldBy}
 use Rattle.hart_threads.specs.Noted.{part_after}
 use Rattle.susp.specs.declared.buses.Doze.{Doze}
-use Rattle.hart_threads.specs.Looks.{Looked}
-use Rattle.hart_threads.specs.Threads.{Seated, ComesOnce, TurnOnceBy, TurnOnce, LoopOnce, is_end, ends_life}
+use Rattle.hart_threads.specs.Dozes.{is_woken}
+use Rattle.hart_threads.specs.Threads.{Seated, ComesOnce, DozeOnce, TurnOnceBy, TurnOnce, LoopOnce, is_end, ends_life}
 use Rattle.hart_threads.specs.declared.loops.Why.{Why}
 use Rattle.hart_threads.specs.declared.loops.Why.TheVariants as whys
 
@@ -71,9 +71,6 @@ once_more n m k e f = omega (arith, e, f)
 pub asked_before : (n m k : ℕ) → k ≡ m + 1 → m ≡ n → n ≤ k
 asked_before n m k e f = omega (arith, e, f)
 
-pub few_still : (looks made turns : ℕ) → looks ≤ made → made < turns → turns < 18446744073709551616 → looks < 18446744073709551615
-few_still looks made turns few within range = omega (arith, few, within, range)
-
 pub few_asked : (asked made turns : ℕ) → asked ≡ made → made < turns → turns < 18446744073709551616 → asked < 18446744073709551615
 few_asked asked made turns few within range = omega (arith, few, within, range)
 
@@ -84,8 +81,8 @@ as_it_was {L} {l} {l'} e P p = subst P (sym e) p
 pub as_both_were : {L W : Type 0} {l l' : L} {w w' : W} → l' ≡ l → w' ≡ w → (P : L → W → Type 0) → P l w → P l' w'
 as_both_were {L} {W} {l} {l'} {w} {w'} e f P p = subst (λ (x : L). P x w') (sym e) (subst (λ (y : W). P l y) (sym f) p)
 
-pub seated_as : {L : Type 0} {l l' : L} {s s' : ArchState} {k k' : Looked} → s' ≡ s → l' ≡ l → k' ≡ k → (view : ArchState → L → Looked → Seated) → view s' l' k' ≡ view s l k
-seated_as {L} {l} {l'} {s} {s'} {k} {k'} e f g view = ap (λ (x : ArchState). view x l' k') e ∙ (ap (λ (y : L). view s y k') f ∙ ap (λ (z : Looked). view s l z) g)
+pub seated_as : {L : Type 0} {l l' : L} {s s' : ArchState} → s' ≡ s → l' ≡ l → (view : ArchState → L → Seated) → view s' l' ≡ view s l
+seated_as {L} {l} {l'} {s} {s'} e f view = ap (λ (x : ArchState). view x l') e ∙ ap (λ (y : L). view s y) f
 
 pub said_so : (size : Size) (begun : List ℕ) (answers : ℕ → Bool → Type 0) (hears : ℕ → Type 0) (turns made made' : ℕ) (a b b' : Seated) (why why' : Why) (told told' : Option (ℕ × Entry)) → b' ≡ b → made' ≡ made → why' ≡ why → told' ≡ told
     → LoopOnce size begun answers hears turns made a b why told → LoopOnce size begun answers hears turns made' a b' why' told'
@@ -114,21 +111,25 @@ comes_told : (size : Size) (turned : Turned) (a b : Seated) (word : Word) (told 
 comes_told size (Made did) a b word told p off = goes_not word (ap life_goes_on p.1) off
 comes_told size Durable a b word told p off = held_told size (call_of a.hart) a.hart.id word told p.1 off
 
+-- a look goes on
+look_goes : (woken : Bool) (d : Doze) (a b : Seated) (word : Word) → DozeOnce woken d a b word → life_goes_on word ≡ true
+look_goes false d a b word p = ap life_goes_on p.1
+look_goes true d a b word p = ap life_goes_on p.3
+
 told_by : (doze : Option Doze) (size : Size) (begun : List ℕ) (a b : Seated) (word : Word) (told : Option (ℕ × Entry)) → TurnOnceBy doze size begun a b word told → life_goes_on word ≡ false → HasEnd told
 told_by None size begun a b word told p off = comes_told size p.2 p.3 b word told p.5 off
-told_by (Some d) size begun a b word told (false, q, none) off = goes_not word (ap life_goes_on q.1) off
-told_by (Some d) size begun a b word told (true, q, none) off = goes_not word (ap life_goes_on q.4) off
+told_by (Some d) size begun a b word told p off = goes_not word (look_goes (is_woken a.hart.id p.0.0.doze) d a b word p.0.4) off
 
 pub turn_told : (size : Size) (begun : List ℕ) (a b : Seated) (word : Word) (told : Option (ℕ × Entry)) → TurnOnce size begun a b word told → life_goes_on word ≡ false → HasEnd told
 turn_told size begun a b word told p off = told_by a.doze size begun a b word told p off
 
 -- what a part was told that was told nothing before
-pub none_noted : (first now : PartView) → now ≡ first → first.told ≡ [] → now.told ≡ []
-none_noted first now same none = ap (λ (p : PartView). p.told) same ∙ none
+pub none_noted : (first now : PartView Entry) → now ≡ first → first.told ≡ [] → now.told ≡ []
+none_noted first now same none = ap (λ (p : PartView Entry). p.told) same ∙ none
 
-pub one_noted : (told : Option (ℕ × Entry)) (first now next : PartView) → next ≡ part_after told now → now ≡ first → first.told ≡ [] → next.told ≡ option_to_list told
-one_noted None first now next is same none = ap (λ (p : PartView). p.told) is ∙ none_noted first now same none
-one_noted (Some t) first now next is same none = ap (λ (p : PartView). p.told) is ∙ ap (λ (l : List (ℕ × Entry)). t ∷ l) (none_noted first now same none)
+pub one_noted : (told : Option (ℕ × Entry)) (first now next : PartView Entry) → next ≡ part_after told now → now ≡ first → first.told ≡ [] → next.told ≡ option_to_list told
+one_noted None first now next is same none = ap (λ (p : PartView Entry). p.told) is ∙ none_noted first now same none
+one_noted (Some t) first now next is same none = ap (λ (p : PartView Entry). p.told) is ∙ ap (λ (l : List (ℕ × Entry)). t ∷ l) (none_noted first now same none)
 
 -- what holds of each that was there and of the one that is put at the end holds of all
 pub all_pushed : {W : Type 0} (P : W → Type 0) (before now : List W) (x : W) → now ≡ before ++ x ∷ [] → All P before → P x → All P now

@@ -1,5 +1,5 @@
 -- What commands leave at each moment of a life.
-use Rattle.std.proofs.Common.{◌≡◌, ◌∙◌, ◌⊎◌, inl, inr, ℕ, ◌+◌, ◌≤◌, ◌<◌, List, [], ◌∷◌, ◌++◌, Option, Some, None, Result, Ok, Err, length, take, get_or, refl, sym, ap, subst, arith}
+use Rattle.std.proofs.Common.{◌≡◌, ◌∙◌, ◌⊎◌, inl, inr, ℕ, ◌+◌, ◌≤◌, ◌<◌, List, [], ◌∷◌, ◌++◌, Option, Some, None, Result, Ok, Err, length, get_or, refl, sym, ap, subst, arith}
 use Rattle.std.proofs.lemmas.Bool.{cases_lt}
 use Rattle.std.proofs.lemmas.List.{append-nil, length-append, take-append-le}
 use Rattle.std.proofs.Math.ListN.{get_or-append}
@@ -26,7 +26,6 @@ use Rattle.hart.specs.State.{ArchState}
 use Rattle.hsm.specs.Words.{HartView}
 use Rattle.sbi.specs.Helds.{EndsReset, EndsSleep, MakesHeld, MakesReset}
 use Rattle.sbi.specs.declared.resets.ResetType.{ResetType}
-use Rattle.sbi.specs.declared.words.LifeEnd.TheVariants as ends
 use Rattle.sbi.specs.declared.words.Word.{Word}
 use Rattle.sbi.specs.declared.words.Word.TheVariants.{Goes, Over as IsOver}
 use Rattle.sbi_abi.specs.declared.call.Call.{Call}

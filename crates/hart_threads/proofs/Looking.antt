@@ -1,26 +1,45 @@
 -- A turn of a hart in whose doze its board is, by what its look at the bus found.
-use Rattle.std.proofs.Common.{◌≡◌, ◌+◌, Bool, true, false, Some, None, refl, ap, subst}
+use Rattle.std.proofs.Common.{◌≡◌, ◌∙◌, ℕ, Bool, true, false, Some, None, refl, sym, ap, subst}
 use Rattle.hart.specs.State.{ArchState, started as fresh}
 use Rattle.sbi_calls.specs.Both.{Known}
+use Rattle.susp.specs.declared.buses.Bus.{Bus}
 use Rattle.susp.specs.declared.buses.Doze.{Doze}
+use Rattle.tallies.specs.declared.book_views.PartView.{PartView}
 use Rattle.turns.specs.Own.{ResumesOwn}
 use Rattle.sbi_calls.specs.declared.words.Did.TheVariants.{Idle, Resumed}
 use Rattle.sbi.specs.declared.words.Word.TheVariants.{Goes}
-use Rattle.hart_threads.specs.Looks.{Looked, after_look}
+use Rattle.hart_threads.specs.Bused.{TakesBus}
+use Rattle.hart_threads.specs.Dozes.{is_woken, doze_left}
 use Rattle.hart_threads.specs.Refusals.{RefusedCalls}
-use Rattle.hart_threads.specs.Threads.{seated, DozeOnce}
+use Rattle.hart_threads.specs.Threads.{seated, DozeOnce, LookOnce}
+use Rattle.hart_threads.specs.declared.bus_turns.BusTurn.{BusTurn}
 
-pub one_look : (woken : Bool) (old new : Looked) → new ≡ after_look woken old → new.made ≡ old.made + 1
-one_look false old new is = ap (λ (l : Looked). l.made) is
-one_look true old new is = ap (λ (l : Looked). l.made) is
+-- what the look left of the bus
+left_so : (by h : ℕ) (found left : Bus) (w : Bool) → by ≡ h → w ≡ is_woken by found.doze → left.ram ≡ found.ram → left.doze ≡ doze_left w found.doze → left ≡ record found { doze = doze_left (is_woken h found.doze) found.doze }
+left_so by h found left w e is ram doze =
+    let dozes : left.doze ≡ doze_left (is_woken h found.doze) found.doze = doze ∙ ap (λ (x : Bool). doze_left x found.doze) (is ∙ ap (λ (k : ℕ). is_woken k found.doze) e) in
+    λ i. record { ram = ram i; doze = dozes i }
 
 -- it was not woken
-pub idle_once : (woken : Bool) (d : Doze) (s : ArchState) (k : Known) (old new : Looked) (r : RefusedCalls) → false ≡ woken → new ≡ after_look false old → DozeOnce woken d (seated s k (Some d) old r) (seated s k (Some d) new r) (Goes Idle)
-idle_once woken d s k old new r asleep is =
-    subst (λ (w : Bool). DozeOnce w d (seated s k (Some d) old r) (seated s k (Some d) new r) (Goes Idle)) asleep (ap (λ (l : Looked). seated s k (Some d) l r) is, refl)
+pub idle_once : (by : ℕ) (found left : Bus) (w : Bool) (d : Doze) (s : ArchState) (k : Known) (p p' : PartView BusTurn) (r : RefusedCalls) → by ≡ s.id → w ≡ is_woken by found.doze → w ≡ false → left.ram ≡ found.ram → left.doze ≡ doze_left w found.doze → TakesBus found left p p'
+    → LookOnce d (seated s k (Some d) p r) (seated s k (Some d) p' r) (Goes Idle)
+idle_once by found left w d s k p p' r e is asleep ram doze takes =
+    let so : false ≡ is_woken s.id found.doze = sym asleep ∙ is ∙ ap (λ (h : ℕ). is_woken h found.doze) e in (
+      found,
+      left,
+      takes,
+      left_so by s.id found left w e is ram doze,
+      subst (λ (x : Bool). DozeOnce x d (seated s k (Some d) p r) (seated s k (Some d) p' r) (Goes Idle)) so (refl, refl),
+    )
 
 -- it was
-pub woken_once : (woken : Bool) (d : Doze) (s t : ArchState) (k k' : Known) (old new : Looked) (r : RefusedCalls) → true ≡ woken → t ≡ fresh s.id d.at.address d.at.opaque → ResumesOwn s.id k k' → new ≡ after_look true old
-    → DozeOnce woken d (seated s k (Some d) old r) (seated t k' None new r) (Goes Resumed)
-woken_once woken d s t k k' old new r called begins own is =
-    subst (λ (w : Bool). DozeOnce w d (seated s k (Some d) old r) (seated t k' None new r) (Goes Resumed)) called (begins, own, refl, is, refl, refl)
+pub woken_once : (by : ℕ) (found left : Bus) (w : Bool) (d : Doze) (s t : ArchState) (k k' : Known) (p p' : PartView BusTurn) (r : RefusedCalls) → by ≡ s.id → w ≡ is_woken by found.doze → w ≡ true → left.ram ≡ found.ram → left.doze ≡ doze_left w found.doze → TakesBus found left p p'
+    → t ≡ fresh s.id d.at.address d.at.opaque → ResumesOwn s.id k k' → LookOnce d (seated s k (Some d) p r) (seated t k' None p' r) (Goes Resumed)
+woken_once by found left w d s t k k' p p' r e is called ram doze takes begins own =
+    let so : true ≡ is_woken s.id found.doze = sym called ∙ is ∙ ap (λ (h : ℕ). is_woken h found.doze) e in (
+      found,
+      left,
+      takes,
+      left_so by s.id found left w e is ram doze,
+      subst (λ (x : Bool). DozeOnce x d (seated s k (Some d) p r) (seated t k' None p' r) (Goes Resumed)) so (begins, own, refl, refl, refl),
+    )

@@ -28,10 +28,11 @@ use Rattle.hart.specs.State.{ArchState}
 use Rattle.machine.specs.Machine.{Machine}
 use Rattle.hart_threads.specs.Begun.{BeginsAs}
 use Rattle.hart_threads.specs.Ends.{AnyAnswer, AnyWord, HasGone}
-use Rattle.hart_threads.specs.Looks.{Looked}
+use Rattle.hart_threads.specs.Bused.{CallsBus}
+use Rattle.hart_threads.specs.declared.bus_turns.BusTurn.{BusTurn}
 use Rattle.hart_threads.specs.Refusals.{RefusedCalls}
 use Rattle.hart_threads.specs.Seated.{StandsAfterTurn, StandsAfter}
-use Rattle.hart_threads.specs.Threads.{Seated, seated, HeldOnce, IsDozeBy, RefusedOnce, ComesOnce, OwnOnce, DozeOnce, TurnOnceBy, TurnOnce, TurnsOn, LoopOnce}
+use Rattle.hart_threads.specs.Threads.{Seated, seated, HeldOnce, IsDozeBy, RefusedOnce, ComesOnce, OwnOnce, LookOnce, TurnOnceBy, TurnOnce, TurnsOn, LoopOnce}
 use Rattle.hart_threads.specs.declared.loops.Why.{Why}
 use Rattle.hart_threads.specs.declared.loops.Why.TheVariants as whys
 
@@ -99,12 +100,12 @@ between_after by s whys.Turns doze a = rests_between by s doze a
 
 -- ---- one turn
 -- of a hart that does not doze
-pub undozed : (size : Size) (begun : List ℕ) (s : ArchState) (k : Known) (doze : Option Doze) (looks : Looked) (r : RefusedCalls) (b : Seated) (word : Word) (told : Option (ℕ × Entry)) → doze ≡ None → OwnOnce size begun (seated s k None looks r) b word told → TurnOnce size begun (seated s k doze looks r) b word told
-undozed size begun s k doze looks r b word told none own = subst (λ (o : Option Doze). TurnOnce size begun (seated s k o looks r) b word told) (sym none) own
+pub undozed : (size : Size) (begun : List ℕ) (s : ArchState) (k : Known) (doze : Option Doze) (took : PartView BusTurn) (r : RefusedCalls) (b : Seated) (word : Word) (told : Option (ℕ × Entry)) → doze ≡ None → OwnOnce size begun (seated s k None took r) b word told → TurnOnce size begun (seated s k doze took r) b word told
+undozed size begun s k doze took r b word told none own = subst (λ (o : Option Doze). TurnOnce size begun (seated s k o took r) b word told) (sym none) own
 
 -- of one that dozes
-pub dozed : (size : Size) (begun : List ℕ) (s : ArchState) (k : Known) (doze : Option Doze) (d : Doze) (looks : Looked) (r : RefusedCalls) (b : Seated) (woken : Bool) (word : Word) (told : Option (ℕ × Entry)) → doze ≡ Some d → DozeOnce woken d (seated s k (Some d) looks r) b word → told ≡ None → TurnOnce size begun (seated s k doze looks r) b word told
-dozed size begun s k doze d looks r b woken word told is once none = subst (λ (o : Option Doze). TurnOnce size begun (seated s k o looks r) b word told) (sym is) (woken, once, none)
+pub dozed : (size : Size) (begun : List ℕ) (s : ArchState) (k : Known) (doze : Option Doze) (d : Doze) (took : PartView BusTurn) (r : RefusedCalls) (b : Seated) (word : Word) (told : Option (ℕ × Entry)) → doze ≡ Some d → LookOnce d (seated s k (Some d) took r) b word → told ≡ None → TurnOnce size begun (seated s k doze took r) b word told
+dozed size begun s k doze d took r b word told is once none = subst (λ (o : Option Doze). TurnOnce size begun (seated s k o took r) b word told) (sym is) (once, none)
 
 -- ---- what comes of what a hart did
 -- that asked for no durable call
@@ -112,10 +113,10 @@ pub made_comes : (size : Size) (a : Seated) (turned : Turned) (did : Did) → tu
 made_comes size a turned did is = subst (λ (w : Turned). ComesOnce size w a a (Goes did) None) (sym is) (refl, refl, refl)
 
 -- that asked for one
-pub held_comes : (size : Size) (s t : ArchState) (k k' : Known) (doze after : Option Doze) (looks : Looked) (r r' : RefusedCalls) (turned : Turned) (word : Word) (told : Option (ℕ × Entry)) → turned ≡ Durable
-    → HeldOnce size (call_of s) s t k k' word → IsToldBy size (call_of s) s.id word told → IsDozeBy size (call_of s) s.id word after → RefusedOnce (call_of s) word t r r' → ComesOnce size turned (seated s k doze looks r) (seated t k' after looks r') word told
-held_comes size s t k k' doze after looks r r' turned word told is once has dozes refused =
-    subst (λ (w : Turned). ComesOnce size w (seated s k doze looks r) (seated t k' after looks r') word told) (sym is) (once, has, dozes, refl, refused)
+pub held_comes : (size : Size) (s t : ArchState) (k k' : Known) (doze after : Option Doze) (took took' : PartView BusTurn) (r r' : RefusedCalls) (turned : Turned) (word : Word) (told : Option (ℕ × Entry)) → turned ≡ Durable
+    → HeldOnce size (call_of s) s t k k' word → IsToldBy size (call_of s) s.id word told → IsDozeBy size (call_of s) s.id word after → CallsBus word after took took' → RefusedOnce (call_of s) word t r r' → ComesOnce size turned (seated s k doze took r) (seated t k' after took' r') word told
+held_comes size s t k k' doze after took took' r r' turned word told is once has dozes called refused =
+    subst (λ (w : Turned). ComesOnce size w (seated s k doze took r) (seated t k' after took' r') word told) (sym is) (once, has, dozes, called, refused)
 
 -- the receipt that a turn has, by whether the life goes on
 held_none : (size : Size) (call : Call) (by : ℕ) (word : Word) (told : Option (ℕ × Entry)) → IsToldBy size call by word told → life_goes_on word ≡ true → told ≡ None
@@ -128,7 +129,7 @@ comes_none size Durable a b word told p on = held_none size (call_of a.hart) a.h
 
 none_by : (doze : Option Doze) (size : Size) (begun : List ℕ) (a b : Seated) (word : Word) (told : Option (ℕ × Entry)) → TurnOnceBy doze size begun a b word told → life_goes_on word ≡ true → told ≡ None
 none_by None size begun a b word told p on = comes_none size p.2 p.3 b word told p.5 on
-none_by (Some d) size begun a b word told p on = p.2
+none_by (Some d) size begun a b word told p on = p.1
 
 turn_none : (size : Size) (begun : List ℕ) (a b : Seated) (word : Word) (told : Option (ℕ × Entry)) → TurnOnce size begun a b word told → life_goes_on word ≡ true → told ≡ None
 turn_none size begun a b word told p on = none_by a.doze size begun a b word told p on
@@ -147,7 +148,7 @@ pub ended_life : (size : Size) (begun : List ℕ) (answers : ℕ → Bool → Ty
 ended_life size begun answers hears turns n a mid b word told many once off said heard = let e : n + 1 ≡ suc n = omega arith in (n, mid, word, e, many, once, off, said, heard)
 
 -- ---- a part that a turn was told nothing for
-pub kept_part : (size : Size) (begun : List ℕ) (a b : Seated) (word : Word) (told : Option (ℕ × Entry)) (first now next : PartView) → TurnOnce size begun a b word told → life_goes_on word ≡ true → now ≡ first → next ≡ part_after told now → next ≡ first
+pub kept_part : (size : Size) (begun : List ℕ) (a b : Seated) (word : Word) (told : Option (ℕ × Entry)) (first now next : PartView Entry) → TurnOnce size begun a b word told → life_goes_on word ≡ true → now ≡ first → next ≡ part_after told now → next ≡ first
 kept_part size begun a b word told first now next once on same is =
     let none = turn_none size begun a b word told once on in
     is ∙ (ap (λ (o : Option (ℕ × Entry)). part_after o now) none ∙ same)

@@ -32,7 +32,7 @@ doubt_told None = []
 doubt_told (Some command) = (1, entries.Command command) ∷ []
 
 -- the console has such a part
-abbrev pub HoldsDoubt : Option PartView → Option Command → Type 0
+abbrev pub HoldsDoubt : Option (PartView Entry) → Option Command → Type 0
 HoldsDoubt None doubt = ⊥
 HoldsDoubt (Some part) doubt = part.told ≡ doubt_told doubt
 

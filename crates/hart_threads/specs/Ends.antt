@@ -9,6 +9,8 @@ use Rattle.hsm.specs.declared.state.State.{State}
 use Rattle.hsm.specs.Words.{HartView}
 use Rattle.machine.specs.Machine.{Machine}
 use Rattle.susp.specs.declared.buses.Doze.{Doze}
+use Rattle.tallies.specs.declared.book_views.PartView.{PartView}
+use Rattle.hart_threads.specs.declared.bus_turns.BusTurn.{BusTurn}
 use Rattle.hart_threads.specs.Begun.{BeginsAs}
 use Rattle.hart_threads.specs.Threads.{Seated, EndsLife, LoopOnce}
 use Rattle.hart_threads.specs.declared.closing.AfterConsole.{AfterConsole}
@@ -81,10 +83,10 @@ HasGone m turns made b why told =
 abbrev pub IsStateOf : State → ℕ → List HartView → Type 0
 IsStateOf state h vs = (later : List HartView) × KeepsAll vs later × StandsBy state h later
 
--- it is told of a hart that has gone so
-abbrev pub IsOfHart : Machine → ℕ → Ending → Type 0
-IsOfHart m turns e =
-    (b : Seated) × (told : Option (ℕ × Entry)) × HasGone m turns e.made b e.why told
+-- it is told of a hart that has gone so, with that part of the history of the bus
+abbrev pub IsOfHart : Machine → ℕ → PartView BusTurn → Ending → Type 0
+IsOfHart m turns took e =
+    (b : Seated) × (told : Option (ℕ × Entry)) × HasGone m turns e.made b e.why told × (b.took ≡ took)
     × IsStateOf e.state b.hart.id b.known.harts
     × (e ≡ ending b.hart e.state b.doze e.made e.asked e.why e.by)
 
@@ -94,7 +96,7 @@ AreNumberedFrom first [] = Unit {0}
 AreNumberedFrom first (e ∷ es) = (e.number ≡ first) × AreNumberedFrom (suc first) es
 
 -- It ended for such a reason, and asked before each turn whether it goes on. What is told is of a hart of that board, which
--- made just so many turns since the boot left it.
-abbrev pub IsEnding : Machine → ℕ → DurableState → Bool → AfterConsole → Ending → Type 0
-IsEnding m turns found gated parting e =
-    EndsBy turns found gated parting e.made e.by e.why × (e.made ≤ e.asked) × ∥ IsOfHart m turns e ∥₁
+-- made just so many turns since the boot left it, with that part of the history of the bus.
+abbrev pub IsEnding : Machine → ℕ → DurableState → Bool → AfterConsole → PartView BusTurn → Ending → Type 0
+IsEnding m turns found gated parting took e =
+    EndsBy turns found gated parting e.made e.by e.why × (e.made ≤ e.asked) × ∥ IsOfHart m turns took e ∥₁

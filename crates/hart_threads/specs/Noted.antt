@@ -12,11 +12,11 @@ abbrev pub entries_in : List Change → List Entry
 entries_in = map entry_of
 
 -- a part, after what was told
-abbrev pub part_after : Option (ℕ × Entry) → PartView → PartView
+abbrev pub part_after : Option (ℕ × Entry) → PartView Entry → PartView Entry
 part_after None d = d
 part_after (Some t) d = told_after t.0 t.1 d
 
-abbrev pub part_by : Result (ℕ × Entry) Refusal → PartView → PartView
+abbrev pub part_by : Result (ℕ × Entry) Refusal → PartView Entry → PartView Entry
 part_by (Ok t) d = told_after t.0 t.1 d
 part_by (Err e) d = d
 

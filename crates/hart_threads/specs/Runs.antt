@@ -19,16 +19,25 @@ StepsInRow (suc k) m n = (mid : List ℕ) × StepsInRow k m mid × IsStep mid n
 abbrev pub StepsMake : List ℕ → List ℕ → Type 0
 StepsMake m n = ∥ ((k : ℕ) × StepsInRow k m n) ∥₁
 
--- a suspension carries a memory that steps of harts made of this one
-abbrev pub CarriesSteps : List ℕ → Change → Type 0
-CarriesSteps begun c =
-    (hart address opaque : ℕ) (memory : List ℕ) → c ≡ Suspend hart address opaque memory → StepsMake begun memory
+-- a suspension carries such a memory
+abbrev pub Carries : (List ℕ → Type 0) → Change → Type 0
+Carries P c = (hart address opaque : ℕ) (memory : List ℕ) → c ≡ Suspend hart address opaque memory → P memory
 
 -- each suspension of these commands does
-abbrev pub AllCarrySteps : List ℕ → List Change → Type 0
-AllCarrySteps begun cs = (k : ℕ) (c : Change) → slice_get cs k ≡ Some c → CarriesSteps begun c
+abbrev pub AllCarry : (List ℕ → Type 0) → List Change → Type 0
+AllCarry P cs = (k : ℕ) (c : Change) → slice_get cs k ≡ Some c → Carries P c
 
 -- each suspension of a life does, those that were acknowledged and the one in doubt
-pub record IsCarried (begun : List ℕ) (life : Life) : Type 0 where
-  pub journal : AllCarrySteps begun life.journal
-  pub doubt : (c : Change) → life.doubt ≡ Some c → CarriesSteps begun c
+pub record IsCarriedBy (P : List ℕ → Type 0) (life : Life) : Type 0 where
+  pub journal : AllCarry P life.journal
+  pub doubt : (c : Change) → life.doubt ≡ Some c → Carries P c
+
+-- one that steps of harts made of this one
+abbrev pub CarriesSteps : List ℕ → Change → Type 0
+CarriesSteps begun c = Carries (StepsMake begun) c
+
+abbrev pub AllCarrySteps : List ℕ → List Change → Type 0
+AllCarrySteps begun cs = AllCarry (StepsMake begun) cs
+
+abbrev pub IsCarried : List ℕ → Life → Type 0
+IsCarried begun life = IsCarriedBy (StepsMake begun) life

@@ -38,7 +38,11 @@ use Rattle.sbi.specs.declared.words.LifeEnd.TheVariants as ends
 use Rattle.sbi.specs.declared.words.Word.{Word}
 use Rattle.sbi.specs.declared.words.Word.TheVariants.{Goes, Over}
 use Rattle.turns.specs.Own.{TurnOwn, ResumesOwn}
-use Rattle.hart_threads.specs.Looks.{Looked, after_look}
+use Rattle.tallies.specs.declared.book_views.PartView.{PartView}
+use Rattle.hart_threads.specs.Bused.{TakesBus, TurnsBus, CallsBus}
+use Rattle.hart_threads.specs.Dozes.{is_woken, doze_left}
+use Rattle.hart_threads.specs.declared.bus_turns.BusTurn.{BusTurn}
+use Rattle.susp.specs.declared.buses.Bus.{Bus}
 use Rattle.hart_threads.specs.Refusals.{RefusedCalls, finds_failure, after_call}
 use Rattle.hart_threads.specs.declared.loops.Why.{Why}
 use Rattle.hart_threads.specs.declared.loops.Why.TheVariants as whys
@@ -100,17 +104,17 @@ IsDozeBy size call by (Goes Dozing) doze =
 IsDozeBy size call by word doze = doze ≡ None
 
 -- ---- a turn
--- a hart, what its seats know, its copy of its doze, its looks at the bus in a doze, and its calls that the store refused,
+-- a hart, what its seats know, its copy of its doze, its part of the history of the bus, and its calls that the store refused,
 -- between two of its turns
 pub record Seated : Type 0 where
   pub hart : ArchState
   pub known : Known
   pub doze : Option Doze
-  pub looks : Looked
+  pub took : PartView BusTurn
   pub refused : RefusedCalls
 
-abbrev pub seated : ArchState → Known → Option Doze → Looked → RefusedCalls → Seated
-seated s k doze looks r = record { hart = s; known = k; doze = doze; looks = looks; refused = r }
+abbrev pub seated : ArchState → Known → Option Doze → PartView BusTurn → RefusedCalls → Seated
+seated s k doze took r = record { hart = s; known = k; doze = doze; took = took; refused = r }
 
 -- what comes of what the hart did: a durable call is made, and has the receipt of its command where that was
 -- acknowledged; anything else is the turn's word
@@ -118,32 +122,39 @@ abbrev pub ComesOnce : Size → Turned → Seated → Seated → Word → Option
 ComesOnce size Durable a b word told =
     HeldOnce size (call_of a.hart) a.hart b.hart a.known b.known word
     × IsToldBy size (call_of a.hart) a.hart.id word told
-    × IsDozeBy size (call_of a.hart) a.hart.id word b.doze × (b.looks ≡ a.looks)
+    × IsDozeBy size (call_of a.hart) a.hart.id word b.doze × CallsBus word b.doze a.took b.took
     × RefusedOnce (call_of a.hart) word b.hart a.refused b.refused
 ComesOnce size (Made did) a b word told = (b ≡ a) × (word ≡ Goes did) × (told ≡ None)
 
--- a turn of a hart that does not doze, with the memory as its one hold of the bus found it and as it left it: both are what
--- steps of harts made of the memory that the boot left
+-- a turn of a hart that does not doze, with the memory as its one hold of the bus found it and as it left it, which its part of the
+-- history has; both are what steps of harts made of the memory that the boot left
 abbrev pub OwnOnce : Size → List ℕ → Seated → Seated → Word → Option (ℕ × Entry) → Type 0
 OwnOnce size begun a b word told =
     (found : List ℕ) × (left : List ℕ) × (did : Turned) × (mid : Seated)
-    × TurnOwn size a.hart found mid.hart left a.known mid.known did × ComesOnce size did mid b word told
-    × (mid.doze ≡ a.doze) × (mid.looks ≡ a.looks) × StepsMake begun found × StepsMake begun left
+    × (own : TurnOwn size a.hart found mid.hart left a.known mid.known did) × ComesOnce size did mid b word told
+    × (mid.doze ≡ a.doze) × TurnsBus own.0 a.took mid.took found left × StepsMake begun found × StepsMake begun left
     × (mid.refused ≡ a.refused)
 
 -- A turn of a hart that dozes, by what its one look at the bus found: nothing, until its doze was woken. Then it begins
 -- again at the address of its own copy, with that opaque value; it has taken what was pending for it, and its quiet has
--- ended. The look is counted, and so is what it found.
+-- ended.
 abbrev pub DozeOnce : Bool → Doze → Seated → Seated → Word → Type 0
-DozeOnce false d a b word = (b ≡ record a { looks = after_look false a.looks }) × (word ≡ Goes Idle)
+DozeOnce false d a b word = (b ≡ record a { took = b.took }) × (word ≡ Goes Idle)
 DozeOnce true d a b word =
     (b.hart ≡ fresh a.hart.id d.at.address d.at.opaque) × ResumesOwn a.hart.id a.known b.known × (b.doze ≡ None)
-    × (b.looks ≡ after_look true a.looks) × (word ≡ Goes Resumed) × (b.refused ≡ a.refused)
+    × (word ≡ Goes Resumed) × (b.refused ≡ a.refused)
+
+-- and what the look found of the bus and left there: the memory stays, and a doze that was woken is over
+abbrev pub LookOnce : Doze → Seated → Seated → Word → Type 0
+LookOnce d a b word =
+    (found : Bus) × (left : Bus) × TakesBus found left a.took b.took
+    × (left ≡ record found { doze = doze_left (is_woken a.hart.id found.doze) found.doze })
+    × DozeOnce (is_woken a.hart.id found.doze) d a b word
 
 -- one turn of the hart, by its copy of its doze: no receipt comes of a turn in a doze
 abbrev pub TurnOnceBy : Option Doze → Size → List ℕ → Seated → Seated → Word → Option (ℕ × Entry) → Type 0
 TurnOnceBy None size begun a b word told = OwnOnce size begun a b word told
-TurnOnceBy (Some d) size begun a b word told = (woken : Bool) × DozeOnce woken d a b word × (told ≡ None)
+TurnOnceBy (Some d) size begun a b word told = LookOnce d a b word × (told ≡ None)
 
 abbrev pub TurnOnce : Size → List ℕ → Seated → Seated → Word → Option (ℕ × Entry) → Type 0
 TurnOnce size begun a b word told = TurnOnceBy a.doze size begun a b word told

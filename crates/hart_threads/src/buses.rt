@@ -1,6 +1,8 @@
 //! The bus of a board on threads, which knows of which life its memory is.
 
-ghost use Rattle.std.specs.Prelude.{◌≡◌, ◌<◌, ◌↔◌, true, IsOk, OnOk, IfErr};
+ghost use Rattle.std.specs.Prelude.{◌≡◌, ◌<◌, ◌≤◌, ◌+◌, ◌↔◌, ℕ, List, [], ◌∷◌, true, IsOk, OnOk, IfOk, IfErr, drop, length, vec_len};
+ghost use Rattle.tallies.specs.BookViews.{id_of, parts_of};
+ghost use Rattle.tallies.specs.Books.{Each, IsPart, first_of, fresh_from};
 ghost use Rattle.board_model.specs.declared.refusal.Refusal.{Refusal};
 ghost use Rattle.hart.specs.Means.{Steps};
 ghost use Rattle.hsm.specs.declared.view.Stage.TheVariants.{Quiet, Running};
@@ -12,8 +14,12 @@ ghost use Rattle.store.specs.Views.{life_of};
 ghost use Rattle.susp.specs.Dozes.{can_wake, after_wake};
 ghost use Rattle.hart_threads.specs.Dozes.{doze_left, is_woken};
 ghost use Rattle.hart_threads.specs.Heard.{after_waking};
+ghost use Rattle.hart_threads.specs.Bused.{AreSaved, Made, IsCalled, TakesBus, begun_bus};
 ghost use Rattle.hart_threads.specs.Runs.{IsCarried, StepsMake};
 
+use crate::bus_turns::{
+    BusBook, BusKeeper, BusPart, BusTurn, CallParts, Remembers, held_part, note_look, note_turn,
+};
 use crate::heard::Heard;
 use board_model::{HartId, Refusal};
 use crew::Crew;
@@ -21,21 +27,32 @@ use disk::Disk;
 use hart::{Hart, Outcome};
 use sbi::{Word, dispatch_held};
 use sbi_calls::{Seats, Tables};
-use std::marker::PhantomData;
+use std::alloc::{AllocError, Global};
+use std::marker::Brand;
 use store::{Saving, Store};
 use susp::{Bus, Doze, doze_of, wake};
-use tallies::Journal;
+use tallies::{Journal, NewBook};
 
 /// The memory of a board on threads, and its doze where it sleeps to RAM, of the life J: its memory is what steps of harts
-/// made of the one that J's boot left.
+/// made of the one that J's boot left. Each hold of it in which something is done is noted in its history, in the part of the holder: so
+/// it is what the turns of that history made, one after another, of the bus that the boot left.
 ///
 /// A type keeps that, and a lock keeps its value's type. Nothing reaches the memory or the doze but the calls of this type
 /// and `SharedStore::call`.
 #[derive(Drop)]
 pub struct SharedBus<J: Journal> {
     pub(crate) bus: Bus,
-    of: PhantomData<J>,
+    book: BusBook<J>,
+    keeper: BusKeeper<J>,
     ghost run: { StepsMake J.memory bus.ram },
+    ghost made: { Made keeper.log (begun_bus J.memory) bus },
+}
+
+/// The doze that stays on the bus once a look told that.
+fn doze_left(woken: bool, found: Option<Doze>) -> Option<Doze>
+    ensures { result ≡ doze_left woken found }
+{
+    if woken { None } else { found }
 }
 
 /// Whether it is that hart's, and the board was woken.
@@ -49,18 +66,48 @@ fn is_woken(found: &Option<Doze>, by: HartId) -> bool
 }
 
 impl<J: Journal> SharedBus<J> {
-    ghost use Rattle.hart_threads.specs.Views.{bus_in};
+    ghost use Rattle.hart_threads.specs.Views.{bus_in, bus_log, bus_parts};
 
-    /// The bus of a life that has just begun, with the memory that its boot left.
-    #[tactic(auto, using(crate::proofs::Carrying::none_yet))]
-    pub fn new(bus: Bus) -> SharedBus<J>
-        requires { bus.ram ≡ J.memory }
-        ensures { bus_in result ≡ bus }
+    /// The bus of a life that has just begun, with the memory that its boot left, and a new book for its history.
+    pub fn new(bus: Bus, book: NewBook<BusTurn>) -> SharedBus<J>
+        requires bus { bus ≡ begun_bus J.memory }
+        requires book { id_of book ≡ J.runs }
+        requires parts { parts_of book ≡ J.size.harts + 2 }
+        ensures bus { bus_in result ≡ bus }
+        ensures parts { bus_parts result ≡ fresh_from 0 (J.size.harts + 2) }
     {
-        SharedBus {
-            bus,
-            of: PhantomData,
-        }
+        let (book, keeper) = book.named();
+        SharedBus { bus, book, keeper }
+    }
+
+    /// The next part of its history goes off, which was told nothing.
+    pub(crate) fn hand_out(&mut self) -> BusPart<J>
+        requires some { 0 < length (bus_parts self.old) }
+        ensures bus { bus_in self.new ≡ bus_in self.old }
+        ensures parts { bus_parts self.new ≡ drop 1 (bus_parts self.old) }
+        ensures part { result ≡ first_of (bus_parts self.old) }
+    {
+        self.book.hand_out(&mut self.keeper)
+    }
+
+    /// A part comes back.
+    pub fn gather(&mut self, part: BusPart<J>)
+        ensures bus { bus_in self.new ≡ bus_in self.old }
+        ensures log { bus_log self.new ≡ bus_log self.old }
+        ensures parts { bus_parts self.new ≡ part ∷ bus_parts self.old }
+    {
+        self.book.gather(&mut self.keeper, part);
+    }
+
+    /// Ends the history. Its turns made what the bus is, one after another, of what the boot left. Each part that is back was told just
+    /// what the history has of it, and each turn is of one of the parts.
+    pub fn close(self)
+        ensures made { Made (bus_log self) (begun_bus J.memory) (bus_in self) }
+        ensures told { Each (IsPart (bus_log self)) (bus_parts self) }
+        ensures of { Each (λ e. e.0 < J.size.harts + 2) (bus_log self) }
+    {
+        let mut keeper = self.keeper;
+        self.book.look(&mut keeper);
     }
 
     /// What is kept from one holder of the lock to the next.
@@ -77,36 +124,53 @@ impl<J: Journal> SharedBus<J> {
 
     /// One step of the hart with this memory, for which an interrupt is pending or not. The doze stays.
     #[inline(always)]
-    pub fn step(&mut self, hart: &mut Hart, pending: bool) -> Outcome
-        ensures steps { Steps pending hart.old (bus_in self.old).ram hart.new (bus_in self.new).ram result }
+    pub fn step<A: Remembers>(
+        &mut self,
+        hart: &mut Hart,
+        pending: bool,
+        part: BusPart<J>,
+    ) -> (Outcome, BusPart<J>)
+        requires before { A.found ≡ bus_in self.old }
+        ensures steps { Steps pending hart.old (bus_in self.old).ram hart.new (bus_in self.new).ram result.0 }
         ensures found { StepsMake J.memory (bus_in self.old).ram }
         ensures left { StepsMake J.memory (bus_in self.new).ram }
         ensures doze { (bus_in self.new).doze ≡ (bus_in self.old).doze }
+        ensures noted { TakesBus (bus_in self.old) (bus_in self.new) part result.1 }
     {
-        hart.step(&mut self.bus.ram, pending)
+        let outcome = hart.step(&mut self.bus.ram, pending);
+        let part = note_turn::<Brand, J>(&self.book, &mut self.keeper, part, &self.bus);
+        (outcome, part)
     }
 
     /// One look for a hart in whose doze the board may be: whether it is, and was woken. Then the doze is over. The memory
     /// stays. Only who has the seat of that hart, which is quiet, may ask.
-    pub fn end_doze(&mut self, seats: &Seats, tables: &Tables, by: HartId) -> bool
+    pub fn end_doze<A: Remembers>(
+        &mut self,
+        seats: &Seats,
+        tables: &Tables,
+        by: HartId,
+        part: BusPart<J>,
+    ) -> (bool, BusPart<J>)
+        requires before { A.found ≡ bus_in self.old }
         requires seats { AreSeatsOfBoth tables.now seats.now }
         requires quiet { Acts by Quiet seats.now }
-        ensures woken { result ≡ is_woken by (bus_in self.old).doze }
+        ensures woken { result.0 ≡ is_woken by (bus_in self.old).doze }
         ensures memory { (bus_in self.new).ram ≡ (bus_in self.old).ram }
-        ensures left { (bus_in self.new).doze ≡ doze_left result (bus_in self.old).doze }
+        ensures left { (bus_in self.new).doze ≡ doze_left result.0 (bus_in self.old).doze }
+        ensures noted { TakesBus (bus_in self.old) (bus_in self.new) part result.1 }
     {
         let _ = seats;
         let _ = tables;
-        if !is_woken(&self.bus.doze, by) {
-            return false;
-        }
-        self.bus.doze = None;
-        true
+        let woken = is_woken(&self.bus.doze, by);
+        self.bus.doze = doze_left(woken, self.bus.doze);
+        let part = note_turn::<Brand, J>(&self.book, &mut self.keeper, part, &self.bus);
+        (woken, part)
     }
 
     /// Calls the wake-up device, as `susp::wake`, for the console, which hears of it: a board that dozes is woken, once. Refused
     /// `NotDozing` where none dozes or it was woken already, and then nothing changes.
-    pub fn wake(&mut self, heard: &mut Heard<J>) -> Result<(), Refusal>
+    pub fn wake<A: Remembers>(&mut self, heard: &mut Heard<J>) -> Result<(), Refusal>
+        requires before { A.found ≡ bus_in self.old }
         ensures ok { IsOk result ↔ (can_wake (bus_in self.old).doze ≡ true) }
         ensures memory { (bus_in self.new).ram ≡ (bus_in self.old).ram }
         ensures woken { OnOk result ((bus_in self.new).doze ≡ after_wake (bus_in self.old).doze) }
@@ -114,24 +178,30 @@ impl<J: Journal> SharedBus<J> {
         ensures heard { heard.new ≡ after_waking result heard.old }
     {
         wake(&mut self.bus)?;
-        heard.wake();
+        let part = held_part(heard.run.take());
+        let part = note_turn::<Brand, J>(&self.book, &mut self.keeper, part, &self.bus);
+        heard.run = Some(part);
+        heard.woken = heard.woken.wrapping_add(1);
         Ok(())
     }
 
     /// The durable call at which a hart stands, as `dispatch_held` with this bus and that store. The memory stays; and a
-    /// suspension carries it.
-    pub(crate) fn call<D: Disk + Drop, C: Crew>(
+    /// suspension carries it. The call is noted in the part of the hart, and directly after it a look in that of the store.
+    pub(crate) fn call<A: Remembers, D: Disk + Drop, C: Crew>(
         &mut self,
         saving: Saving<'_, C>,
         hart: &mut Hart,
         seats: Seats,
         tables: &Tables,
         store: &mut Store<D>,
-    ) -> (Seats, Word)
+        parts: CallParts<J>,
+    ) -> (Seats, Word, CallParts<J>)
+        requires before { A.found ≡ bus_in self.old }
         requires seats { AreSeatsOfBoth tables.now seats }
         requires acts { Acts hart.old.id Running seats }
         requires hart { hart.old.id < harts_of_both tables.now }
         requires carried { IsCarried J.memory (life_of store.old) }
+        requires saved { AreSaved (life_of store.old) parts.store }
         ensures gives { GivesBack tables.entry.now hart.old.id seats result.0 }
         ensures acts { Acts hart.old.id (stage_told result.1) result.0 }
         ensures id { hart.new.id ≡ hart.old.id }
@@ -139,14 +209,14 @@ impl<J: Journal> SharedBus<J> {
             (known seats) (known result.0) (bus_in self.old) (bus_in self.new) store.old store.new result.1 }
         ensures memory { (bus_in self.new).ram ≡ (bus_in self.old).ram }
         ensures carried { IsCarried J.memory (life_of store.new) }
+        ensures saved { AreSaved (life_of store.new) result.2.store }
+        ensures called { IsCalled result.1 (bus_in self.old) (bus_in self.new) }
+        ensures noted { TakesBus (bus_in self.old) (bus_in self.new) parts.caller result.2.caller }
     {
-        dispatch_held(saving, hart, seats, tables, &mut self.bus, store)
-    }
-
-    /// The memory and the doze, no longer shared.
-    pub fn unshare(self) -> Bus
-        ensures { result ≡ bus_in self }
-    {
-        self.bus
+        let (seats, word) = dispatch_held(saving, hart, seats, tables, &mut self.bus, store);
+        let CallParts { caller, store: own } = parts;
+        let caller = note_turn::<Brand, J>(&self.book, &mut self.keeper, caller, &self.bus);
+        let own = note_look(&self.book, &mut self.keeper, own, &self.bus);
+        (seats, word, CallParts { caller, store: own })
     }
 }

@@ -5,14 +5,16 @@ ghost use Rattle.std.specs.Option.{option_to_list};
 ghost use Rattle.board_model.specs.Durable.{Change};
 ghost use Rattle.board_model.specs.declared.durable.Entry.{Entry};
 ghost use Rattle.board_model.specs.declared.refusal.Refusal.TheVariants.{Down};
-ghost use Rattle.tallies.specs.Books.{entries_of, no_book};
+ghost use Rattle.tallies.specs.Books.{entries_of, no_book, part_view};
 ghost use Rattle.tallies.specs.Closed.{told_in};
 ghost use Rattle.tallies.specs.BookViews.{id_of, parts_of};
 ghost use Rattle.store.specs.Views.{doubt_of};
+ghost use Rattle.hart_threads.specs.Bused.{AreWakes, console_part};
 ghost use Rattle.hart_threads.specs.Doubts.{HartAsksFor, IsDoubtOf, noted_if, noted_by, AreAskedByHarts};
 ghost use Rattle.hart_threads.specs.Heard.{after_refusal, heard_nothing};
 ghost use Rattle.hart_threads.specs.Noted.{entries_in};
 
+use crate::bus_turns::BusPart;
 use crate::heard::Heard;
 use board_model::{Command, Entry, Refusal};
 use disk::Disk;
@@ -42,6 +44,8 @@ impl<J: Journal> Journal for OfDoubts<J> {
 
     ghost doubts = { no_book };
 
+    ghost runs = { no_book };
+
     ghost moment = { 0 };
 
     ghost earlier = { J.earlier };
@@ -53,8 +57,8 @@ impl<J: Journal> Journal for OfDoubts<J> {
 /// A contract sees the commands: none, or one, since a store takes none behind it.
 #[derive(Drop)]
 pub(crate) struct Doubts<J: Journal> {
-    book: Book<OfDoubts<J>>,
-    keeper: Keeper<OfDoubts<J>>,
+    book: Book<OfDoubts<J>, Entry>,
+    keeper: Keeper<OfDoubts<J>, Entry>,
 }
 
 impl<J: Journal> Model for Doubts<J> {
@@ -67,7 +71,8 @@ impl<J: Journal> Model for Doubts<J> {
 
 impl<J: Journal> Doubts<J> {
     /// For a life that has just begun, with a new book: nothing is in doubt. What its console will hear comes with it.
-    pub(crate) fn new(book: NewBook) -> (Doubts<J>, Heard<J>)
+    pub(crate) fn new(book: NewBook<Entry>, run: BusPart<J>) -> (Doubts<J>, Heard<J>)
+        requires run { run ≡ part_view console_part [] }
         requires book { id_of book ≡ J.doubts }
         requires parts { parts_of book ≡ 2 }
         ensures none { result.0 ≡ [] }
@@ -75,7 +80,7 @@ impl<J: Journal> Doubts<J> {
     {
         let (book, mut keeper) = book.named::<OfDoubts<J>>();
         let part = book.hand_out(&mut keeper);
-        (Doubts { book, keeper }, Heard::nothing(part))
+        (Doubts { book, keeper }, Heard::nothing(part, run))
     }
 
     /// A command of the console was refused, and that put it in doubt where it says so.
@@ -130,18 +135,19 @@ impl<J: Journal> Doubts<J> {
         }
     }
 
-    /// The life has ended, and what its console heard is back: the command in doubt was the console's, or a hart's.
-    pub(crate) fn close(self, heard: Heard<J>)
-        ensures { (doubt : Option Change) → self ≡ entries_in (option_to_list doubt)
+    /// The life has ended, and what its console heard is back: the command in doubt was the console's, or a hart's. What the console did
+    /// with the bus comes back.
+    pub(crate) fn close(self, heard: Heard<J>) -> BusPart<J>
+        ensures woken { AreWakes heard.woken result }
+        ensures doubt { (doubt : Option Change) → self ≡ entries_in (option_to_list doubt)
             → IsDoubtOf J.size doubt heard.doubt }
     {
-        let Some(part) = heard.part else {
-            unreachable!()
-        };
+        let (part, run) = heard.into_parts();
         let Doubts { book, keeper } = self;
         let mut keeper = keeper;
         book.gather(&mut keeper, part);
         book.close(keeper);
+        run
     }
 }
 

@@ -1,14 +1,15 @@
 //! The harts' threads and the console, until all have ended.
 
-ghost use Rattle.std.specs.Prelude.{◌≡◌, ◌≤◌, ◌<◌, ◌+◌, ℕ, [], true, false, Some, All, IfOk, IfErr, vec_len, vec_capacity};
+ghost use Rattle.std.specs.Prelude.{◌≡◌, ◌≤◌, ◌<◌, ◌+◌, ℕ, [], true, false, Some, All, IfOk, IfErr, map, vec_len, vec_capacity};
 ghost use Rattle.board_model.specs.declared.refusal.Refusal.TheVariants.{Memory};
 ghost use Rattle.sbi_calls.specs.Both.{AreTablesOf, known};
 ghost use Rattle.machine.specs.Held.{IsHeld};
-ghost use Rattle.hart_threads.specs.Looks.{no_looks};
+ghost use Rattle.hart_threads.specs.Bused.{fresh_part};
 ghost use Rattle.hart_threads.specs.Refusals.{none_refused};
 ghost use Rattle.hart_threads.specs.Seated.{IsSeated};
 ghost use Rattle.hart_threads.specs.Threads.{seated};
-ghost use Rattle.hart_threads.specs.Begun.{BeginsAs, IsFromBoot, board_of};
+ghost use Rattle.hart_threads.specs.Begun.{AreFromLast, BeginsAs, IsFromBoot, board_of};
+ghost use Rattle.tallies.specs.Books.{fresh_from};
 
 use crate::closing::Closing;
 use crate::ends::{Rested, at_rest};
@@ -17,7 +18,7 @@ use crate::locks::Locks;
 use crate::loops::hart_loop;
 use crate::refusals::Refusals;
 use crate::seated::{ActingHart, seat_harts};
-use crate::shared::{HartLocal, SharedBoard};
+use crate::shared::{HartLocal, HartParts, SharedBoard};
 use crate::threaded::Threaded;
 use crate::works::{Rooms, StopSource, on_threads};
 use board_model::Refusal;
@@ -28,7 +29,7 @@ use std::alloc::Global;
 use std::sync::Wait;
 use std::thread::Threads;
 use susp::Doze;
-use tallies::{BookPart, Journal};
+use tallies::Journal;
 
 /// The harts that are to be driven, as the boot left them, and what their loops are given.
 #[derive(Drop)]
@@ -38,8 +39,8 @@ pub struct BootedHarts<J: Journal> {
     pub seats: Seats,
     /// The doze of the bus, where the board dozes. The hart of the doze is given a copy of it.
     pub doze: Option<Doze>,
-    /// A part of the receipts for each loop, which was told nothing yet.
-    pub parts: Vec<BookPart<J>>,
+    /// The parts of each loop, the first hart's first. They were told nothing yet.
+    pub parts: Vec<HartParts<J>>,
     /// How many turns each makes at most.
     pub turns: u64,
 }
@@ -54,14 +55,14 @@ pub struct Undriven<'a, J: Threaded, E: Drop> {
     /// The loops, which have ended: of each hart, or none.
     pub loops: Vec<Rested<'a, J>>,
     /// The parts that no loop had; they were told nothing.
-    pub parts: Vec<BookPart<J>>,
+    pub parts: Vec<HartParts<J>>,
 }
 
 /// No loop was begun.
 fn unbegun<'a, J: Threaded, E: Drop>(
     alloc: Global,
     refusal: Refusal,
-    parts: Vec<BookPart<J>>,
+    parts: Vec<HartParts<J>>,
     side: E,
 ) -> Undriven<'a, J, E>
     ensures refused { (result.side ≡ side) × (result.refusal ≡ refusal) }
@@ -114,14 +115,15 @@ pub fn drive<
     requires turns { booted.turns ≡ J.turns }
     requires gated { (h n : ℕ) → G.answers gate.now h n false → J.gated ≡ true }
     requires parts { vec_len booted.parts ≡ vec_len booted.harts }
-    requires fresh { All (λ p. p.told ≡ []) booted.parts.items }
+    requires runs { map (λ p. p.run) booted.parts.items ≡ fresh_from 2 (vec_len booted.parts) }
+    requires fresh { All (λ p. p.receipts.told ≡ []) booted.parts.items }
     requires held { IsHeld board.shape.now booted.harts.items board.tables.now (Some booted.seats) booted.doze }
     requires machine { J.machine ≡ board_of board.shape.now J.memory booted.doze booted.harts.items booted.seats }
     ensures said { IfOk result (λ r. K.post console side r.1) }
     ensures loops { IfOk result (λ r. vec_len r.0 ≡ vec_len booted.harts) }
     ensures refused { IfErr result (λ e. (e.side ≡ side) × (e.refusal ≡ Memory)) }
     ensures back { IfErr result (λ e. vec_len e.loops + vec_len e.parts ≡ vec_len booted.harts) }
-    ensures fresh { IfErr result (λ e. All (λ p. p.told ≡ []) e.parts.items) }
+    ensures fresh { IfErr result (λ e. All (λ p. p.receipts.told ≡ []) e.parts.items) }
 {
     let BootedHarts {
         harts,
@@ -172,15 +174,16 @@ struct HartWork<'r, 'g, 'a, 'c, 's, R, G: Gate, D: Disk + Drop, J: Threaded> {
     gate: &'g G,
     board: SharedBoard<'a, 'c, D, J, crew::Threads<'s, R>>,
     acting: ActingHart,
-    part: BookPart<J>,
+    parts: HartParts<J>,
     turns: u64,
     ghost sized: { board.shape.now ≡ J.size },
     ghost named: { J.machine.size ≡ board.shape.now },
     ghost remembered: { J.machine.memory ≡ J.memory },
     ghost tables: { AreTablesOf board.shape.now board.tables.now },
     ghost begins: { ∥ BeginsAs J.machine acting.hart.id
-        (seated acting.hart (known acting.seats) acting.doze no_looks none_refused) ∥₁ },
-    ghost fresh: { part.told ≡ [] },
+        (seated acting.hart (known acting.seats) acting.doze (fresh_part acting.hart.id) none_refused) ∥₁ },
+    ghost fresh: { parts.receipts.told ≡ [] },
+    ghost numbered: { parts.run ≡ fresh_part acting.hart.id },
     ghost given: { turns ≡ J.turns },
     ghost gated: { (h n : ℕ) → G.answers gate.now h n false → J.gated ≡ true },
 }
@@ -204,14 +207,15 @@ fn loop_of<
         gate,
         board,
         acting,
-        part,
+        parts,
         turns,
     } = work;
     let ActingHart { hart, seats, doze } = acting;
     let local = HartLocal {
         seats,
         doze,
-        part,
+        part: parts.receipts,
+        run: parts.run,
         refused: Refusals::none(),
     };
     let locks = Locks::new(board.bus, board.store);
@@ -242,38 +246,40 @@ fn works_of<
     gate: &'g G,
     board: SharedBoard<'a, 'c, D, J, crew::Threads<'s, R>>,
     all: Vec<ActingHart>,
-    parts: Vec<BookPart<J>>,
+    parts: Vec<HartParts<J>>,
     turns: u64,
     room: Vec<HartWork<'r, 'g, 'a, 'c, 's, R, G, D, J>>,
 ) -> (
     Vec<HartWork<'r, 'g, 'a, 'c, 's, R, G, D, J>>,
-    Vec<BookPart<J>>,
+    Vec<HartParts<J>>,
 )
     requires board { board.shape.now ≡ J.size }
     requires named { (J.machine.size ≡ board.shape.now) × (J.machine.memory ≡ J.memory) }
     requires turns { turns ≡ J.turns }
+    requires numbered { AreFromLast all.items }
+    requires runs { map (λ p. p.run) parts.items ≡ fresh_from 2 (vec_len parts) }
     requires gated { (h n : ℕ) → G.answers gate.now h n false → J.gated ≡ true }
     requires tables { AreTablesOf board.shape.now board.tables.now }
     requires begun { All (λ a. IsFromBoot J.machine board.tables.now a.hart a.seats a.doze) all.items }
     requires parts { vec_len parts ≡ vec_len all }
-    requires fresh { All (λ p. p.told ≡ []) parts.items }
+    requires fresh { All (λ p. p.receipts.told ≡ []) parts.items }
     requires room { (vec_len room ≡ 0) × (vec_capacity room ≡ vec_len all) }
     ensures all { vec_len result.0 ≡ vec_len all }
     ensures none { vec_len result.1 ≡ 0 }
     ensures seated { All (λ w. IsSeated w.board.tables.now w.acting.hart.id w.acting.seats w.acting.doze)
         result.0.items }
-    ensures fresh { All (λ p. p.told ≡ []) result.1.items }
+    ensures fresh { All (λ p. p.receipts.told ≡ []) result.1.items }
 {
     let (mut works, mut parts) = (room, parts);
     for acting in all {
-        let part = next_part(&mut parts);
+        let parts_of_one = next_parts(&mut parts);
         known_begun::<J>(&acting, board.tables);
         works.push_reserved(HartWork {
             rt,
             gate,
             board,
             acting,
-            part,
+            parts: parts_of_one,
             turns,
         });
     }
@@ -286,22 +292,25 @@ fn known_begun<J: Threaded>(acting: &ActingHart, tables: &Tables)
     requires { IsFromBoot J.machine tables.now acting.now.hart acting.now.seats acting.now.doze }
     ensures seated { IsSeated tables.now acting.now.hart.id acting.now.seats acting.now.doze }
     ensures begins { ∥ BeginsAs J.machine acting.now.hart.id
-        (seated acting.now.hart (known acting.now.seats) acting.now.doze no_looks none_refused) ∥₁ }
+        (seated acting.now.hart (known acting.now.seats) acting.now.doze (fresh_part acting.now.hart.id) none_refused) ∥₁ }
 {
     let _ = acting;
     let _ = tables;
 }
 
-/// One of the parts.
-fn next_part<J: Threaded>(parts: &mut Vec<BookPart<J>>) -> BookPart<J>
+/// The last of the parts.
+fn next_parts<J: Threaded>(parts: &mut Vec<HartParts<J>>) -> HartParts<J>
     requires some { 0 < vec_len parts.old }
-    requires fresh { All (λ p. p.told ≡ []) parts.old.items }
-    ensures told { result.told ≡ [] }
-    ensures fresh { All (λ p. p.told ≡ []) parts.new.items }
+    requires runs { map (λ p. p.run) parts.old.items ≡ fresh_from 2 (vec_len parts.old) }
+    requires fresh { All (λ p. p.receipts.told ≡ []) parts.old.items }
+    ensures told { result.receipts.told ≡ [] }
+    ensures fresh { All (λ p. p.receipts.told ≡ []) parts.new.items }
+    ensures run { result.run ≡ fresh_part (vec_len parts.new) }
+    ensures runs { map (λ p. p.run) parts.new.items ≡ fresh_from 2 (vec_len parts.new) }
     ensures rest { vec_len parts.new + 1 ≡ vec_len parts.old }
 {
-    let Some(part) = parts.pop() else {
+    let Some(last) = parts.pop() else {
         unreachable!()
     };
-    part
+    last
 }

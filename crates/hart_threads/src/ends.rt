@@ -41,7 +41,7 @@ pub struct Rested<'a, J: Threaded> {
     set: Option<HaltSet<J>>,
     pub ghost halted: { (ended.why ≡ Life → IsTrue (is_some set)) },
     pub ghost gone: { ∥ ((k : Known) × HasGone J.machine J.turns ended.made
-        (seated ended.hart k ended.local.doze ended.looks ended.local.refused) ended.why ended.told
+        (seated ended.hart k ended.local.doze ended.local.run ended.local.refused) ended.why ended.told
         × IsStateOf state ended.hart.id k.harts) ∥₁ },
 }
 
@@ -162,16 +162,16 @@ pub(crate) fn at_rest<'a, J: Threaded>(
     requires hart { ended.hart.id < harts_of_both tables.now }
     requires stands { StandsAfter ended.why ended.local.doze ended.hart.id ended.local.seats }
     requires gone { ∥ HasGone J.machine J.turns ended.made
-        (seated ended.hart (known ended.local.seats) ended.local.doze ended.looks ended.local.refused) ended.why ended.told ∥₁ }
+        (seated ended.hart (known ended.local.seats) ended.local.doze ended.local.run ended.local.refused) ended.why ended.told ∥₁ }
     ensures state { StandsBy result.state ended.entry.hart.id (views result.ended.local.seats) }
     ensures hart { result.ended.hart ≡ ended.entry.hart }
     ensures doze { result.ended.local.doze ≡ ended.entry.local.doze }
+    ensures run { result.ended.local.run ≡ ended.entry.local.run }
     ensures same { (result.ended.made ≡ ended.entry.made) × (result.ended.why ≡ ended.entry.why) }
 {
     let Ended {
         hart,
         local,
-        looks,
         asked,
         made,
         why,
@@ -182,6 +182,7 @@ pub(crate) fn at_rest<'a, J: Threaded>(
         seats,
         doze,
         part,
+        run,
         refused,
     } = local;
     let Seats { harts, pending } = seats;
@@ -191,12 +192,12 @@ pub(crate) fn at_rest<'a, J: Threaded>(
         seats,
         doze,
         part,
+        run,
         refused,
     };
     let ended = Ended {
         hart,
         local,
-        looks,
         asked,
         made,
         why,
@@ -246,7 +247,7 @@ impl<'a, J: Threaded> Rested<'a, J> {
     pub fn end(&self, parted: &Parted<'a, J>) -> HartEnd
         ensures told { result ≡ ending self.now.ended.hart self.now.state self.now.ended.local.doze self.now.ended.made
             self.now.ended.asked self.now.ended.why result.by }
-        ensures well { IsEnding J.machine J.turns J.found J.gated parted.now.token.value result }
+        ensures well { IsEnding J.machine J.turns J.found J.gated parted.now.token.value self.now.ended.local.run result }
     {
         let ended = &self.ended;
         known_told(&ended.told);

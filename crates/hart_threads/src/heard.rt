@@ -1,11 +1,14 @@
 //! What a holder of a shared store heard that is no receipt.
 
-ghost use Rattle.std.specs.Prelude.{◌≡◌, [], false, Ok};
-ghost use Rattle.hart_threads.specs.Doubts.{HoldsDoubt};
-ghost use Rattle.hart_threads.specs.Heard.{Hearing, after_look, after_refusal, after_waking, heard_nothing};
+ghost use Rattle.std.specs.Prelude.{◌≡◌, [], false};
+ghost use Rattle.hart_threads.specs.Bused.{AreWakes, HoldsWakes, console_part};
+ghost use Rattle.hart_threads.specs.Doubts.{HoldsDoubt, doubt_told};
+ghost use Rattle.tallies.specs.Books.{part_view};
+ghost use Rattle.hart_threads.specs.Heard.{Hearing, after_look, after_refusal, heard_nothing};
 
+use crate::bus_turns::BusPart;
 use crate::doubts::OfDoubts;
-use board_model::{Command, Durable, Refusal};
+use board_model::{Command, Durable, Entry, Refusal};
 use std::marker::Model;
 use tallies::{BookPart, Journal};
 
@@ -21,9 +24,11 @@ pub struct Heard<J: Journal> {
     pub(crate) doubt: Option<Command>,
     shown: u64,
     state: Option<Durable>,
-    woken: u64,
+    pub(crate) woken: u64,
     // Its part of the book of what is in doubt, which stays here but for the moment in which that book notes a command.
-    pub(crate) part: Option<BookPart<OfDoubts<J>>>,
+    pub(crate) part: Option<BookPart<OfDoubts<J>, Entry>>,
+    // Its part of the history of the bus, the same: it was told each time that the console woke the board.
+    pub(crate) run: Option<BusPart<J>>,
 }
 
 impl<J: Journal> Model for Heard<J> {
@@ -31,13 +36,14 @@ impl<J: Journal> Model for Heard<J> {
 
     ghost view = { λ h. record { refused = h.refused; refusal = h.refusal; doubt = h.doubt; shown = h.shown; state = h.state; woken = h.woken } };
 
-    ghost invariant = { λ h. HoldsDoubt h.part h.doubt };
+    ghost invariant = { λ h. HoldsDoubt h.part h.doubt × HoldsWakes h.run h.woken };
 }
 
 impl<J: Journal> Heard<J> {
     /// Nothing yet.
-    pub(crate) fn nothing(part: BookPart<OfDoubts<J>>) -> Heard<J>
-        requires { part.told ≡ [] }
+    pub(crate) fn nothing(part: BookPart<OfDoubts<J>, Entry>, run: BusPart<J>) -> Heard<J>
+        requires part { part.told ≡ [] }
+        requires run { run ≡ part_view console_part [] }
         ensures { result ≡ heard_nothing }
     {
         Heard {
@@ -48,6 +54,7 @@ impl<J: Journal> Heard<J> {
             state: None,
             woken: 0,
             part: Some(part),
+            run: Some(run),
         }
     }
 
@@ -67,11 +74,15 @@ impl<J: Journal> Heard<J> {
         self.state = Some(state);
     }
 
-    /// The board was woken.
-    pub(crate) fn wake(&mut self)
-        ensures { self.new ≡ after_waking (Ok tt) self.old }
+    /// The life has ended: what the book of what is in doubt was told of the console, and what it did with the bus.
+    pub(crate) fn into_parts(self) -> (BookPart<OfDoubts<J>, Entry>, BusPart<J>)
+        ensures doubt { result.0.told ≡ doubt_told self.doubt }
+        ensures woken { AreWakes self.woken result.1 }
     {
-        self.woken = self.woken.wrapping_add(1);
+        let Heard { part, run, .. } = self;
+        let Some(part) = part else { unreachable!() };
+        let Some(run) = run else { unreachable!() };
+        (part, run)
     }
 
     /// How many commands were refused.

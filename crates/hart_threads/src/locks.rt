@@ -2,14 +2,16 @@
 
 ghost use Rattle.std.specs.Prelude.{◌≡◌, ℕ, List, true, false};
 ghost use Rattle.hart.specs.Means.{Steps};
+ghost use Rattle.hart_threads.specs.Bused.{StepsBus};
 ghost use Rattle.hart_threads.specs.Locks.{Held, no_locks, with_bus, with_store};
 ghost use Rattle.hart_threads.specs.Runs.{StepsMake};
 
+use crate::bus_turns::BusPart;
 use crate::buses::SharedBus;
 use crate::shared_store::SharedStore;
 use disk::Disk;
 use hart::{Hart, Outcome};
-use std::marker::Model;
+use std::marker::{Brand, Model};
 use std::sync::{Mutex, MutexGuard, Wait};
 use tallies::Journal;
 
@@ -103,12 +105,18 @@ pub struct BusLock<'a, J: Journal> {
 impl<'a, J: Journal> BusLock<'a, J> {
     /// One step of the hart, as `SharedBus::step`, in one hold of the bus.
     #[inline(always)]
-    pub fn step<R: Wait>(&mut self, rt: &R, hart: &mut Hart, pending: bool) -> Outcome
+    pub fn step<R: Wait>(
+        &mut self,
+        rt: &R,
+        hart: &mut Hart,
+        pending: bool,
+        part: BusPart<J>,
+    ) -> (Outcome, BusPart<J>)
         ensures { (found : List ℕ) × (left : List ℕ) × StepsMake J.memory found × StepsMake J.memory left
-            × Steps pending hart.old found hart.new left result }
+            × StepsBus part result.1 found left × Steps pending hart.old found hart.new left result.0 }
     {
         let mut bus = self.bus.lock(rt);
-        bus.step(hart, pending)
+        bus.step::<Brand>(hart, pending, part)
     }
 }
 

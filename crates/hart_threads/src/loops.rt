@@ -6,12 +6,10 @@ ghost use Rattle.sbi_calls.specs.Both.{AreTablesOf, GivesBack, known};
 ghost use Rattle.hart_threads.specs.Locks.{no_locks};
 ghost use Rattle.hart_threads.specs.Noted.{part_after};
 ghost use Rattle.hart_threads.specs.declared.loops.Why.TheVariants.{Life, Closed, Gate as ByGate, Turns};
-ghost use Rattle.hart_threads.specs.Looks.{no_looks};
 ghost use Rattle.hart_threads.specs.Seated.{IsSeated, StandsAfter};
 ghost use Rattle.hart_threads.specs.Threads.{seated, ends_life, LoopOnce};
 
 use crate::closing::{HaltPolls, Shut};
-use crate::dozes::DozeLooks;
 use crate::gates::Gate;
 use crate::locks::Locks;
 use crate::receipts::CommandReceipt;
@@ -44,8 +42,6 @@ pub struct Ended<'a, J: Threaded> {
     pub hart: Hart,
     /// What it has beside its registers. Its part of the receipts was told that of `told`, and no other.
     pub local: HartLocal<J>,
-    /// Its looks at the bus in a doze.
-    pub looks: DozeLooks,
     /// How often it asked what ends all loops, and nothing did: once for each turn.
     pub asked: HaltPolls<J>,
     /// How many turns it made.
@@ -69,7 +65,6 @@ pub struct Ended<'a, J: Threaded> {
 struct HartRun<J: Threaded> {
     hart: Hart,
     local: HartLocal<J>,
-    looks: DozeLooks,
     asked: HaltPolls<J>,
 }
 
@@ -89,19 +84,13 @@ impl<J: Threaded> HartRun<J> {
         requires closed { why ≡ Closed → IsTrue (is_some shut) }
         requires gated { why ≡ ByGate → J.gated ≡ true }
         requires looked { made ≤ self.asked }
-        ensures hart { (result.hart ≡ self.hart) × (result.local ≡ self.local) × (result.looks ≡ self.looks) }
+        ensures hart { (result.hart ≡ self.hart) × (result.local ≡ self.local) }
         ensures end { (result.made ≡ made) × (result.why ≡ why) × (result.told ≡ told) }
     {
-        let HartRun {
-            hart,
-            local,
-            looks,
-            asked,
-        } = self;
+        let HartRun { hart, local, asked } = self;
         Ended {
             hart,
             local,
-            looks,
             asked,
             made,
             why,
@@ -147,14 +136,13 @@ pub fn hart_loop<'c, R: Wait, G: Gate, D: Disk + Drop, J: Threaded, C: Crew>(
     ensures noted { result.local.part ≡ part_after result.told local.part }
     ensures range { result.made ≤ turns }
     ensures once { LoopOnce board.entry.shape.now J.memory (G.answers gate.now hart.id) (G.hears gate.now hart.id) turns
-        result.made (seated hart (known local.seats) local.doze no_looks local.refused)
-        (seated result.hart (known result.local.seats) result.local.doze result.looks result.local.refused) result.why
+        result.made (seated hart (known local.seats) local.doze local.run local.refused)
+        (seated result.hart (known result.local.seats) result.local.doze result.local.run result.local.refused) result.why
         result.told }
 {
     let mut run = HartRun {
         hart,
         local,
-        looks: DozeLooks::none(),
         asked: HaltPolls::none(board.closing),
     };
     let mut locks = locks;
@@ -167,7 +155,7 @@ pub fn hart_loop<'c, R: Wait, G: Gate, D: Disk + Drop, J: Threaded, C: Crew>(
             return run.end(made, Why::Gate, None, None);
         };
         let local = run.local;
-        let (end, turn) = whole_turn(rt, board, &mut run.hart, &mut run.looks, local, allowed);
+        let (end, turn) = whole_turn(rt, board, &mut run.hart, local, allowed);
         run.local = end.local;
         locks = tell(gate, turn);
         if !end.word.goes_on() {

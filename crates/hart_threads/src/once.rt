@@ -1,6 +1,7 @@
 //! What a turn of a hart on its thread takes a lock for: a step, and a durable call.
 
-ghost use Rattle.std.specs.Prelude.{◌≡◌, ◌<◌};
+ghost use Rattle.std.specs.Prelude.{◌≡◌, ◌<◌, IsTrue, is_some};
+ghost use Rattle.hart_threads.specs.Bused.{CallsBus, StepsBus, part_in};
 ghost use Rattle.hsm.specs.declared.view.Stage.TheVariants.{Running};
 ghost use Rattle.sbi_abi.specs.Calls.{call_of};
 ghost use Rattle.sbi_calls.specs.Both.{AreTablesOf, AreSeatsOfBoth, GivesBack, Acts, known};
@@ -11,6 +12,7 @@ ghost use Rattle.hart_threads.specs.Runs.{StepsMake};
 ghost use Rattle.hart_threads.specs.Locks.{no_locks};
 ghost use Rattle.hart_threads.specs.Threads.{HeldOnce, IsDozeBy, RefusedOnce};
 
+use crate::bus_turns::{BusPart, held_part};
 use crate::locks::{BusLock, Locks};
 use crate::shared::{HartLocal, LoopBoard, TurnEnd};
 use crate::threaded::Threaded;
@@ -25,6 +27,9 @@ use turns::MemoryBus;
 pub(crate) struct LockedBus<'r, 'a, R, J: Threaded> {
     pub(crate) rt: &'r R,
     pub(crate) bus: BusLock<'a, J>,
+    // The hart's part of the history of the bus, which stays here but for the moment of a step.
+    pub(crate) run: Option<BusPart<J>>,
+    pub(crate) ghost there: { IsTrue (is_some run) },
 }
 
 impl<'r, 'a, R: Wait, J: Threaded> MemoryBus for LockedBus<'r, 'a, R, J> {
@@ -32,11 +37,17 @@ impl<'r, 'a, R: Wait, J: Threaded> MemoryBus for LockedBus<'r, 'a, R, J> {
 
     ghost may_hold = { λ bus memory. StepsMake J.memory memory };
 
+    ghost stepped = { λ bus after found left.
+        StepsMake J.memory found × StepsMake J.memory left × StepsBus (part_in bus.run) (part_in after.run) found left };
+
     ghost holds_one = { λ bus. (J.memory, ∣ (0, refl) ∣₁) };
 
     #[inline(always)]
     fn step(&mut self, hart: &mut Hart, pending: bool) -> Outcome {
-        self.bus.step(self.rt, hart, pending)
+        let part = held_part(self.run.take());
+        let (outcome, part) = self.bus.step(self.rt, hart, pending, part);
+        self.run = Some(part);
+        outcome
     }
 }
 
@@ -65,6 +76,7 @@ pub(crate) fn call_locked<R: Wait, D: Disk + Drop, J: Threaded, C: Crew>(
         (known result.local.seats) result.word }
     ensures refused { RefusedOnce (call_of hart.old) result.word hart.new local.refused result.local.refused }
     ensures doze { IsDozeBy board.entry.shape.now (call_of hart.old) hart.old.id result.word result.local.doze }
+    ensures took { CallsBus result.word result.local.doze local.run result.local.run }
 {
     let mut guard = locks.take_bus(rt);
     let bus = &mut *guard;

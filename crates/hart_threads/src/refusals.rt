@@ -6,6 +6,7 @@ ghost use Rattle.hsm.specs.declared.view.Stage.TheVariants.{Running};
 ghost use Rattle.sbi.specs.Words.{stage_told};
 ghost use Rattle.sbi_abi.specs.Calls.{call_of};
 ghost use Rattle.sbi_calls.specs.Both.{AreTablesOf, AreSeatsOfBoth, GivesBack, Acts, known};
+ghost use Rattle.hart_threads.specs.Bused.{CallsBus};
 ghost use Rattle.hart_threads.specs.Called.{IsToldBy};
 ghost use Rattle.hart_threads.specs.Noted.{part_after};
 ghost use Rattle.hart_threads.specs.Views.{bus_in, store_in};
@@ -114,6 +115,7 @@ impl<J: Threaded> HartLocal<J> {
             (known result.local.seats) result.word }
         ensures refused { RefusedOnce (call_of hart.old) result.word hart.new self.refused result.local.refused }
         ensures doze { IsDozeBy board.entry.shape.now (call_of hart.old) hart.old.id result.word result.local.doze }
+        ensures took { CallsBus result.word result.local.doze self.run result.local.run }
         ensures denied { finds_failure result.word (reg hart.new 10) ≡ true
             → Denies (call_of hart.old) hart.old.id (bus_in bus.old).ram (store_in store.old) (store_in store.new) }
     {
@@ -121,16 +123,18 @@ impl<J: Threaded> HartLocal<J> {
             seats,
             doze: _,
             part,
+            run,
             mut refused,
         } = self;
         let call = Call::of(hart);
-        let (seats, word, told, part) = store.call(
+        let (seats, word, told, part, run) = store.call(
             board.saving,
             hart,
             seats,
             board.tables,
             bus,
             part,
+            run,
         );
         refused.count(call, word, hart);
         let found = bus.doze();
@@ -139,6 +143,7 @@ impl<J: Threaded> HartLocal<J> {
             seats,
             doze,
             part,
+            run,
             refused,
         };
         TurnEnd { local, word, told }

@@ -2,13 +2,14 @@
 
 ghost use Rattle.std.specs.Prelude.{◌≡◌};
 
+use crate::bus_turns::BusPart;
 use crate::buses::SharedBus;
 use crate::closing::Closing;
 use crate::receipts::CommandReceipt;
 use crate::refusals::Refusals;
 use crate::shared_store::SharedStore;
 use crate::threaded::Threaded;
-use board_model::Shape;
+use board_model::{Entry, Shape};
 use disk::Disk;
 use sbi::Word;
 use sbi_calls::{Seats, Tables};
@@ -76,9 +77,18 @@ pub struct HartLocal<J: Journal> {
     /// Its own copy of its doze, where the board dozes by it.
     pub doze: Option<Doze>,
     /// Its part of the journal's receipts.
-    pub part: BookPart<J>,
+    pub part: BookPart<J, Entry>,
+    /// Its part of the history of the bus.
+    pub run: BusPart<J>,
     /// Its calls that the store refused.
     pub refused: Refusals<J>,
+}
+
+/// What the loop of a hart has of the books of its life: its part of the receipts, and of the history of the bus.
+#[derive(Drop)]
+pub struct HartParts<J: Journal> {
+    pub receipts: BookPart<J, Entry>,
+    pub run: BusPart<J>,
 }
 
 /// What a turn of a hart came to.

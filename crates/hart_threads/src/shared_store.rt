@@ -1,6 +1,6 @@
 //! A store that knows of which life its journal is.
 
-ghost use Rattle.std.specs.Prelude.{◌≡◌, ◌≤◌, ◌<◌, length, true, None, Err, IfOk, IfSome};
+ghost use Rattle.std.specs.Prelude.{◌≡◌, ◌≤◌, ◌<◌, length, true, None, Err, IfOk, IfSome, IsTrue, is_some};
 ghost use Rattle.board_model.specs.Durable.{DurableState, Change, fold, refusal_of};
 ghost use Rattle.board_model.specs.Shapes.{Size};
 ghost use Rattle.board_model.specs.Views.{change_of, durable_of};
@@ -17,11 +17,13 @@ ghost use Rattle.tallies.specs.Books.{entries_of};
 ghost use Rattle.hart_threads.specs.Doubts.{newly_down};
 ghost use Rattle.hart_threads.specs.Noted.{entries_in, part_after, part_by};
 ghost use Rattle.hart_threads.specs.Heard.{after_look, heard_by};
+ghost use Rattle.hart_threads.specs.Bused.{AreSaved, IsCalled, TakesBus, part_in};
 ghost use Rattle.hart_threads.specs.Called.{IsToldBy, IsLastOf};
 ghost use Rattle.hart_threads.specs.Legal.{BeginsWith, IsNamed, MayAnswer, MayShow, number_told};
 ghost use Rattle.hart_threads.specs.Runs.{IsCarried};
 ghost use Rattle.hart_threads.specs.Since.{AreKept, moments_after, moments_told};
 
+use crate::bus_turns::{BusPart, CallParts, held_part};
 use crate::buses::SharedBus;
 use crate::doubts::{Doubts, is_up, newly_down};
 use crate::heard::Heard;
@@ -34,6 +36,7 @@ use disk::Disk;
 use hart::Hart;
 use sbi::Word;
 use sbi_calls::{Seats, Tables};
+use std::marker::Brand;
 use store::{Saving, Store};
 use tallies::{Book, BookPart, Journal, Keeper};
 
@@ -50,14 +53,18 @@ use tallies::{Book, BookPart, Journal, Keeper};
 pub struct SharedStore<D: Disk + Drop, J: Journal> {
     pub(crate) store: Store<D>,
     pub(crate) count: u32,
-    pub(crate) book: Book<J>,
-    pub(crate) keeper: Keeper<J>,
+    pub(crate) book: Book<J, Entry>,
+    pub(crate) keeper: Keeper<J, Entry>,
     pub(crate) doubts: Doubts<J>,
+    // Its part of the history of the bus, which stays here but for the moment in which that notes a look.
+    run: Option<BusPart<J>>,
     // For the functions of this file alone, each of which says what it does with them: under a lock no other can.
     moments: Moments,
     ghost named: { IsNamed J.found J.size store },
     ghost issued: { BeginsWith J.issued (journal_of store) },
     ghost carried: { IsCarried J.memory (life_of store) },
+    ghost there: { IsTrue (is_some run) },
+    ghost saved: { AreSaved (life_of store) (part_in run) },
     ghost counted: { count ≡ receipts store },
     ghost few: { count ≤ 4096 },
     ghost tied: { entries_in (journal_of store) ≡ entries_of keeper.log },
@@ -84,6 +91,7 @@ impl<D: Disk + Drop, J: Journal> SharedStore<D, J> {
             keeper,
             doubts,
             moments,
+            run,
         } = whole;
         SharedStore {
             store,
@@ -92,6 +100,7 @@ impl<D: Disk + Drop, J: Journal> SharedStore<D, J> {
             keeper,
             doubts,
             moments,
+            run,
         }
     }
 
@@ -114,7 +123,11 @@ impl<D: Disk + Drop, J: Journal> SharedStore<D, J> {
 
     /// The durable state now, for the holder of that part, which hears of it: the part's own receipts stand in the
     /// journal that made it.
-    pub fn now(&mut self, part: BookPart<J>, heard: &mut Heard<J>) -> (BookPart<J>, Durable)
+    pub fn now(
+        &mut self,
+        part: BookPart<J, Entry>,
+        heard: &mut Heard<J>,
+    ) -> (BookPart<J, Entry>, Durable)
         ensures now { result.1 ≡ durable_of (now_state (store_in self.old)) }
         ensures same { store_in self.new ≡ store_in self.old }
         ensures moments { moments_in self.new ≡ moments_in self.old }
@@ -131,10 +144,10 @@ impl<D: Disk + Drop, J: Journal> SharedStore<D, J> {
     /// refusal.
     pub fn apply(
         &mut self,
-        part: BookPart<J>,
+        part: BookPart<J, Entry>,
         heard: &mut Heard<J>,
         command: Command,
-    ) -> (BookPart<J>, Result<CommandReceipt<J>, Refusal>)
+    ) -> (BookPart<J, Entry>, Result<CommandReceipt<J>, Refusal>)
         ensures asked { Asked Applied (store_in self.old) (change_of command) (number_told result.1)
             (store_in self.new) }
         ensures may { MayAnswer J.found (change_of command) (number_told result.1) }
@@ -177,8 +190,15 @@ impl<D: Disk + Drop, J: Journal> SharedStore<D, J> {
         seats: Seats,
         tables: &Tables,
         bus: &mut SharedBus<J>,
-        part: BookPart<J>,
-    ) -> (Seats, Word, Option<CommandReceipt<J>>, BookPart<J>)
+        part: BookPart<J, Entry>,
+        run: BusPart<J>,
+    ) -> (
+        Seats,
+        Word,
+        Option<CommandReceipt<J>>,
+        BookPart<J, Entry>,
+        BusPart<J>,
+    )
         requires seats { AreSeatsOfBoth tables.now seats }
         requires acts { Acts hart.old.id Running seats }
         requires hart { hart.old.id < harts_of_both tables.now }
@@ -194,12 +214,31 @@ impl<D: Disk + Drop, J: Journal> SharedStore<D, J> {
         ensures noted { result.3 ≡ part_after result.2 part }
         ensures moments { moments_in self.new
             ≡ moments_told result.2 (disk_of (store_in self.new)).moment (moments_in self.old) }
+        ensures called { IsCalled result.1 (bus_in bus.old) (bus_in bus.new) }
+        ensures took { TakesBus (bus_in bus.old) (bus_in bus.new) run result.4 }
     {
         let was_up = is_up(&self.store);
-        let (seats, word) = bus.call(saving, hart, seats, tables, &mut self.store);
+        let own = held_part(self.run.take());
+        let parts = CallParts {
+            caller: run,
+            store: own,
+        };
+        let (seats, word, parts) = bus.call::<Brand, D, C>(
+            saving,
+            hart,
+            seats,
+            tables,
+            &mut self.store,
+            parts,
+        );
+        let CallParts {
+            caller: run,
+            store: own,
+        } = parts;
+        self.run = Some(own);
         self.doubts.note(was_up, self.store.in_doubt());
         match word {
-            Word::Goes(_) => (seats, word, None, part),
+            Word::Goes(_) => (seats, word, None, part, run),
             Word::Over(_) => {
                 self.count += 1;
                 self.moments.add(&self.store);
@@ -209,7 +248,7 @@ impl<D: Disk + Drop, J: Journal> SharedStore<D, J> {
                 let told = CommandReceipt::new(self.count, entry);
                 let noted = told.entry();
                 let part = self.book.note(&mut self.keeper, part, noted);
-                (seats, word, Some(told), part)
+                (seats, word, Some(told), part, run)
             }
         }
     }
@@ -227,6 +266,7 @@ impl<D: Disk + Drop, J: Journal> SharedStore<D, J> {
             keeper,
             doubts,
             moments,
+            run,
         } = self;
         Unshared {
             store,
@@ -235,6 +275,7 @@ impl<D: Disk + Drop, J: Journal> SharedStore<D, J> {
             keeper,
             doubts,
             moments,
+            run,
         }
     }
 }

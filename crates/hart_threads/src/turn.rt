@@ -1,18 +1,18 @@
 //! A turn of a hart that its gate let begin.
 
-ghost use Rattle.std.specs.Prelude.{◌≡◌, ◌≤◌, ◌<◌, ◌+◌, ◌-◌, ◌^◌, ℕ, Bool, true, false, Some, None, MatchOption};
+ghost use Rattle.std.specs.Prelude.{◌≡◌, ◌<◌, ℕ, true, false, Some, None, MatchOption};
 ghost use Rattle.hsm.specs.declared.view.Stage.TheVariants.{Running};
 ghost use Rattle.sbi_calls.specs.Both.{AreTablesOf, AreSeatsOfBoth, Acts, GivesBack, known};
 ghost use Rattle.sbi_calls.specs.declared.words.Turned.TheVariants.{Durable};
 ghost use Rattle.machine.specs.Held.{RestsBy};
 ghost use Rattle.hart_threads.specs.Locks.{no_locks};
 ghost use Rattle.hart_threads.specs.Noted.{part_after};
-ghost use Rattle.hart_threads.specs.Looks.{Looked};
 ghost use Rattle.hart_threads.specs.Seated.{IsSeated, StandsAfterTurn};
-ghost use Rattle.hart_threads.specs.Threads.{seated, ComesOnce, OwnOnce, DozeOnce, TurnOnce};
+ghost use Rattle.hart_threads.specs.Threads.{seated, ComesOnce, OwnOnce, LookOnce, TurnOnce};
 
+use crate::bus_turns::held_part;
 use crate::closing::Unhalted;
-use crate::dozes::{DozeLooks, doze_turn};
+use crate::dozes::doze_turn;
 use crate::gates::Gate;
 use crate::locks::Locks;
 use crate::once::{LockedBus, call_locked};
@@ -115,9 +115,10 @@ fn came_of<R: Wait, D: Disk + Drop, J: Threaded, C: Crew>(
     ensures stands { StandsAfterTurn result.word result.local.doze hart.old.id result.local.seats }
     ensures id { hart.new.id ≡ hart.old.id }
     ensures noted { result.local.part ≡ part_after result.told local.part }
-    ensures once { (looks : Looked) → ComesOnce board.entry.shape.now turned
-        (seated hart.old (known local.seats) local.doze looks local.refused)
-        (seated hart.new (known result.local.seats) result.local.doze looks result.local.refused) result.word result.told }
+    ensures once { ComesOnce board.entry.shape.now turned
+        (seated hart.old (known local.seats) local.doze local.run local.refused)
+        (seated hart.new (known result.local.seats) result.local.doze result.local.run result.local.refused) result.word
+        result.told }
 {
     match turned {
         Turned::Durable => call_locked(rt, board, locks, hart, local),
@@ -146,26 +147,33 @@ fn own_turn<'a, R: Wait, D: Disk + Drop, J: Threaded, C: Crew>(
     ensures stands { StandsAfterTurn result.0.word result.0.local.doze hart.old.id result.0.local.seats }
     ensures id { hart.new.id ≡ hart.old.id }
     ensures noted { result.0.local.part ≡ part_after result.0.told local.part }
-    ensures once { (looks : Looked) → OwnOnce board.entry.shape.now J.memory
-        (seated hart.old (known local.seats) None looks local.refused)
-        (seated hart.new (known result.0.local.seats) result.0.local.doze looks result.0.local.refused) result.0.word
-        result.0.told }
+    ensures once { OwnOnce board.entry.shape.now J.memory
+        (seated hart.old (known local.seats) None local.run local.refused)
+        (seated hart.new (known result.0.local.seats) result.0.local.doze result.0.local.run result.0.local.refused)
+        result.0.word result.0.told }
 {
     let HartLocal {
         seats,
         doze: _,
         part,
+        run,
         refused,
     } = local;
     let (bus, apart) = locks.apart();
-    let mut bus = LockedBus { rt, bus };
+    let mut bus = LockedBus {
+        rt,
+        bus,
+        run: Some(run),
+    };
     let (seats, turned) = turn_by_bus(hart, seats, board.tables, &mut bus, board.shape);
-    let LockedBus { rt: _, bus } = bus;
+    let LockedBus { rt: _, bus, run } = bus;
+    let run = held_part(run);
     let mut locks = apart.whole(bus);
     let local = HartLocal {
         seats,
         doze: None,
         part,
+        run,
         refused,
     };
     let end = came_of(rt, board, &mut locks, hart, local, turned);
@@ -178,36 +186,34 @@ fn dozing_turn<R: Wait, D: Disk + Drop, J: Threaded>(
     tables: &Tables,
     locks: &mut Locks<'_, D, J>,
     hart: &mut Hart,
-    looks: &mut DozeLooks,
     local: HartLocal<J>,
     doze: Doze,
 ) -> TurnEnd<J>
     requires seated { IsSeated tables.now hart.old.id local.seats (Some doze) }
-    requires few { looks.old.made < 2 ^ 64 - 1 }
     requires free { locks.old ≡ no_locks }
     ensures free { locks.new ≡ no_locks }
     ensures gives { GivesBack tables.entry.now hart.old.id local.seats result.local.seats }
     ensures stands { StandsAfterTurn result.word result.local.doze hart.old.id result.local.seats }
     ensures id { hart.new.id ≡ hart.old.id }
-    ensures range { looks.new.made ≡ looks.old.made + 1 }
     ensures noted { (result.local.part ≡ local.part) × (result.told ≡ None) }
-    ensures once { (woken : Bool) × DozeOnce woken doze
-        (seated hart.old (known local.seats) (Some doze) looks.old local.refused)
-        (seated hart.new (known result.local.seats) result.local.doze looks.new result.local.refused) result.word }
+    ensures once { LookOnce doze (seated hart.old (known local.seats) (Some doze) local.run local.refused)
+        (seated hart.new (known result.local.seats) result.local.doze result.local.run result.local.refused) result.word }
 {
     let HartLocal {
         seats,
         doze: _,
         part,
+        run,
         refused,
     } = local;
     let mut bus = locks.take_bus(rt);
-    let (seats, word, doze) = doze_turn(&mut bus, hart, seats, tables, doze, looks);
+    let (seats, word, doze, run) = doze_turn(&mut bus, hart, seats, tables, doze, run);
     locks.give_bus(bus);
     let local = HartLocal {
         seats,
         doze,
         part,
+        run,
         refused,
     };
     TurnEnd {
@@ -224,24 +230,21 @@ pub(crate) fn whole_turn<'a, R: Wait, D: Disk + Drop, J: Threaded, C: Crew>(
     rt: &R,
     board: LoopBoard<'_, '_, J, C>,
     hart: &mut Hart,
-    looks: &mut DozeLooks,
     local: HartLocal<J>,
     allowed: Allowed<'a, D, J>,
 ) -> (TurnEnd<J>, TurnMade<'a, D, J>)
     requires tables { AreTablesOf board.shape.now board.tables.now }
     requires board { board.shape.now ≡ J.size }
     requires seated { IsSeated board.tables.now hart.old.id local.seats local.doze }
-    requires few { looks.old.made < 2 ^ 64 - 1 }
     requires allowed { allowed.0 ≡ hart.old.id }
     ensures gives { GivesBack board.entry.tables.now hart.old.id local.seats result.0.local.seats }
     ensures stands { StandsAfterTurn result.0.word result.0.local.doze hart.old.id result.0.local.seats }
     ensures id { hart.new.id ≡ hart.old.id }
     ensures noted { result.0.local.part ≡ part_after result.0.told local.part }
-    ensures range { looks.new.made ≤ looks.old.made + 1 }
     ensures once { TurnOnce board.entry.shape.now J.memory
-        (seated hart.old (known local.seats) local.doze looks.old local.refused)
-        (seated hart.new (known result.0.local.seats) result.0.local.doze looks.new result.0.local.refused) result.0.word
-        result.0.told }
+        (seated hart.old (known local.seats) local.doze local.run local.refused)
+        (seated hart.new (known result.0.local.seats) result.0.local.doze result.0.local.run result.0.local.refused)
+        result.0.word result.0.told }
     ensures made { result.1 ≡ allowed.entry }
 {
     let Allowed {
@@ -251,7 +254,7 @@ pub(crate) fn whole_turn<'a, R: Wait, D: Disk + Drop, J: Threaded, C: Crew>(
     } = allowed;
     let doze = local.doze;
     if let Some(doze) = doze {
-        let end = dozing_turn(rt, board.tables, &mut locks, hart, looks, local, doze);
+        let end = dozing_turn(rt, board.tables, &mut locks, hart, local, doze);
         let made = TurnMade {
             hart: of,
             turn,

@@ -1,24 +1,30 @@
 //! A store with its book, before it is shared and after.
 
 ghost use Rattle.disk.specs.Facts.{Content};
-ghost use Rattle.std.specs.Prelude.{◌≡◌, ◌≤◌, ◌<◌, ◌+◌, ℕ, [], ◌∷◌, true, None, length, All, IfOk, IfErr, IfSome, vec_len};
+ghost use Rattle.std.specs.Prelude.{◌≡◌, ◌≤◌, ◌<◌, ◌+◌, ℕ, List, [], ◌∷◌, true, None, map, length, vec_len};
+ghost use Rattle.std.specs.Prelude.{All, IfOk, IfErr, IfSome, IsTrue, is_some};
 ghost use Rattle.std.specs.Option.{option_to_list};
 ghost use Rattle.store.specs.Views.{size_of_store, found_state, journal_of, life_of, receipts, doubt_of, failures_at_open, disk_of};
-ghost use Rattle.tallies.specs.Books.{entries_of};
+ghost use Rattle.tallies.specs.Books.{entries_of, fresh_from};
 ghost use Rattle.tallies.specs.Closed.{AreStanding, AreReceiptsOf, told_in};
 ghost use Rattle.tallies.specs.BookViews.{id_of, parts_of};
 ghost use Rattle.store.specs.Taken.{are_taken};
+ghost use Rattle.hart_threads.specs.Bused.{AreSaved, AreWakes, WasTold, part_in};
 ghost use Rattle.hart_threads.specs.Called.{IsLastOf};
+ghost use Rattle.hart_threads.specs.declared.bus_turns.BusTurn.{BusTurn as TurnView};
 ghost use Rattle.hart_threads.specs.Doubts.{IsDoubtOf};
 ghost use Rattle.hart_threads.specs.Heard.{heard_nothing};
 ghost use Rattle.hart_threads.specs.Legal.{BeginsWith, IsNamed};
 ghost use Rattle.hart_threads.specs.Noted.{boot_told, entries_in};
-ghost use Rattle.hart_threads.specs.Runs.{IsCarried};
+ghost use Rattle.hart_threads.specs.Runs.{IsCarried, IsCarriedBy};
 ghost use Rattle.hart_threads.specs.Since.{AreKept};
 
+use crate::bus_turns::{BusPart, held_part};
+use crate::buses::SharedBus;
 use crate::doubts::Doubts;
 use crate::heard::Heard;
 use crate::moments::Moments;
+use crate::shared::HartParts;
 use crate::shared_store::{SharedStore, last_entry};
 use board_model::Entry;
 use disk::Disk;
@@ -32,13 +38,16 @@ use tallies::{Book, BookPart, Journal, Keeper, NewBook};
 pub struct Unshared<D: Disk + Drop, J: Journal> {
     pub(crate) store: Store<D>,
     pub(crate) count: u32,
-    pub(crate) book: Book<J>,
-    pub(crate) keeper: Keeper<J>,
+    pub(crate) book: Book<J, Entry>,
+    pub(crate) keeper: Keeper<J, Entry>,
     pub(crate) doubts: Doubts<J>,
     pub(crate) moments: Moments,
+    pub(crate) run: Option<BusPart<J>>,
     pub ghost named: { IsNamed J.found J.size store },
     pub ghost issued: { BeginsWith J.issued (journal_of store) },
     pub ghost carried: { IsCarried J.memory (life_of store) },
+    pub ghost there: { IsTrue (is_some run) },
+    pub ghost saved: { AreSaved (life_of store) (part_in run) },
     pub ghost counted: { count ≡ receipts store },
     pub ghost few: { count ≤ 4096 },
     pub ghost tied: { entries_in (journal_of store) ≡ entries_of keeper.log },
@@ -49,22 +58,26 @@ pub struct Unshared<D: Disk + Drop, J: Journal> {
 }
 
 impl<D: Disk + Drop, J: Journal> Unshared<D, J> {
-    ghost use Rattle.hart_threads.specs.Views.{store_in, inside, moments_in, moments_with, parts_with};
+    ghost use Rattle.hart_threads.specs.Views.{bus_in, bus_parts, store_in, inside, moments_in, moments_with, parts_with};
 
     /// The store of a life that has just begun, with two new books: its journal has what the boot issued, and the
     /// boot's part, which goes off first, is told the receipt of each. The second book is for what is in doubt: nothing is
-    /// yet. What the life's console will hear comes with them.
+    /// yet. What the life's console will hear comes with them. The store and the console have a part each of the history of that bus, of
+    /// which none was handed out before.
     pub fn new(
         store: Store<D>,
-        book: NewBook,
-        doubts: NewBook,
-    ) -> (Unshared<D, J>, BookPart<J>, Heard<J>)
+        book: NewBook<Entry>,
+        doubts: NewBook<Entry>,
+        bus: &mut SharedBus<J>,
+    ) -> (Unshared<D, J>, BookPart<J, Entry>, Heard<J>)
         requires board { size_of_store store ≡ J.size }
         requires found { found_state store ≡ J.found }
         requires issued { journal_of store ≡ J.issued }
         requires taken { are_taken J.found J.issued ≡ true }
         requires few { length J.issued ≤ 4096 }
         requires carried { IsCarried J.memory (life_of store) }
+        requires unsaved { (told : List (ℕ × TurnView)) → IsCarriedBy (WasTold told) (life_of store) }
+        requires bus { bus_parts bus.old ≡ fresh_from 0 (J.size.harts + 2) }
         requires book { id_of book ≡ J.book }
         requires parts { parts_of book ≡ J.parts }
         requires some { 0 < J.parts }
@@ -80,13 +93,17 @@ impl<D: Disk + Drop, J: Journal> Unshared<D, J> {
         ensures boot { result.1.told ≡ boot_told J.issued }
         ensures heard { result.2 ≡ heard_nothing }
         ensures moments { moments_with result.0 ≡ (disk_of store).moment ∷ [] }
+        ensures bus { bus_in bus.new ≡ bus_in bus.old }
+        ensures harts { bus_parts bus.new ≡ fresh_from 2 J.size.harts }
     {
         store.stands();
+        let own = bus.hand_out();
+        let run = bus.hand_out();
         let moments = Moments::first(&store);
         let (book, mut keeper) = book.named::<J>();
         let part = book.hand_out(&mut keeper);
         let (part, count) = note_journal(&store, &book, &mut keeper, part);
-        let (doubts, heard) = Doubts::new(doubts);
+        let (doubts, heard) = Doubts::new(doubts, run);
         let whole = Unshared {
             store,
             count,
@@ -94,12 +111,13 @@ impl<D: Disk + Drop, J: Journal> Unshared<D, J> {
             keeper,
             doubts,
             moments,
+            run: Some(own),
         };
         (whole, part, heard)
     }
 
     /// The next part goes off, which was told nothing.
-    pub fn hand_out(&mut self) -> BookPart<J>
+    pub fn hand_out(&mut self) -> BookPart<J, Entry>
         requires some { 0 < length (parts_with self.old) }
         requires fresh { All (λ d. d.told ≡ []) (parts_with self.old) }
         ensures store { inside self.new ≡ inside self.old }
@@ -111,26 +129,35 @@ impl<D: Disk + Drop, J: Journal> Unshared<D, J> {
         self.book.hand_out(&mut self.keeper)
     }
 
-    /// So many parts go off; none does where there is no room for them.
+    /// The parts of each hart go off, of the receipts and of the history of that bus, the first hart's first; none does where there is no
+    /// room for them.
     pub fn hand_out_all(
         &mut self,
         alloc: Global,
         count: usize,
-    ) -> Result<Vec<BookPart<J>>, AllocError>
+        bus: &mut SharedBus<J>,
+    ) -> Result<Vec<HartParts<J>>, AllocError>
+        requires bus { bus_parts bus.old ≡ fresh_from 2 count }
         requires some { count ≤ length (parts_with self.old) }
         requires fresh { All (λ d. d.told ≡ []) (parts_with self.old) }
         ensures store { inside self.new ≡ inside self.old }
         ensures moments { moments_with self.new ≡ moments_with self.old }
         ensures fresh { All (λ d. d.told ≡ []) (parts_with self.new) }
         ensures count { IfOk result (λ ps. vec_len ps ≡ count) }
-        ensures told { IfOk result (λ ps. All (λ d. d.told ≡ []) ps.items) }
+        ensures told { IfOk result (λ ps. All (λ d. d.receipts.told ≡ []) ps.items) }
+        ensures runs { IfOk result (λ ps. map (λ d. d.run) ps.items ≡ fresh_from 2 count) }
+        ensures bus { bus_in bus.new ≡ bus_in bus.old }
         ensures rest { IfOk result (λ ps. length (parts_with self.new) + count ≡ length (parts_with self.old)) }
         ensures none { IfErr result (λ e. length (parts_with self.new) ≡ length (parts_with self.old)) }
     {
         let mut parts = Vec::with_capacity(alloc, count)?;
         for made in 0..count {
             let part = self.hand_out();
-            parts.push_reserved(part);
+            let run = bus.hand_out();
+            parts.push_reserved(HartParts {
+                receipts: part,
+                run,
+            });
         }
         Ok(parts)
     }
@@ -145,7 +172,7 @@ impl<D: Disk + Drop, J: Journal> Unshared<D, J> {
     }
 
     /// A part comes back.
-    pub fn gather(&mut self, part: BookPart<J>)
+    pub fn gather(&mut self, part: BookPart<J, Entry>)
         ensures store { inside self.new ≡ inside self.old }
         ensures moments { moments_with self.new ≡ moments_with self.old }
         ensures parts { parts_with self.new ≡ part ∷ parts_with self.old }
@@ -164,8 +191,9 @@ impl<D: Disk + Drop, J: Journal> Unshared<D, J> {
     /// The store, whose life ends here. What the parts that are back were told stands in its journal, each
     /// command at the place of its receipt; and where all parts are back, their receipts are those of the journal's
     /// commands, one for each. What its console heard is back too: where a command is in doubt, it was the console's, which
-    /// was told 6 for it, or a durable call of a hart asks for it. The moments at which its receipts were made come with it.
-    pub fn close(self, heard: Heard<J>) -> (Store<D>, Moments)
+    /// was told 6 for it, or a durable call of a hart asks for it. The moments at which its receipts were made come with it, and what the
+    /// store and the console did with the bus: each suspension of the life carries a memory that the store found there.
+    pub fn close(self, heard: Heard<J>) -> (Store<D>, Moments, (BusPart<J>, BusPart<J>))
         ensures named { IsNamed J.found J.size result.0 }
         ensures issued { BeginsWith J.issued (journal_of result.0) }
         ensures carried { IsCarried J.memory (life_of result.0) }
@@ -178,6 +206,8 @@ impl<D: Disk + Drop, J: Journal> Unshared<D, J> {
         ensures moments { result.1.at ≡ moments_with self }
         ensures kept { AreKept J.size J.found J.earlier J.moment (length J.issued) (journal_of result.0)
             (doubt_of result.0) (disk_of result.0) result.1.at }
+        ensures saved { AreSaved (life_of result.0) result.2.0 }
+        ensures woken { AreWakes heard.woken result.2.1 }
     {
         let Unshared {
             store,
@@ -186,10 +216,12 @@ impl<D: Disk + Drop, J: Journal> Unshared<D, J> {
             keeper,
             doubts,
             moments,
+            run,
         } = self;
         book.close(keeper);
-        doubts.close(heard);
-        (store, moments)
+        let woken = doubts.close(heard);
+        let run = held_part(run);
+        (store, moments, (run, woken))
     }
 }
 
@@ -197,10 +229,10 @@ impl<D: Disk + Drop, J: Journal> Unshared<D, J> {
 /// receipts. Their number comes with it.
 fn note_journal<D: Disk + Drop, J: Journal>(
     store: &Store<D>,
-    book: &Book<J>,
-    keeper: &mut Keeper<J>,
-    part: BookPart<J>,
-) -> (BookPart<J>, u32)
+    book: &Book<J, Entry>,
+    keeper: &mut Keeper<J, Entry>,
+    part: BookPart<J, Entry>,
+) -> (BookPart<J, Entry>, u32)
     requires few { receipts store.now ≤ 4096 }
     requires empty { keeper.old.log ≡ [] }
     requires fresh { part.told ≡ [] }

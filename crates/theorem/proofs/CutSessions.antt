@@ -8,18 +8,14 @@ use Rattle.board_model.specs.Shapes.{Size}
 use Rattle.disk.specs.Facts.{Content, Facts}
 use Rattle.store.specs.Leaves.{LeavesOnly, LeftAsBefore}
 use Rattle.store.specs.Standing.{StandsFor}
-use Rattle.board.specs.Moments.{IsAlong, MayLeave, commands_by}
+use Rattle.board.specs.Moments.{IsAlong, MayLeave}
 use Rattle.board.proofs.Issued.{stands_alone}
 use Rattle.hart_threads.specs.Heard.{Hearing}
 use Rattle.hart_threads.specs.Since.{IsOfFirst, sent}
-use Rattle.board_session.specs.Dialogues.{DialogueEnds}
 use Rattle.board_session.specs.Sessions.{LeftBefore}
-use Rattle.board_session.specs.declared.talks.Left.{Left}
 use Rattle.board_files.specs.Files.{FileKnown, Unknown, Known, IfKnown, AllowedSince, LeavesNoMore}
-use Rattle.board_model.specs.declared.boot_mode.BootMode.{BootMode}
-use Rattle.theorem.specs.Sessions.{IsCutAnywhere, KeepsSession}
+use Rattle.theorem.specs.Sessions.{IsCutAnywhere, KeepsJournal, KeepsSession}
 use Rattle.theorem.proofs.PowerLost.{OneStanding}
-use Rattle.theorem.proofs.Ran.{IsSession}
 
 -- some first of these commands make it
 along : (cs : List Change) (s t : DurableState) → IsAlong cs s t → (k : ℕ) × (k ≤ length cs) × (t ≡ fold s (take k cs))
@@ -71,48 +67,31 @@ module _ (one : OneStanding) (size : Size) (s : DurableState) (old : Facts) (onl
   at_any_moment issued cs more disk is only_now ever c left = ∥∥₁_map (ever old.moment c (omega arith) left) (each issued cs more c is only_now)
 
   -- of a session
-  pub cut_anywhere : ((x : Content) → old.since old.moment x → old.may_leave x) → (mode : BootMode) (payloads : List (List ℕ)) (moments : List ℕ) (left : Option Left) (a : DialogueEnds) (input output : Option (List ℕ)) (heard : Hearing) (disk : Facts)
-      → IsSession size s mode payloads old disk moments left a input output heard → IsCutAnywhere size s mode payloads old disk moments left a input output heard
-  cut_anywhere only_now mode payloads moments left a input output heard disk session =
-      let issued = commands_by mode s in
-      let life = session.3 in
-      let doubted = option_to_list life.doubt in
-      let is = ap (λ (js : List Change). js ++ doubted) life.begun.1 ∙ append_assoc issued life.begun.0 doubted in
-      record {
-        machine = session.0;
-        powered = session.1;
-        journal = life.journal;
-        console = session.2;
-        acknowledged = life.acknowledged;
-        taken = life.taken;
-        carried = life.carried;
-        talks = session.4;
-        doubt = life.doubt;
-        doubted = λ c is. (life.allowed c is, life.doubted c is, life.failed c is);
-        asked = life.asked;
-        ever = at_any_moment issued (sent life.journal life.doubt) (life.begun.0 ++ doubted) disk is only_now life.kept.ever;
-        many = life.kept.many;
-        passed = life.kept.passed;
-        kept = life.kept.kept;
-      }
+  pub cut_anywhere : ((x : Content) → old.since old.moment x → old.may_leave x) → (issued : List Change) (moments : List ℕ) (heard : Hearing) (disk : Facts) (kept : KeepsJournal size s issued old disk moments heard)
+      → IsCutAnywhere size s (sent kept.journal kept.doubt) old disk
+  cut_anywhere only_now issued moments heard disk kept =
+      let doubted = option_to_list kept.doubt in
+      let is = ap (λ (js : List Change). js ++ doubted) kept.begun.1 ∙ append_assoc issued kept.begun.0 doubted in
+      at_any_moment issued (sent kept.journal kept.doubt) (kept.begun.0 ++ doubted) disk is only_now kept.kept.ever
 
 -- ---- over a file
-module _ (size : Size) (s : DurableState) (mode : BootMode) (payloads : List (List ℕ)) (old disk : Facts) (moments : List ℕ) (left : Option Left) (a : DialogueEnds) (input output : Option (List ℕ)) (heard : Hearing) where
+module _ (size : Size) (s : DurableState) (issued : List Change) (old disk : Facts) (moments : List ℕ) (heard : Hearing) where
   -- what the file has left, the disk might have left
-  pub keeps_session : (file : FileKnown) (cut : IsCutAnywhere size s mode payloads old disk moments left a input output heard)
-      → ((t : ℕ) (x : Content) → t ≤ disk.moment → disk.may_leave x → disk.since t x) → 0 < length moments → old.moment ≤ slice_index moments 0
-      → IfKnown file (LeavesNoMore disk) → IfKnown file (AllowedSince disk)
-      → IfKnown file (KeepsSession size s (sent cut.journal cut.doubt) (length (commands_by mode s)) (length cut.journal) old.moment disk moments)
-  keeps_session Unknown cut counts some first now since = tt
-  keeps_session (Known f) cut counts some first now since =
-      let many = cut.many in
-      let at = cut.passed 0 some in
+  pub keeps_session : (file : FileKnown) (kept : KeepsJournal size s issued old disk moments heard) → IsCutAnywhere size s (sent kept.journal kept.doubt) old disk
+      → ((t : ℕ) (x : Content) → t ≤ disk.moment → disk.may_leave x → disk.since t x) → IfKnown file (LeavesNoMore disk) → IfKnown file (AllowedSince disk)
+      → IfKnown file (KeepsSession size s (sent kept.journal kept.doubt) (length issued) (length kept.journal) old.moment disk moments)
+  keeps_session Unknown kept cut counts now since = tt
+  keeps_session (Known f) kept cut counts now since =
+      let many = kept.kept.many in
+      let some = kept.kept.first.0 in
+      let first = kept.kept.first.1 in
+      let at = kept.kept.passed 0 some in
       let last = length moments - 1 in
       let under : last < length moments = omega (arith, some) in
-      let all : length (commands_by mode s) + last ≡ length cut.journal = omega (arith, many, some) in
+      let all : length issued + last ≡ length kept.journal = omega (arith, many, some) in
       record {
-        now = λ c may. subst (λ (n : ℕ). ∥ IsOfFirst size s (sent cut.journal cut.doubt) n c ∥₁) all
-            (cut.kept last under c (counts (slice_index moments last) c (cut.passed last under) (now c may)));
-        ever = λ c was. ∥∥₁_elim (since old.moment c (omega (arith, first, at)) was) ∥∥₁_prop (λ is. cut.ever c is);
-        kept = λ i less c was. ∥∥₁_elim (since (slice_index moments i) c (cut.passed i less) was) ∥∥₁_prop (λ is. cut.kept i less c is);
+        now = λ c may. subst (λ (n : ℕ). ∥ IsOfFirst size s (sent kept.journal kept.doubt) n c ∥₁) all
+            (kept.kept.kept last under c (counts (slice_index moments last) c (kept.kept.passed last under) (now c may)));
+        ever = λ c was. ∥∥₁_elim (since old.moment c (omega (arith, first, at)) was) ∥∥₁_prop (λ is. cut c is);
+        kept = λ i less c was. ∥∥₁_elim (since (slice_index moments i) c (kept.kept.passed i less) was) ∥∥₁_prop (λ is. kept.kept.kept i less c is);
       }

@@ -10,16 +10,15 @@ use Rattle.store.specs.Standing.{StandsFor}
 use Rattle.board.specs.Begins.{IsBegun}
 use Rattle.board.specs.Moments.{commands_by}
 use Rattle.machine.specs.Machine.{Machine}
-use Rattle.hart_threads.specs.Runs.{CarriesSteps}
 use Rattle.board.specs.Unbooted.{LeavesLife}
 use Rattle.hart_threads.specs.Doubts.{IsDoubtOf}
 use Rattle.hart_threads.specs.Heard.{Hearing}
 use Rattle.board_session.specs.Commands.{party}
 use Rattle.board_session.specs.Dialogues.{DialogueEnds, dialogue_ends}
 use Rattle.board_session.specs.declared.talks.Left.{Left}
-use Rattle.board_session.specs.Sessions.{Begins, IsOfLife, TalksIf, AreByLast, AreDriven, LeftBefore, RanOver, said_since}
+use Rattle.board_session.specs.Sessions.{Begins, IsOfLife, TalksIf, LeftBefore, RanOver, said_since}
 use Rattle.hart_threads.specs.Ends.{Ending}
-use Rattle.theorem.specs.Sessions.{FindsSession, IsCarried, KeepsJournal}
+use Rattle.theorem.specs.Sessions.{FindsSession, KeepsJournal}
 use Rattle.theorem.proofs.PowerLost.{OneStanding}
 
 -- of a life that began in s, with that board: its disk, and what was read and answered
@@ -28,38 +27,30 @@ IsSession size s mode payloads old disk moments left a input output heard =
     (machine : Machine) × IsBegun mode size payloads s machine × (console : List (ℕ × Entry)) × IsOfLife size s (commands_by mode s) machine.memory old.failures (LeftBefore false old size s (commands_by mode s)) old.moment moments console heard.doubt disk
     × TalksIf s (commands_by mode s) left a (dialogue_ends input output (party console heard))
 
--- and how its harts ended
-abbrev pub IsDriven : Size → DurableState → BootMode → List (List ℕ) → ℕ → Facts → Facts → List ℕ → Option Left → DialogueEnds → Option (List ℕ) → Option (List ℕ) → Hearing → List Ending → Type 0
-IsDriven size s mode payloads turns old disk moments left a input output heard ends =
-    (session : IsSession size s mode payloads old disk moments left a input output heard) × AreDriven size.harts session.0 turns s left ends
-    × AreByLast session.3.journal ends
-
 module _ (one : OneStanding) (new : Bool) (shape : Size) (mode : BootMode) (payloads : List (List ℕ)) (turns : ℕ) (old disk : Facts) (moments : List ℕ) (left : Option Left) (a : DialogueEnds) (input output : Option (List ℕ)) (heard : Hearing) (ends : List Ending) where
-  pub over : RanOver new shape mode payloads turns old disk moments left a input output heard ends → (size : Size) (s : DurableState) → new ≡ false → StandsFor old.content size s → IsDriven size s mode payloads turns old disk moments left a input output heard ends
+  over : RanOver new shape mode payloads turns old disk moments left a input output heard ends → (size : Size) (s : DurableState) → new ≡ false → StandsFor old.content size s → IsSession size s mode payloads old disk moments left a input output heard
   over ran size s is stands =
       let begins : Begins false shape old.content ran.size ran.found = subst (λ (n : Bool). Begins n shape old.content ran.size ran.found) is ran.begins in
       let same = one old.content ran.size size ran.found s begins stands in
-      let P : Size → DurableState → Type 0 = λ z t. IsDriven z t mode payloads turns old disk moments left a input output heard ends in
+      let P : Size → DurableState → Type 0 = λ z t. IsSession z t mode payloads old disk moments left a input output heard in
       let issued = commands_by mode ran.found in
-      let Ended : Bool → Type 0 = λ b. (life : IsOfLife ran.size ran.found issued ran.machine.memory old.failures (LeftBefore b old ran.size ran.found issued) (said_since b old) moments ran.console heard.doubt disk) × AreByLast life.journal ends in
-      let ended : Ended false = subst Ended is (ran.life, ran.ended) in
-      subst (λ (t : DurableState). P size t) same.1 (subst (λ (z : Size). P z ran.found) same.0 ((ran.machine, ran.powered, ran.console, ended.0, ran.talks), ran.driven, ended.1))
+      let Life : Bool → Type 0 = λ b. IsOfLife ran.size ran.found issued ran.machine.memory old.failures (LeftBefore b old ran.size ran.found issued) (said_since b old) moments ran.console heard.doubt disk in
+      let life : Life false = subst Life is ran.life in
+      subst (λ (t : DurableState). P size t) same.1 (subst (λ (z : Size). P z ran.found) same.0 (ran.machine, ran.powered, ran.console, life, ran.talks))
 
   pub begun : (R S : Type 0) → (R × (left ≡ None)) ⊎ (RanOver new shape mode payloads turns old disk moments left a input output heard ends × S) → (left ≡ None → ⊥) → (size : Size) (s : DurableState) → new ≡ false → StandsFor old.content size s
-      → IsDriven size s mode payloads turns old disk moments left a input output heard ends
+      → IsSession size s mode payloads old disk moments left a input output heard
   begun R S (inl refused) some size s is stands = absurd (some refused.1)
   begun R S (inr ran) some size s is stands = over ran.0 size s is stands
 
--- what it keeps, what was read and answered, and what its harts did
-abbrev pub IsWhole : Size → DurableState → BootMode → List (List ℕ) → ℕ → Facts → Facts → List ℕ → Option Left → DialogueEnds → Option (List ℕ) → Option (List ℕ) → Hearing → List Ending → Type 0
-IsWhole size s mode payloads turns old disk moments left a input output heard ends =
-    (machine : Machine) × IsBegun mode size payloads s machine × (kept : KeepsJournal size s (commands_by mode s) old disk moments heard)
-    × TalksIf s (commands_by mode s) left a (dialogue_ends input output (party kept.console heard))
-    × IsCarried machine.memory kept.journal kept.doubt × AreDriven size.harts machine turns s left ends × AreByLast kept.journal ends
+-- what it keeps, and what was read and answered
+abbrev pub IsKept : Size → DurableState → BootMode → Facts → Facts → List ℕ → Option Left → DialogueEnds → Option (List ℕ) → Option (List ℕ) → Hearing → Type 0
+IsKept size s mode old disk moments left a input output heard =
+    (kept : KeepsJournal size s (commands_by mode s) old disk moments heard) × TalksIf s (commands_by mode s) left a (dialogue_ends input output (party kept.console heard))
 
-pub whole : (size : Size) (s : DurableState) (mode : BootMode) (payloads : List (List ℕ)) (turns : ℕ) (old disk : Facts) (moments : List ℕ) (left : Option Left) (a : DialogueEnds) (input output : Option (List ℕ)) (heard : Hearing) (ends : List Ending)
-    → IsDriven size s mode payloads turns old disk moments left a input output heard ends → IsWhole size s mode payloads turns old disk moments left a input output heard ends
-whole size s mode payloads turns old disk moments left a input output heard ends (session, driven, ended) =
+pub keeps : (size : Size) (s : DurableState) (mode : BootMode) (payloads : List (List ℕ)) (old disk : Facts) (moments : List ℕ) (left : Option Left) (a : DialogueEnds) (input output : Option (List ℕ)) (heard : Hearing)
+    → IsSession size s mode payloads old disk moments left a input output heard → IsKept size s mode old disk moments left a input output heard
+keeps size s mode payloads old disk moments left a input output heard session =
     let life = session.3 in
     let kept : KeepsJournal size s (commands_by mode s) old disk moments heard = record {
       journal = life.journal;
@@ -74,7 +65,7 @@ whole size s mode payloads turns old disk moments left a input output heard ends
       reads = life.reads;
       kept = life.kept;
     } in
-    (session.0, session.1, kept, session.4, (life.carried, life.doubted), driven, ended)
+    (kept, session.4)
 
 -- what a crash left of that disk stands for
 read_after : (doubt : Option Change) (disk given : Facts) (size z : Size) (t found : DurableState) → LeavesLife doubt disk size t → IsLeft disk given → StandsFor given.content z found
@@ -88,27 +79,23 @@ read_after (Some c) disk given size z t found only gone reads =
     ]
 
 finds : (size z : Size) (s found : DurableState) (mode : BootMode) (payloads : List (List ℕ)) (old : Facts) (next : ℕ) (disk given : Facts) (moments : List ℕ) (left : Option Left) (a : DialogueEnds) (input output : Option (List ℕ)) (heard : Hearing) → IsSession size s mode payloads old disk moments left a input output heard
-    → IsLeft disk given → StandsFor given.content z found → next ≡ given.failures → FindsSession size s mode payloads old.failures next left a input output heard found
+    → IsLeft disk given → StandsFor given.content z found → next ≡ given.failures → FindsSession size s mode old.failures next left a input output heard found
 finds size z s found mode payloads old next disk given moments left a input output heard session gone reads counts =
     let life = session.3 in record {
-      machine = session.0;
-      powered = session.1;
       journal = life.journal;
       console = session.2;
       acknowledged = life.acknowledged;
       taken = life.taken;
-      carried = life.carried;
       talks = session.4;
       is = by (read_after life.doubt disk given size z (fold s life.journal) found life.leaves gone reads);
     }
   where
     by : (found ≡ fold s session.3.journal) ⊎ ((c : Change) × (session.3.doubt ≡ Some c) × (found ≡ after (fold s session.3.journal) c))
-        → (found ≡ fold s session.3.journal) ⊎ ((c : Change) × (refusal_of (fold s session.3.journal) c ≡ None) × CarriesSteps session.0.memory c × Failed old.failures next × IsDoubtOf size (Some c) heard.doubt × (found ≡ after (fold s session.3.journal) c))
+        → (found ≡ fold s session.3.journal) ⊎ ((c : Change) × (refusal_of (fold s session.3.journal) c ≡ None) × Failed old.failures next × IsDoubtOf size (Some c) heard.doubt × (found ≡ after (fold s session.3.journal) c))
     by (inl is) = inl is
     by (inr (c, doubt, is)) = inr (
       c,
       session.3.allowed c doubt,
-      session.3.doubted c doubt,
       subst (λ (n : ℕ). Failed old.failures n) (sym (counts ∙ gone.failures)) (session.3.failed c doubt),
       subst (λ (o : Option Change). IsDoubtOf size o heard.doubt) doubt session.3.asked,
       is,
@@ -117,7 +104,7 @@ finds size z s found mode payloads old next disk given moments left a input outp
 -- and what the next open finds then
 pub left_by : (one : OneStanding) (new : Bool) (shape : Size) (mode : BootMode) (payloads : List (List ℕ)) (turns : ℕ) (old disk : Facts) (moments : List ℕ) (left : Option Left) (a : DialogueEnds) (input output : Option (List ℕ)) (heard : Hearing) (ends : List Ending)
     → (R S : Type 0) → (R × (left ≡ None)) ⊎ (RanOver new shape mode payloads turns old disk moments left a input output heard ends × S) → (left ≡ None → ⊥) → (size : Size) (s : DurableState) → new ≡ false → StandsFor old.content size s
-    → (z : Size) (found : DurableState) (given : Facts) (next : ℕ) → IsLeft disk given → StandsFor given.content z found → next ≡ given.failures → FindsSession size s mode payloads old.failures next left a input output heard found
+    → (z : Size) (found : DurableState) (given : Facts) (next : ℕ) → IsLeft disk given → StandsFor given.content z found → next ≡ given.failures → FindsSession size s mode old.failures next left a input output heard found
 left_by one new shape mode payloads turns old disk moments left a input output heard ends R S ended some size s is stands z found given next gone reads counts =
     finds size z s found mode payloads old next disk given moments left a input output heard
-    (begun one new shape mode payloads turns old disk moments left a input output heard ends R S ended some size s is stands).0 gone reads counts
+    (begun one new shape mode payloads turns old disk moments left a input output heard ends R S ended some size s is stands) gone reads counts

@@ -5,17 +5,14 @@ use Rattle.board_model.specs.Shapes.{Size}
 use Rattle.board_model.specs.declared.durable.Entry.{Entry}
 use Rattle.store.specs.Standing.{StandsFor}
 use Rattle.store.specs.Taken.{are_taken}
-use Rattle.board.specs.Begins.{IsBegun}
 use Rattle.board.specs.Moments.{commands_by}
 use Rattle.board.specs.Unbooted.{LeavesLife}
 use Rattle.board_model.specs.declared.boot_mode.BootMode.{BootMode}
 use Rattle.disk.specs.Facts.{Content, Facts, Failed}
 use Rattle.board_files.specs.Files.{FileFacts, sync_of}
-use Rattle.machine.specs.Machine.{Machine}
 use Rattle.hart_threads.specs.Doubts.{IsDoubtOf}
 use Rattle.hart_threads.specs.Heard.{Hearing}
-use Rattle.hart_threads.specs.Runs.{CarriesSteps, AllCarrySteps}
-use Rattle.hart_threads.specs.Since.{AreKept, IsOfFirst, KeptSince, sent}
+use Rattle.hart_threads.specs.Since.{AreKept, IsOfFirst}
 use Rattle.board_session.specs.Commands.{party}
 use Rattle.board_session.specs.Dialogues.{DialogueEnds, dialogue_ends}
 use Rattle.board_session.specs.declared.talks.Left.{Left}
@@ -41,55 +38,24 @@ pub record KeepsJournal (size : Size) (s : DurableState) (issued : List Change) 
   pub reads : (found : DurableState) × StandsFor disk.content size found
   pub kept : AreKept size s (LeftBefore false old size s issued) old.moment (length issued) journal doubt disk moments
 
--- each suspension of a journal, and one that is in doubt, carries a memory that steps of harts made of this one
-abbrev pub IsCarried : List ℕ → List Change → Option Change → Type 0
-IsCarried begun journal doubt = AllCarrySteps begun journal × ((c : Change) → doubt ≡ Some c → CarriesSteps begun c)
-
 -- What an open finds after a session that began in the state s by that mode: what the commands of a journal make of s,
 -- just those that were acknowledged to the boot, the console and the harts; or these and the one in doubt. There is one
 -- only where the disk failed, by how often it had failed before the session and after it. It is the console's, which was
--- answered 6, or one that a durable call of a hart asks for. A suspension of them carries a memory that steps of harts made
--- of the one that the boot left. What was read and answered is of that journal.
-pub record FindsSession (size : Size) (s : DurableState) (mode : BootMode) (payloads : List (List ℕ))
-    (before after_it : ℕ) (left : Option Left) (a : DialogueEnds) (input output : Option (List ℕ)) (heard : Hearing)
-    (found : DurableState) : Type 0 where
-  pub machine : Machine
-  pub powered : IsBegun mode size payloads s machine
+-- answered 6, or one that a durable call of a hart asks for. What was read and answered is of that journal.
+pub record FindsSession (size : Size) (s : DurableState) (mode : BootMode) (before after_it : ℕ) (left : Option Left) (a : DialogueEnds)
+    (input output : Option (List ℕ)) (heard : Hearing) (found : DurableState) : Type 0 where
   pub journal : List Change
   pub console : List (ℕ × Entry)
   pub acknowledged : IsAcknowledged size (commands_by mode s) journal console
   pub taken : are_taken s journal ≡ true
-  pub carried : AllCarrySteps machine.memory journal
   pub talks : TalksIf s (commands_by mode s) left a (dialogue_ends input output (party console heard))
   pub is : (found ≡ fold s journal)
-      ⊎ ((c : Change) × (refusal_of (fold s journal) c ≡ None) × CarriesSteps machine.memory c
-      × Failed before after_it × IsDoubtOf size (Some c) heard.doubt × (found ≡ after (fold s journal) c))
+      ⊎ ((c : Change) × (refusal_of (fold s journal) c ≡ None) × Failed before after_it × IsDoubtOf size (Some c) heard.doubt × (found ≡ after (fold s journal) c))
 
--- What any crash has left at a moment of a session over the disk old, which stood for s, within a command and within a call of the disk
--- too: what some first commands of its journal make of s, or these and the one in doubt. The first of these moments is that at which its
--- boot was over; then there is one for each receipt that was made after it. From each on all commands up to that receipt are among them.
--- The journal is of just those commands that were acknowledged to the boot, the console and the harts, and what was read and answered is
--- of it. A command is in doubt only where the disk failed in the session, and the console or a hart asked for it. A suspension of them
--- carries a memory that steps of harts made of the one that the boot left.
-pub record IsCutAnywhere (size : Size) (s : DurableState) (mode : BootMode) (payloads : List (List ℕ)) (old disk : Facts)
-    (moments : List ℕ) (left : Option Left) (a : DialogueEnds) (input output : Option (List ℕ)) (heard : Hearing) : Type 0 where
-  pub machine : Machine
-  pub powered : IsBegun mode size payloads s machine
-  pub journal : List Change
-  pub console : List (ℕ × Entry)
-  pub acknowledged : IsAcknowledged size (commands_by mode s) journal console
-  pub taken : are_taken s journal ≡ true
-  pub carried : AllCarrySteps machine.memory journal
-  pub talks : TalksIf s (commands_by mode s) left a (dialogue_ends input output (party console heard))
-  pub doubt : Option Change
-  pub doubted : (c : Change) → doubt ≡ Some c
-      → (refusal_of (fold s journal) c ≡ None) × CarriesSteps machine.memory c × Failed old.failures disk.failures
-  pub asked : IsDoubtOf size doubt heard.doubt
-  pub ever : (c : Content) → disk.since old.moment c → ∥ IsOfFirst size s (sent journal doubt) 0 c ∥₁
-  pub many : length moments + length (commands_by mode s) ≡ length journal + 1
-  pub passed : (i : ℕ) → i < length moments → slice_index moments i ≤ disk.moment
-  pub kept : (i : ℕ) → i < length moments
-      → KeptSince size s (sent journal doubt) disk (slice_index moments i) (length (commands_by mode s) + i)
+-- What any crash has left at a moment of a session over the disk old, within a command and within a call of the disk too, stands for what
+-- some first ones of these commands make of s.
+abbrev pub IsCutAnywhere : Size → DurableState → List Change → Facts → Facts → Type 0
+IsCutAnywhere size s commands old disk = (c : Content) → disk.since old.moment c → ∥ IsOfFirst size s commands 0 c ∥₁
 
 -- What a file that keeps its word keeps of such a session, whose disk was kept in it: now all commands of its journal, so many, or these
 -- and the one in doubt; and at each moment of the session, within a call of the file too, some first of them, with all up to each

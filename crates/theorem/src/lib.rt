@@ -22,5 +22,6 @@ pub use headline::{
 };
 pub use scripts::a_script;
 pub use sessions::{
-    SessionSaid, a_session, a_session_answers, a_session_keeps, power_lost_between_sessions,
+    SessionSaid, a_session_answers, a_session_cut_anywhere, a_session_in_a_file_cut_anywhere,
+    a_session_keeps, an_open_finds_some_first, power_lost_between_sessions,
 };

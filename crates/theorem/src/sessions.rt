@@ -3,12 +3,10 @@
 ghost use Rattle.std.specs.Prelude.{◌≡◌, ◌≤◌, ℕ, List, false, None, IfOk, [], length, take};
 ghost use Rattle.board_model.specs.Durable.{Change, DurableState, fold};
 ghost use Rattle.board_model.specs.Shapes.{Size};
-ghost use Rattle.board.specs.Begins.{IsBegun};
 ghost use Rattle.board.specs.Moments.{commands_by};
 ghost use Rattle.board_session.specs.Commands.{party};
 ghost use Rattle.board_session.specs.Dialogues.{dialogue_ends};
-ghost use Rattle.board_session.specs.Sessions.{TalksIf, AreByLast, AreDriven};
-ghost use Rattle.machine.specs.Machine.{Machine};
+ghost use Rattle.board_session.specs.Sessions.{TalksIf};
 ghost use Rattle.hart_threads.specs.Heard.{heard_nothing};
 ghost use Rattle.hart_threads.specs.Since.{IsOfFirst, sent};
 ghost use Rattle.board_files.specs.Files.{IfKnown};
@@ -16,7 +14,7 @@ ghost use Rattle.disk.specs.Facts.{Content};
 ghost use Rattle.store.specs.Leaves.{IsIdle, LeavesOnly};
 ghost use Rattle.store.specs.Standing.{StandsFor};
 ghost use Rattle.store.specs.Views.{disk_of, found_state};
-ghost use Rattle.theorem.specs.Sessions.{FindsSession, IsCarried, IsCutAnywhere, KeepsJournal, KeepsSession};
+ghost use Rattle.theorem.specs.Sessions.{FindsSession, IsCutAnywhere, KeepsJournal, KeepsSession};
 
 use board::Payloads;
 use board_files::{FileDisk, Filed, SectorFile};
@@ -55,11 +53,11 @@ pub fn a_session_keeps<
         → (result.console_left ≡ None → ⊥) → KeepsJournal size s (commands_by options.now.mode s) (D.facts disk)
         (D.facts result.disk) result.moments.at result.heard }
 {
-    a_session(rt, alloc, options, disk, payloads, streams)
+    a_session_answers(rt, alloc, options, disk, payloads, streams)
 }
 
 /// *What does the console answer?* The same, and what was read and answered is of that journal: each line has its answer, in order, and
-/// each `ok N` has its command at the place N (`TalksIf`).
+/// each `ok N` has its command at the place N (`TalksIf`). What the harts did [`session`] says, clause `ended`.
 pub fn a_session_answers<
     R: Threads + Wait + Sync,
     D: Disk + Drop + Send,
@@ -82,45 +80,14 @@ pub fn a_session_answers<
         (dialogue_ends (I.remaining result.streams.input) (W.contents result.streams.out)
         (party kept.console result.heard)) }
 {
-    a_session(rt, alloc, options, disk, payloads, streams)
-}
-
-/// *What did the harts do?* The same, and of the board which its power-on made (`IsBegun`). The session's suspension, if it has one, also
-/// one in doubt, carries a memory that steps of harts made of the board's. Each hart is one of that board, and went by its own turns, one
-/// after another, from where the power-on left it to where its end says that it stands; it made all turns that it was given, or a hart
-/// ended the life by a command that was acknowledged, or the console halted the harts when it left (`AreDriven`). Where another hart ended
-/// the life, its command is the last of that journal (`AreByLast`). So a session by `resume` begins with the image's memory and one hart
-/// that is STARTED, at the image's address, with its number and opaque value; every other hart is STOPPED and never ran (`woken`).
-pub fn a_session<R: Threads + Wait + Sync, D: Disk + Drop + Send, I: Read + Drop, W: Write + Drop>(
-    rt: &R,
-    alloc: Global,
-    options: &Options,
-    disk: D,
-    payloads: &Payloads,
-    streams: Streams<I, W>,
-) -> SessionEnd<D, I, W>
-    requires { IsIdle (D.facts disk) }
-    ensures { (size : Size) (s : DurableState) → options.now.new ≡ false → StandsFor (D.facts disk).content size s
-        → (result.console_left ≡ None → ⊥) → (machine : Machine) × IsBegun options.now.mode size payloads.now s machine
-        × (kept : KeepsJournal size s (commands_by options.now.mode s) (D.facts disk) (D.facts result.disk)
-        result.moments.at result.heard)
-        × TalksIf s (commands_by options.now.mode s) result.console_left
-        (dialogue_ends (I.remaining streams.input) (W.contents streams.out) (party [] heard_nothing))
-        (dialogue_ends (I.remaining result.streams.input) (W.contents result.streams.out)
-        (party kept.console result.heard))
-        × IsCarried machine.memory kept.journal kept.doubt
-        × AreDriven size.harts machine options.now.turns s result.console_left result.harts.items
-        × AreByLast kept.journal result.harts.items }
-{
     content_determines_state();
     session(rt, alloc, options, disk, payloads, streams)
 }
 
-/// *Wherever power fails while a session runs.* Of a session over a disk that stands for the state s alone, whose console was begun:
-/// each content that a crash has left at some moment of it, within a command and within a call of the disk too, stands for what some
-/// first commands of its journal make of s, or these and the one in doubt. All are among them that had been acknowledged by then: from
-/// the moment of each receipt on, which the shared store notes as it makes the receipt, each command up to that one. Journal, doubt and
-/// dialogue are those of a session (`IsCutAnywhere`).
+/// *Wherever power fails while a session runs.* The same, over a disk that stands for the state s alone: each content that a crash has
+/// left at some moment of the session, within a command and within a call of the disk too, stands for what some first commands of that
+/// journal make of s, or these and the one in doubt (`IsCutAnywhere`). All are among them that had been acknowledged by then: from the
+/// moment of each receipt on, which the shared store notes as it makes the receipt, each command up to that one (`KeepsJournal`).
 pub fn a_session_cut_anywhere<
     R: Threads + Wait + Sync,
     D: Disk + Drop + Send,
@@ -137,14 +104,16 @@ pub fn a_session_cut_anywhere<
     requires { IsIdle (D.facts disk) }
     ensures { (size : Size) (s : DurableState) → options.now.new ≡ false → StandsFor (D.facts disk).content size s
         → LeavesOnly (D.facts disk) size s → (result.console_left ≡ None → ⊥)
-        → IsCutAnywhere size s options.now.mode payloads.now (D.facts disk) (D.facts result.disk) result.moments.at
-        result.console_left
+        → (kept : KeepsJournal size s (commands_by options.now.mode s) (D.facts disk) (D.facts result.disk) result.moments.at result.heard)
+        × TalksIf s (commands_by options.now.mode s) result.console_left
         (dialogue_ends (I.remaining streams.input) (W.contents streams.out) (party [] heard_nothing))
-        (I.remaining result.streams.input) (W.contents result.streams.out) result.heard }
+        (dialogue_ends (I.remaining result.streams.input) (W.contents result.streams.out)
+        (party kept.console result.heard))
+        × IsCutAnywhere size s (sent kept.journal kept.doubt) (D.facts disk) (D.facts result.disk) }
 {
     content_determines_state();
     crashes_now(&disk);
-    session(rt, alloc, options, disk, payloads, streams)
+    a_session_answers(rt, alloc, options, disk, payloads, streams)
 }
 
 /// *Wherever the process of a session is killed, or its host crashes, whose disk is kept in a file* (`sbiboard --sync`). The same holds of
@@ -168,17 +137,17 @@ pub fn a_session_in_a_file_cut_anywhere<
     ensures { (size : Size) (s : DurableState) → options.now.new ≡ false
         → StandsFor (⟦<FileDisk<F> as Disk>⟧.facts disk).content size s
         → LeavesOnly (⟦<FileDisk<F> as Disk>⟧.facts disk) size s → (result.console_left ≡ None → ⊥)
-        → (cut : IsCutAnywhere size s options.now.mode payloads.now (⟦<FileDisk<F> as Disk>⟧.facts disk)
-        (⟦<FileDisk<F> as Disk>⟧.facts result.disk) result.moments.at result.console_left
+        → (kept : KeepsJournal size s (commands_by options.now.mode s) (⟦<FileDisk<F> as Disk>⟧.facts disk)
+        (⟦<FileDisk<F> as Disk>⟧.facts result.disk) result.moments.at result.heard)
+        × TalksIf s (commands_by options.now.mode s) result.console_left
         (dialogue_ends (I.remaining streams.input) (W.contents streams.out) (party [] heard_nothing))
-        (I.remaining result.streams.input) (W.contents result.streams.out) result.heard)
-        × IfKnown (⟦<FileDisk<F> as Filed>⟧.file result.disk) (KeepsSession size s (sent cut.journal cut.doubt)
-        (length (commands_by options.now.mode s)) (length cut.journal) (⟦<FileDisk<F> as Disk>⟧.facts disk).moment
+        (dialogue_ends (I.remaining result.streams.input) (W.contents result.streams.out)
+        (party kept.console result.heard))
+        × IfKnown (⟦<FileDisk<F> as Filed>⟧.file result.disk) (KeepsSession size s (sent kept.journal kept.doubt)
+        (length (commands_by options.now.mode s)) (length kept.journal) (⟦<FileDisk<F> as Disk>⟧.facts disk).moment
         (⟦<FileDisk<F> as Disk>⟧.facts result.disk) result.moments.at) }
 {
-    content_determines_state();
-    crashes_now(&disk);
-    let end = session(rt, alloc, options, disk, payloads, streams);
+    let end = a_session_cut_anywhere(rt, alloc, options, disk, payloads, streams);
     crashes_now(&end.disk);
     end.disk.stands();
     end
@@ -242,7 +211,7 @@ pub fn power_lost_between_sessions<R: Threads + Wait + Sync, I: Read + Drop, W: 
     requires { IsIdle (⟦<SimDisk as Disk>⟧.facts disk) }
     ensures { (size : Size) (s : DurableState) → options.now.new ≡ false
         → StandsFor (⟦<SimDisk as Disk>⟧.facts disk).content size s → (result.0.console_left ≡ None → ⊥)
-        → IfOk result.1 (λ next. FindsSession size s options.now.mode payloads.now
+        → IfOk result.1 (λ next. FindsSession size s options.now.mode
         (⟦<SimDisk as Disk>⟧.facts disk).failures (disk_of next).failures result.0.console_left
         (dialogue_ends (I.remaining streams.input) (W.contents streams.out) (party [] heard_nothing))
         (I.remaining result.0.streams.input) (W.contents result.0.streams.out) result.0.heard (found_state next)) }

@@ -5,7 +5,9 @@ use Rattle.hart_threads.specs.Since.{AreKept}
 use Rattle.hart_threads.proofs.Keeping.{begun_kept}
 use Rattle.store.specs.Leaves.{LeavesOnly}
 use Rattle.store.specs.Views.{disk_of, doubt_of, found_state, journal_of, life_of, now_state, size_of_store}
+use Rattle.hart_threads.specs.Runs.{StepsMake}
 use Rattle.board_session.proofs.Backing.{at_once, none_later}
+use Rattle.board_session.proofs.Historied.{carries_none}
 use Rattle.board_session.proofs.Powering.{kept_reads, life_kept, life_leaves}
 use Rattle.board_session.proofs.life_end.disk_at_once.Goals as goal
 
@@ -25,8 +27,8 @@ returns-clause-life g c = λ begins.
       leaves = left;
       allowed = o.allowed;
       reads = kept_reads disk size (life_kept (doubt_of store) disk size (now_state store) left) (g.met.D.Disk.may_keep c.into_disk.result);
-      carried = (c.requires.carried begins).journal;
-      doubted = (c.requires.carried begins).doubt;
+      carried = (carries_none (StepsMake begins) (life_of store) c.requires.unsaved).journal;
+      doubted = (carries_none (StepsMake begins) (life_of store) c.requires.unsaved).doubt;
       failed = o.failed;
       kept = subst (λ d. AreKept size (found_state store) (disk_of store).since (disk_of store).moment (length (journal_of store)) (journal_of store) (doubt_of store) (g.D.Disk.facts d) c.first-moments.result.at) (sym o.disk)
           (begun_kept size (found_state store) (disk_of store).since (disk_of store).moment (journal_of store) (life_of store) (disk_of store) c.first-moments.result.at refl (λ t x is. is) refl c.requires.up (g.met.D.Disk.only_now _)

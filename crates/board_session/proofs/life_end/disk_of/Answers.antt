@@ -4,11 +4,13 @@ use Rattle.board_model.specs.Shapes.{Size}
 use Rattle.board.specs.Unbooted.{LeavesLife}
 use Rattle.disk.specs.Facts.{Failed}
 use Rattle.tallies.specs.Closed.{AreReceiptsOf, told_in}
+use Rattle.board_model.specs.declared.durable.Entry.{Entry}
 use Rattle.tallies.specs.declared.book_views.PartView.{PartView}
+use Rattle.hart_threads.specs.Bused.{AreSaved}
 use Rattle.hart_threads.specs.Noted.{entries_in}
 use Rattle.hart_threads.specs.Since.{AreKept}
 use Rattle.hart_threads.specs.Views.{parts_with}
-use Rattle.store.specs.Views.{size_of_store, now_state, journal_of, doubt_of}
+use Rattle.store.specs.Views.{size_of_store, now_state, journal_of, life_of, doubt_of}
 use Rattle.board_session.proofs.Backing.{acknowledged}
 use Rattle.board_session.proofs.Powering.{begins_so, kept_reads, life_kept, life_leaves}
 use Rattle.board_session.proofs.life_end.disk_of.Goals as goal
@@ -29,10 +31,10 @@ returns-clause-life g c =
     let h = c.requires.harts in
     let many : length ds ≡ size.harts = omega (arith, a, b, h) in
     let last = c.gather_last.ensures.parts in
-    let long = ap (λ (ps : List PartView). length ps) last in
+    let long = ap (λ (ps : List (PartView Entry)). length ps) last in
     let all = c.requires.all in
     let count : length (parts_with c.gather_last.new.whole) ≡ g.J.Journal.parts = omega (arith, long, many, all) in
-    let receipts = subst (λ (ps : List PartView). AreReceiptsOf (entries_in (journal_of store)) (told_in ps)) last (c.close-store.ensures.all count) in (
+    let receipts = subst (λ (ps : List (PartView Entry)). AreReceiptsOf (entries_in (journal_of store)) (told_in ps)) last (c.close-store.ensures.all count) in (
       record {
         journal = journal_of store;
         acknowledged = acknowledged size g.J.Journal.issued (journal_of store) c.args.boot c.args.console ds c.gather_parts.ensures.back many c.requires.boot receipts;
@@ -49,7 +51,16 @@ returns-clause-life g c =
         kept = subst (λ d. AreKept size g.J.Journal.found g.J.Journal.earlier g.J.Journal.moment (length g.J.Journal.issued) (journal_of store) (doubt_of store) (g.D.Disk.facts d) c.close-store.result.1.at) (sym o.disk) c.close-store.ensures.kept;
       },
       ap (λ x. journal_of x) (c.close-store.ensures.same ∙ c.gather_last.ensures.store ∙ c.gather_parts.ensures.store ∙ c.gather_loops.ensures.store),
+      ap (λ x. doubt_of x) (c.close-store.ensures.same ∙ c.gather_last.ensures.store ∙ c.gather_parts.ensures.store ∙ c.gather_loops.ensures.store),
     )
+
+pub returns-clause-saved : goal.returns-clause-saved
+returns-clause-saved g c =
+    let same = c.close-store.ensures.same ∙ c.gather_last.ensures.store ∙ c.gather_parts.ensures.store ∙ c.gather_loops.ensures.store in
+    subst (λ x. AreSaved (life_of x) c.close-store.result.2.0) same c.close-store.ensures.saved
+
+pub returns-clause-woken : goal.returns-clause-woken
+returns-clause-woken g c = c.close-store.ensures.woken
 
 pub returns-clause-moments : goal.returns-clause-moments
 returns-clause-moments g c = c.close-store.ensures.moments ∙ c.gather_last.ensures.moments ∙ c.gather_parts.ensures.moments ∙ c.gather_loops.ensures.moments

@@ -8,7 +8,7 @@ invariant-loop-part g l = record {
   store : inside l.whole ≡ inside l.fn.whole;
   moments : moments_with l.whole ≡ moments_with l.fn.whole;
   back : AreBack (parts_with l.whole);
-  fresh : All (λ p. p.told ≡ []) l.parts.items;
+  fresh : All (λ p. p.receipts.told ≡ []) l.parts.items;
   many : length (parts_with l.whole) + vec_len l.parts ≡ length (parts_with l.fn.whole) + vec_len l.fn.parts;
 }
 

@@ -65,9 +65,9 @@ pub returns-in-Ok-power_on-clause-issued : goal.returns-in-Ok-power_on-clause-is
 returns-in-Ok-power_on-clause-issued g c =
     life_issued c.args.options.now.mode (life_of (store_of c.in-Ok-power_on.board)) c.in-Ok-power_on.ensures.on.life
 
-pub returns-in-Ok-power_on-clause-carried : goal.returns-in-Ok-power_on-clause-carried
-returns-in-Ok-power_on-clause-carried g c =
-    life_carried c.args.options.now.mode (life_of (store_of c.in-Ok-power_on.board)) c.in-Ok-power_on.ensures.on.life
+pub returns-in-Ok-power_on-clause-unsaved : goal.returns-in-Ok-power_on-clause-unsaved
+returns-in-Ok-power_on-clause-unsaved g c =
+    life_carried (λ memory. ⊥) c.args.options.now.mode (life_of (store_of c.in-Ok-power_on.board)) c.in-Ok-power_on.ensures.on.life
 
 pub returns-in-Ok-power_on-clause-up : goal.returns-in-Ok-power_on-clause-up
 returns-in-Ok-power_on-clause-up g c =

@@ -6,7 +6,7 @@ use Rattle.board_session.proofs.sessions.session.Given as goal
 
 -- the life that the board has just begun
 abbrev pub ghosts-run_board-J-Journal : goal.ghosts-run_board-J-Journal
-ghosts-run_board-J-Journal g a = record { found = found_state a.store; size = size_of_store a.store; issued = journal_of a.store; memory = a.hardware.bus.ram; book = id_of a.provisions.book; parts = parts_of a.provisions.book; failures = failures_at_open a.store; doubts = id_of a.provisions.doubts; moment = (disk_of a.store).moment; earlier = (disk_of a.store).since }
+ghosts-run_board-J-Journal g a = record { found = found_state a.store; size = size_of_store a.store; issued = journal_of a.store; memory = a.hardware.bus.ram; book = id_of a.provisions.book; parts = parts_of a.provisions.book; failures = failures_at_open a.store; doubts = id_of a.provisions.doubts; runs = id_of a.provisions.runs; moment = (disk_of a.store).moment; earlier = (disk_of a.store).since }
 
 -- and its harts, which no gate may end
 abbrev pub ghosts-run_board-J-Threaded : goal.ghosts-run_board-J-Threaded

@@ -1,5 +1,6 @@
-use Rattle.std.proofs.Common.{◌∙◌, vec_len, vec_capacity}
+use Rattle.std.proofs.Common.{◌∙◌, subst, vec_len, vec_capacity}
 use Rattle.std.specs.Vec.Iter.{into_iter_len}
+use Rattle.hart_threads.specs.Begun.{AreFromLast}
 use Rattle.hart_threads.specs.Seated.{IsSeated}
 use Rattle.hart_threads.proofs.Ending.{all_pushed, one_begun, one_given, one_left, has_room, all_begun, same_number}
 use Rattle.hart_threads.proofs.drives.works_of.Goals as goal
@@ -9,16 +10,18 @@ loop-acting-preserved g c =
     let i = c.loop-acting.invariant in (
       one_begun (vec_len c.loop-acting.works) (into_iter_len c.loop-acting.acting-iterator) (vec_len c.args.all) (vec_len c.push_reserved.new.self) (into_iter_len c.next.new.self) i.0 c.push_reserved.ensures.len c.in-Some.ensures.steps.1,
       same_number (vec_capacity c.push_reserved.new.self) (vec_capacity c.loop-acting.works) (vec_len c.args.all) c.push_reserved.ensures.capacity i.1,
-      one_given (vec_len c.loop-acting.parts) (into_iter_len c.loop-acting.acting-iterator) (vec_len c.next_part-part.new.parts) (into_iter_len c.next.new.self) i.2 c.next_part-part.ensures.rest c.in-Some.ensures.steps.1,
-      c.next_part-part.ensures.fresh,
+      one_given (vec_len c.loop-acting.parts) (into_iter_len c.loop-acting.acting-iterator) (vec_len c.next_parts-parts_of_one.new.parts) (into_iter_len c.next.new.self) i.2 c.next_parts-parts_of_one.ensures.rest c.in-Some.ensures.steps.1,
+      c.next_parts-parts_of_one.ensures.fresh,
       all_pushed (λ w. IsSeated w.board.tables.now w.acting.hart.id w.acting.seats w.acting.doze) c.loop-acting.works.items c.push_reserved.new.self.items _ c.push_reserved.ensures.items i.4 c.known_begun.ensures.seated,
+      (subst AreFromLast c.in-Some.ensures.steps.0 i.5).1,
+      c.next_parts-parts_of_one.ensures.runs,
     )
 
-pub next_part-part-requires-clause-some : goal.next_part-part-requires-clause-some
-next_part-part-requires-clause-some g c = one_left (vec_len c.loop-acting.parts) (into_iter_len c.loop-acting.acting-iterator) (into_iter_len c.next.new.self) c.loop-acting.invariant.2 c.in-Some.ensures.steps.1
+pub next_parts-parts_of_one-requires-clause-some : goal.next_parts-parts_of_one-requires-clause-some
+next_parts-parts_of_one-requires-clause-some g c = one_left (vec_len c.loop-acting.parts) (into_iter_len c.loop-acting.acting-iterator) (into_iter_len c.next.new.self) c.loop-acting.invariant.2 c.in-Some.ensures.steps.1
 
-pub next_part-part-requires-clause-fresh : goal.next_part-part-requires-clause-fresh
-next_part-part-requires-clause-fresh g c = c.loop-acting.invariant.3
+pub next_parts-parts_of_one-requires-clause-fresh : goal.next_parts-parts_of_one-requires-clause-fresh
+next_parts-parts_of_one-requires-clause-fresh g c = c.loop-acting.invariant.3
 
 pub push_reserved-requires : goal.push_reserved-requires
 push_reserved-requires g c = has_room (vec_len c.loop-acting.works) (into_iter_len c.loop-acting.acting-iterator) (vec_len c.args.all) (vec_capacity c.loop-acting.works) (into_iter_len c.next.new.self) c.loop-acting.invariant.0 c.loop-acting.invariant.1 c.in-Some.ensures.steps.1
@@ -34,3 +37,6 @@ returns-clause-seated g c = c.loop-acting.invariant.4
 
 pub returns-clause-fresh : goal.returns-clause-fresh
 returns-clause-fresh g c = c.loop-acting.invariant.3
+
+pub next_parts-parts_of_one-requires-clause-runs : goal.next_parts-parts_of_one-requires-clause-runs
+next_parts-parts_of_one-requires-clause-runs g c = c.loop-acting.invariant.6

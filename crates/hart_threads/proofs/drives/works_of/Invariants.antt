@@ -1,5 +1,7 @@
-use Rattle.std.proofs.Common.{◌≡◌, ◌+◌, [], All, vec_len, vec_capacity}
-use Rattle.std.specs.Vec.Iter.{into_iter_len}
+use Rattle.std.proofs.Common.{◌≡◌, ◌+◌, [], All, map, vec_len, vec_capacity}
+use Rattle.std.specs.Vec.Iter.{into_iter_items, into_iter_len}
+use Rattle.tallies.specs.Books.{fresh_from}
+use Rattle.hart_threads.specs.Begun.{AreFromLast}
 use Rattle.hart_threads.specs.Seated.{IsSeated}
 use Rattle.hart_threads.proofs.drives.works_of.Given as goal
 
@@ -9,5 +11,7 @@ invariant-loop-acting g l =
     (vec_len l.works + into_iter_len l.acting-iterator ≡ vec_len l.fn.all)
     × (vec_capacity l.works ≡ vec_len l.fn.all)
     × (vec_len l.parts ≡ into_iter_len l.acting-iterator)
-    × All (λ p. p.told ≡ []) l.parts.items
+    × All (λ p. p.receipts.told ≡ []) l.parts.items
     × All (λ w. IsSeated w.board.tables.now w.acting.hart.id w.acting.seats w.acting.doze) l.works.items
+    × AreFromLast (into_iter_items l.acting-iterator)
+    × (map (λ p. p.run) l.parts.items ≡ fresh_from 2 (vec_len l.parts))

@@ -11,17 +11,17 @@ returns-in-Durable-clause-stands g c =
     stands_told c.args.board.shape.now (call_of s) s.id s m.new.hart (known c.args.local.seats) (known l.seats) l.seats l.doze m.result.word m.ensures.once m.ensures.doze m.ensures.acts
 
 pub returns-in-Durable-clause-once : goal.returns-in-Durable-clause-once
-returns-in-Durable-clause-once g c = λ looks.
+returns-in-Durable-clause-once g c =
     let m = c.call_locked in let a = c.args.local in let b = m.result.local in
-    held_comes c.args.board.shape.now c.args.hart.now m.new.hart (known a.seats) (known b.seats) a.doze b.doze looks a.refused b.refused c.args.turned m.result.word m.result.told c.in-Durable.is m.ensures.once m.ensures.told m.ensures.doze m.ensures.refused
+    held_comes c.args.board.shape.now c.args.hart.now m.new.hart (known a.seats) (known b.seats) a.doze b.doze a.run b.run a.refused b.refused c.args.turned m.result.word m.result.told c.in-Durable.is m.ensures.once m.ensures.told m.ensures.doze m.ensures.took m.ensures.refused
 
 pub returns-in-Made-clause-gives : goal.returns-in-Made-clause-gives
 returns-in-Made-clause-gives g c = gives_none c.args.board.tables.now c.args.hart.now.id c.args.local.seats c.requires.seats
 
 pub returns-in-Made-clause-once : goal.returns-in-Made-clause-once
-returns-in-Made-clause-once g c = λ looks.
+returns-in-Made-clause-once g c =
     let l = c.args.local in
-    made_comes c.args.board.shape.now (seated c.args.hart.now (known l.seats) l.doze looks l.refused) c.args.turned c.in-Made.did c.in-Made.is
+    made_comes c.args.board.shape.now (seated c.args.hart.now (known l.seats) l.doze l.run l.refused) c.args.turned c.in-Made.did c.in-Made.is
 
 pub call_locked-requires-clause-tables : goal.call_locked-requires-clause-tables
 call_locked-requires-clause-tables g c κs within = c.requires.tables

@@ -2,7 +2,7 @@ use Rattle.std.proofs.Common.{refl}
 use Rattle.hart_threads.proofs.turn.dozing_turn.Goals as goal
 
 pub returns-clause-once : goal.returns-clause-once
-returns-clause-once g c = (_, c.doze_turn-seats.ensures.once c.args.local.refused)
+returns-clause-once g c = c.doze_turn-seats.ensures.once c.args.local.refused
 
 pub doze_turn-seats-requires-clause-seats : goal.doze_turn-seats-requires-clause-seats
 doze_turn-seats-requires-clause-seats g c = c.requires.seated.0
@@ -13,9 +13,6 @@ doze_turn-seats-requires-clause-hart g c = c.requires.seated.1
 pub doze_turn-seats-requires-clause-quiet : goal.doze_turn-seats-requires-clause-quiet
 doze_turn-seats-requires-clause-quiet g c = c.requires.seated.2
 
-pub doze_turn-seats-requires-clause-few : goal.doze_turn-seats-requires-clause-few
-doze_turn-seats-requires-clause-few g c = c.requires.few
-
 pub returns-clause-gives : goal.returns-clause-gives
 returns-clause-gives g c = c.doze_turn-seats.ensures.gives
 
@@ -24,9 +21,6 @@ returns-clause-stands g c = c.doze_turn-seats.ensures.stands
 
 pub returns-clause-id : goal.returns-clause-id
 returns-clause-id g c = c.doze_turn-seats.ensures.id
-
-pub returns-clause-range : goal.returns-clause-range
-returns-clause-range g c = c.doze_turn-seats.ensures.range
 
 pub returns-clause-noted : goal.returns-clause-noted
 returns-clause-noted g c = (refl, refl)

@@ -1,4 +1,4 @@
-use Rattle.std.proofs.Common.{ℕ, ◌<◌, ◌∙◌, refl, sym, subst}
+use Rattle.std.proofs.Common.{ℕ, ◌<◌, ◌∙◌, refl, sym, ap, subst}
 use Rattle.hsm.specs.declared.view.Stage.TheVariants.{Running}
 use Rattle.sbi_calls.specs.Both.{GivesBack, Acts, known}
 use Rattle.machine.specs.Held.{RestsBy}
@@ -6,6 +6,10 @@ use Rattle.std.specs.Prelude.{None}
 use Rattle.turns.proofs.Begun.{gives_then}
 use Rattle.hart_threads.specs.Seated.{StandsAfterTurn}
 use Rattle.hart_threads.specs.Threads.{seated}
+use Rattle.tallies.specs.declared.book_views.PartView.{PartView}
+use Rattle.hart_threads.specs.Bused.{TurnsBus, part_in}
+use Rattle.hart_threads.specs.declared.bus_turns.BusTurn.{BusTurn}
+use Rattle.hart_threads.proofs.Bussing.{turned_bus}
 use Rattle.hart_threads.proofs.turn.own_turn.Goals as goal
 
 pub turn_by_bus-seats-requires-clause-hart : goal.turn_by_bus-seats-requires-clause-hart
@@ -35,10 +39,24 @@ pub returns-clause-id : goal.returns-clause-id
 returns-clause-id g c = c.came_of-end.ensures.id ∙ c.turn_by_bus-seats.ensures.id
 
 pub returns-clause-once : goal.returns-clause-once
-returns-clause-once g c = λ looks.
+returns-clause-once g c =
     let t = c.turn_by_bus-seats in
     let turn = t.ensures.turns in
-    (turn.0, turn.1, t.result.1, seated t.new.hart (known t.result.0) None looks c.args.local.refused, turn.4, c.came_of-end.ensures.once looks, refl, refl, turn.2, turn.3, refl)
+    let shape = c.args.board.shape.now in
+    let took = turned_bus shape c.args.hart.now t.new.hart turn.0 turn.1 g.J.Journal.memory (known c.args.local.seats) (known t.result.0) t.result.1 c.args.local.run (part_in t.new.bus.run) _ turn.2 turn.3 (λ same. ap (λ b. part_in b.run) same) in
+    let now = c.held_part-run in (
+      turn.0,
+      turn.1,
+      t.result.1,
+      seated t.new.hart (known t.result.0) None now.result c.args.local.refused,
+      turn.2,
+      c.came_of-end.ensures.once,
+      refl,
+      subst (λ (d : PartView BusTurn). TurnsBus turn.2.0 c.args.local.run d turn.0 turn.1) (sym now.ensures) took.0,
+      took.1,
+      took.2,
+      refl,
+    )
 
 pub turn_by_bus-seats-requires-clause-tables : goal.turn_by_bus-seats-requires-clause-tables
 turn_by_bus-seats-requires-clause-tables g c = c.requires.tables

@@ -4,7 +4,6 @@ use Rattle.hart_threads.specs.Noted.{part_after}
 use Rattle.susp.specs.declared.buses.Doze.{Doze}
 use Rattle.hart_threads.specs.Seated.{IsSeated}
 use Rattle.hart_threads.specs.Threads.{seated}
-use Rattle.hart_threads.proofs.Ending.{as_often}
 use Rattle.hart_threads.proofs.Looping.{dozed, undozed}
 use Rattle.hart_threads.proofs.turn.whole_turn.Goals as goal
 
@@ -22,15 +21,12 @@ returns-in-Some-clause-noted g c =
 pub returns-in-Some-clause-once : goal.returns-in-Some-clause-once
 returns-in-Some-clause-once g c =
     let t = c.dozing_turn-end in let a = c.args.local in let b = t.result.local in
-    dozed c.args.board.shape.now g.J.Journal.memory c.args.hart.now (known a.seats) a.doze c.in-Some.doze c.args.looks.now a.refused (seated t.new.hart (known b.seats) b.doze t.new.looks b.refused) t.ensures.once.0 t.result.word t.result.told c.in-Some.is t.ensures.once.1 t.ensures.noted.1
+    dozed c.args.board.shape.now g.J.Journal.memory c.args.hart.now (known a.seats) a.doze c.in-Some.doze a.run a.refused (seated t.new.hart (known b.seats) b.doze b.run b.refused) t.result.word t.result.told c.in-Some.is t.ensures.once t.ensures.noted.1
 
 pub returns-clause-once : goal.returns-clause-once
 returns-clause-once g c =
     let t = c.own_turn-end in let a = c.args.local in let b = t.result.0.local in
-    undozed c.args.board.shape.now g.J.Journal.memory c.args.hart.now (known a.seats) a.doze c.args.looks.now a.refused (seated t.new.hart (known b.seats) b.doze c.args.looks.now b.refused) t.result.0.word t.result.0.told c.in_default.is (t.ensures.once c.args.looks.now)
-
-pub dozing_turn-end-requires-clause-few : goal.dozing_turn-end-requires-clause-few
-dozing_turn-end-requires-clause-few g c κs within = c.requires.few
+    undozed c.args.board.shape.now g.J.Journal.memory c.args.hart.now (known a.seats) a.doze a.run a.refused (seated t.new.hart (known b.seats) b.doze b.run b.refused) t.result.0.word t.result.0.told c.in_default.is t.ensures.once
 
 pub own_turn-end-requires-clause-tables : goal.own_turn-end-requires-clause-tables
 own_turn-end-requires-clause-tables g c κs within = c.requires.tables
@@ -46,9 +42,6 @@ returns-in-Some-clause-stands g c = c.dozing_turn-end.ensures.stands
 
 pub returns-in-Some-clause-id : goal.returns-in-Some-clause-id
 returns-in-Some-clause-id g c = c.dozing_turn-end.ensures.id
-
-pub returns-in-Some-clause-range : goal.returns-in-Some-clause-range
-returns-in-Some-clause-range g c = as_often _ _ (sym c.dozing_turn-end.ensures.range)
 
 pub returns-clause-gives : goal.returns-clause-gives
 returns-clause-gives g c = c.own_turn-end.ensures.gives

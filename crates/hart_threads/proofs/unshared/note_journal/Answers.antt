@@ -28,8 +28,8 @@ loop-count-preserved g c =
     let noted = one_noted journal k c.loop-count.keeper.log c.loop-count.part.told c.loop-count.part.who e memory c.loop-count.invariant.noted there is in
     let note = c.note-part.ensures in
     record {
-      noted = subst₂ (λ (log : Log Entry) (told : List (ℕ × Entry)). AreNoted journal (k + 1) log told) (sym (ap (λ (v : BookView). v.log) note.keeper)) (sym (ap (λ (d : PartView). d.told) note.part)) noted;
-      parts = ap (λ (v : BookView). v.parts) note.keeper ∙ c.loop-count.invariant.parts;
+      noted = subst₂ (λ (log : Log Entry) (told : List (ℕ × Entry)). AreNoted journal (k + 1) log told) (sym (ap (λ (v : BookView Entry). v.log) note.keeper)) (sym (ap (λ (d : PartView Entry). d.told) note.part)) noted;
+      parts = ap (λ (v : BookView Entry). v.parts) note.keeper ∙ c.loop-count.invariant.parts;
     }
 
 pub returns-clause-count : goal.returns-clause-count

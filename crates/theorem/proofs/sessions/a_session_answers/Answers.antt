@@ -1,4 +1,6 @@
+use Rattle.theorem.proofs.Ran.{begun, keeps}
 use Rattle.theorem.proofs.sessions.a_session_answers.Goals as goal
 
 pub returns : goal.returns
-returns g c = λ size s old stands some. let r = c.a_session.ensures size s old stands some in (r.2, r.3)
+returns g c = λ size s old stands some.
+    keeps size s _ _ _ _ _ _ _ _ _ _ (begun c.content_determines_state.ensures.one _ _ _ _ _ _ _ _ _ _ _ _ _ _ _ _ c.session.ensures.ended some size s old stands)

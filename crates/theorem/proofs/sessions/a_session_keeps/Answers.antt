@@ -1,4 +1,4 @@
 use Rattle.theorem.proofs.sessions.a_session_keeps.Goals as goal
 
 pub returns : goal.returns
-returns g c = λ size s old stands some. (c.a_session.ensures size s old stands some).2
+returns g c = λ size s old stands some. (c.a_session_answers.ensures size s old stands some).0

@@ -17,8 +17,10 @@ invariant_of-heard g c =
     let recall = c.recall-part.ensures in
     let told : c.in-Some.part.told ≡ [] = none_told c.in-Some.part.told (subst (λ (es : List Entry). AreStanding es c.in-Some.part.told) none recall.stands) in
     let log' = c.recall-part.new.keeper.log in
-    let empty : length log' ≡ 0 = ap (λ (v : BookView). length v.log) recall.keeper ∙ sym (length_journal log) ∙ ap (λ (es : List Entry). length es) none in
-    let x : Entry = entries.Command c.args.command in
-    ap (λ (d : PartView). d.told) c.note-part.ensures.part
-    ∙ ap (λ (n : ℕ). (suc n, x) ∷ c.recall-part.result.told) empty
-    ∙ ap (λ (ts : List (ℕ × Entry)). (1, x) ∷ ts) (ap (λ (d : PartView). d.told) recall.part ∙ told)
+    let empty : length log' ≡ 0 = ap (λ (v : BookView Entry). length v.log) recall.keeper ∙ sym (length_journal log) ∙ ap (λ (es : List Entry). length es) none in
+    let x : Entry = entries.Command c.args.command in (
+      ap (λ (d : PartView Entry). d.told) c.note-part.ensures.part
+          ∙ ap (λ (n : ℕ). (suc n, x) ∷ c.recall-part.result.told) empty
+          ∙ ap (λ (ts : List (ℕ × Entry)). (1, x) ∷ ts) (ap (λ (d : PartView Entry). d.told) recall.part ∙ told),
+      c.heard.invariant.1,
+    )

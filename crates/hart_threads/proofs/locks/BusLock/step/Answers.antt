@@ -1,4 +1,5 @@
+use Rattle.std.proofs.Common.{refl}
 use Rattle.hart_threads.proofs.locks.BusLock.step.Goals as goal
 
 pub returns : goal.returns
-returns g c = let s = c.step.ensures in (_, _, s.found, s.left, s.steps)
+returns g c = let s = c.step.ensures in (_, _, s.found, s.left, (_, _, s.noted, refl, refl, s.doze), s.steps)

@@ -25,3 +25,8 @@ pub returns-clause-denied : goal.returns-clause-denied
 returns-clause-denied g c = λ finds.
     let d = c.call-seats in
     denied (harts_of_both c.args.board.tables.now) (call_of c.args.hart.now) c.args.hart.now d.new.hart (known c.args.self.seats) (known d.result.0) _ _ _ _ d.result.1 d.ensures.makes finds
+
+pub returns-clause-took : goal.returns-clause-took
+returns-clause-took g c =
+    let d = c.call-seats in
+    (_, _, d.ensures.took, d.ensures.called, c.doze_by-doze.ensures ∙ ap (λ (o : Option Doze). doze_by d.result.1 o) c.doze-found.ensures)

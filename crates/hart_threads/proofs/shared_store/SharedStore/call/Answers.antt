@@ -1,4 +1,4 @@
-use Rattle.std.proofs.Common.{◌≡◌, ◌∙◌, ◌+◌, ℕ, Bool, List, ◌∷◌, length, refl, sym, ap, subst, arith}
+use Rattle.std.proofs.Common.{◌≡◌, ◌∙◌, ◌+◌, ℕ, Bool, Option, List, ◌∷◌, length, refl, sym, ap, subst, arith}
 use Rattle.board_model.specs.Durable.{Change}
 use Rattle.board_model.specs.declared.durable.Entry.{Entry}
 use Rattle.tallies.specs.Books.{entries_of, told_after}
@@ -7,7 +7,7 @@ use Rattle.hart_threads.specs.Noted.{entries_in}
 use Rattle.sbi_abi.specs.Calls.{call_of}
 use Rattle.sbi_calls.specs.Both.{harts_of_both, known}
 use Rattle.sbi.specs.declared.words.Word.{Word}
-use Rattle.store.specs.Views.{disk_of, doubt_of, journal_of}
+use Rattle.store.specs.Views.{disk_of, doubt_of, journal_of, life_of}
 use Rattle.hart_threads.specs.Since.{AreKept}
 use Rattle.hart_threads.proofs.Keeping.{held_kept, moments_by}
 use Rattle.hart_threads.specs.Doubts.{noted_by}
@@ -15,6 +15,9 @@ use Rattle.hart_threads.proofs.Doubting.{hart_asks, held, noted_on}
 use Rattle.hart_threads.proofs.Calling.{made}
 use Rattle.hart_threads.proofs.Lasting.{begins_longer, grows, place_after, stays, tied_after, told_last, told_of}
 use Rattle.hart_threads.proofs.Naming.{begins_still}
+use Rattle.tallies.specs.declared.book_views.PartView.{PartView}
+use Rattle.hart_threads.specs.Bused.{AreSaved, part_in}
+use Rattle.hart_threads.specs.declared.bus_turns.BusTurn.{BusTurn}
 use Rattle.hart_threads.proofs.shared_store.SharedStore.call.Goals as goal
 
 pub invariant_of-self : goal.invariant_of-self
@@ -32,7 +35,7 @@ invariant_of-self g c =
     let before = old.counted in
     let kept = subst (λ (w : Word). AreKept size g.J.Journal.found g.J.Journal.earlier g.J.Journal.moment (length g.J.Journal.issued) (journal_of d.new.store) (doubt_of d.new.store) (disk_of d.new.store) (moments_by w (disk_of d.new.store).moment old.moments.at)) c.in-Goes.is
     (held_kept g.J.Journal.found size g.J.Journal.earlier g.J.Journal.moment (length g.J.Journal.issued) old.store d.new.store old.moments.at old.named (g.met.D.Disk.only_now _) old.kept (harts_of_both c.args.tables.now) call c.args.hart.now d.new.hart (known c.args.seats) (known d.result.0) c.args.bus.now.bus d.new.self.bus d.result.1 d.ensures.makes) in
-    record { named = m.named; issued = begins_still g.J.Journal.issued (journal_of old.store) (journal_of d.new.store) old.issued same; carried = d.ensures.carried; counted = omega (arith, before, as_long); few = old.few; tied = ap entries_in same ∙ old.tied; none = old.none; opened = h.opened ∙ old.opened; doubted = noted_on size (doubt_of old.store) (doubt_of d.new.store) c.in_doubt.result old.doubts c.note.new.self c.in_doubt.ensures h.turns old.doubted noted; kept = kept }
+    record { named = m.named; issued = begins_still g.J.Journal.issued (journal_of old.store) (journal_of d.new.store) old.issued same; carried = d.ensures.carried; there = refl; saved = d.ensures.saved; counted = omega (arith, before, as_long); few = old.few; tied = ap entries_in same ∙ old.tied; none = old.none; opened = h.opened ∙ old.opened; doubted = noted_on size (doubt_of old.store) (doubt_of d.new.store) c.in_doubt.result old.doubts c.note.new.self c.in_doubt.ensures h.turns old.doubted noted; kept = kept }
 
 pub last_entry-requires-after_bounds : goal.last_entry-requires-after_bounds
 last_entry-requires-after_bounds g c κs within =
@@ -82,8 +85,8 @@ invariant_of-self-in-Over g c =
     let entry : c.entry-noted.result ≡ c.in-Some.entry = c.entry-noted.ensures ∙ ap (λ (t : ℕ × Entry). t.1) c.new-told.ensures in
     let tied = tied_after size call by end (journal_of old.store) (journal_of d.new.store) grown old.keeper.log (old.count + 1) c.in-Some.entry c.args.part.who c.in-Some.ensures.some old.tied
     ∙ ap (λ (e : Entry). entries_of ((c.args.part.who, e) ∷ old.keeper.log)) (sym entry)
-    ∙ sym (ap (λ (v : BookView). entries_of v.log) note.keeper) in
-    record { named = m.named; issued = begins_longer size call by end (journal_of old.store) (journal_of d.new.store) grown g.J.Journal.issued old.issued; carried = d.ensures.carried; counted = omega (arith, longer, before); few = omega (arith, few, before); tied = tied; none = ap (λ (v : BookView). length v.parts) note.keeper ∙ old.none; opened = h.opened ∙ old.opened; doubted = noted_on size (doubt_of old.store) (doubt_of d.new.store) c.in_doubt.result old.doubts c.note.new.self c.in_doubt.ensures h.turns old.doubted noted; kept = kept }
+    ∙ sym (ap (λ (v : BookView Entry). entries_of v.log) note.keeper) in
+    record { named = m.named; issued = begins_longer size call by end (journal_of old.store) (journal_of d.new.store) grown g.J.Journal.issued old.issued; carried = d.ensures.carried; there = refl; saved = d.ensures.saved; counted = omega (arith, longer, before); few = omega (arith, few, before); tied = tied; none = ap (λ (v : BookView Entry). length v.parts) note.keeper ∙ old.none; opened = h.opened ∙ old.opened; doubted = noted_on size (doubt_of old.store) (doubt_of d.new.store) c.in_doubt.result old.doubts c.note.new.self c.in_doubt.ensures h.turns old.doubted noted; kept = kept }
 
 pub returns-in-Some-clause-told : goal.returns-in-Some-clause-told
 returns-in-Some-clause-told g c =
@@ -126,3 +129,8 @@ returns-in-Some-clause-moments g c = c.add.ensures
 
 pub returns-in-Goes-clause-moments : goal.returns-in-Goes-clause-moments
 returns-in-Goes-clause-moments g c = refl
+
+pub call-seats-requires-clause-saved : goal.call-seats-requires-clause-saved
+call-seats-requires-clause-saved g c κs within =
+    let own = c.held_part-own.ensures ∙ ap (λ (o : Option (PartView BusTurn)). part_in o) c.take.ensures.value in
+    subst (λ (d : PartView BusTurn). AreSaved (life_of c.args.self.now.store) d) (sym own) c.args.self.now.saved

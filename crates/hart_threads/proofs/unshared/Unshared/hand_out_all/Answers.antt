@@ -1,7 +1,11 @@
-use Rattle.std.proofs.Common.{◌≡◌, ◌∙◌, [], length, vec_len, refl, arith}
+use Rattle.std.proofs.Common.{◌≡◌, ◌∙◌, ◌++◌, ◌∷◌, List, [], length, map, vec_len, refl, sym, ap, arith}
 use Rattle.std.proofs.lemmas.Result.{err_from_is_err_and}
+use Rattle.tallies.specs.Books.{fresh_from}
 use Rattle.tallies.specs.declared.book_views.PartView.{PartView}
-use Rattle.hart_threads.specs.Views.{parts_with}
+use Rattle.hart_threads.specs.declared.bus_turns.BusTurn.{BusTurn}
+use Rattle.hart_threads.specs.declared.shared.HartParts.{HartParts}
+use Rattle.hart_threads.proofs.Numbered.{all_runs, one_run_off, run_left}
+use Rattle.hart_threads.specs.Views.{bus_parts, parts_with}
 use Rattle.hart_threads.proofs.UntoldParts.{all_nil, all_pushed, all_off, one_more_off}
 use Rattle.hart_threads.proofs.unshared.Unshared.hand_out_all.Goals as goal
 
@@ -28,7 +32,9 @@ loop-made-init g c = record {
   store = refl;
   moments = refl;
   fresh = c.requires.fresh;
-  told = all_nil (λ (d : PartView). d.told ≡ []) c.in_ok-parts.parts.items c.in_ok-parts.ensures.items;
+  told = all_nil (λ (d : HartParts _). d.receipts.told ≡ []) c.in_ok-parts.parts.items c.in_ok-parts.ensures.items;
+  bus = refl;
+  runs = ap (λ (ps : List (HartParts _)). map (λ d. d.run) ps ++ bus_parts c.args.bus.now) c.in_ok-parts.ensures.items ∙ c.requires.bus;
   off = omega (arith, c.in_ok-parts.ensures.len);
   made = c.in_ok-parts.ensures.len;
   room = c.in_ok-parts.ensures.exact;
@@ -47,7 +53,13 @@ loop-made-preserved g c =
       store = c.hand_out-part.ensures.store ∙ was.store;
       moments = c.hand_out-part.ensures.moments ∙ was.moments;
       fresh = c.hand_out-part.ensures.fresh;
-      told = all_pushed (λ (d : PartView). d.told ≡ []) c.loop-made.parts.items c.push_reserved.new.self.items c.hand_out-part.result c.push_reserved.ensures.items was.told c.hand_out-part.ensures.told;
+      told = all_pushed (λ (d : HartParts _). d.receipts.told ≡ []) c.loop-made.parts.items c.push_reserved.new.self.items (record { receipts = c.hand_out-part.result; run = c.hand_out-run.result }) c.push_reserved.ensures.items was.told c.hand_out-part.ensures.told;
+      bus = c.hand_out-run.ensures.bus ∙ was.bus;
+      runs =
+          let some = run_left (λ (d : HartParts _). d.run) c.loop-made.parts.items (bus_parts c.loop-made.bus) c.args.count c.loop-made.made was.runs (sym c.loop-made.parts.ok.0 ∙ was.made) c.loop-made-test.true in
+          let off = one_run_off (λ (d : HartParts _). d.run) c.loop-made.parts.items (record { receipts = c.hand_out-part.result; run = c.hand_out-run.result }) (bus_parts c.loop-made.bus) (fresh_from 2 c.args.count) was.runs some c.hand_out-run.ensures.part in
+          ap (λ (ps : List (HartParts _)). map (λ d. d.run) ps ++ bus_parts c.hand_out-run.new.self) c.push_reserved.ensures.items
+          ∙ ap (λ (ds : List (PartView BusTurn)). map (λ (d : HartParts _). d.run) (c.loop-made.parts.items ++ (record { receipts = c.hand_out-part.result; run = c.hand_out-run.result }) ∷ []) ++ ds) c.hand_out-run.ensures.parts ∙ off;
       off = one_more_off (length (parts_with c.loop-made.self)) (vec_len c.loop-made.parts) (vec_len c.push_reserved.new.self) (length (parts_with c.hand_out-part.new.self)) (length (parts_with c.args.self.now)) was.off c.hand_out-part.ensures.rest c.push_reserved.ensures.len;
       made = omega (arith, c.push_reserved.ensures.len, was.made);
       room = c.push_reserved.ensures.capacity ∙ was.room;
@@ -73,3 +85,23 @@ returns-clause-moments g c = c.loop-made.invariant.moments
 
 pub returns-in_err-parts-clause-moments : goal.returns-in_err-parts-clause-moments
 returns-in_err-parts-clause-moments g c = refl
+
+pub hand_out-run-requires : goal.hand_out-run-requires
+hand_out-run-requires g c =
+    let was = c.loop-made.invariant in
+    record { some = run_left (λ (d : HartParts _). d.run) c.loop-made.parts.items (bus_parts c.loop-made.bus) c.args.count c.loop-made.made was.runs (sym c.loop-made.parts.ok.0 ∙ was.made) c.loop-made-test.true }
+
+pub returns-clause-runs : goal.returns-clause-runs
+returns-clause-runs g c =
+    let was = c.loop-made.invariant in
+    let all : vec_len c.loop-made.parts ≡ c.args.count = all_off (vec_len c.loop-made.parts) c.loop-made.made c.args.count was.made c.loop-made-test.false c.loop-made.auto.made-end in
+    all_runs (λ (d : HartParts _). d.run) c.loop-made.parts.items (bus_parts c.loop-made.bus) c.args.count was.runs (sym c.loop-made.parts.ok.0 ∙ all)
+
+pub returns-clause-bus : goal.returns-clause-bus
+returns-clause-bus g c = c.loop-made.invariant.bus
+
+pub returns-in_err-parts-clause-bus : goal.returns-in_err-parts-clause-bus
+returns-in_err-parts-clause-bus g c = refl
+
+pub returns-in_err-parts-clause-runs : goal.returns-in_err-parts-clause-runs
+returns-in_err-parts-clause-runs g c = rw (err_from_is_err_and c.from_residual.result c.from_residual.ensures.1).1 tt

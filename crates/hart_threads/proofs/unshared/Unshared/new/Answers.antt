@@ -6,6 +6,7 @@ use Rattle.store.specs.Taken.{are_taken}
 use Rattle.board_model.specs.Shapes.{Size}
 use Rattle.store.specs.Leaves.{LeavesOnly}
 use Rattle.store.specs.Views.{disk_of, journal_of, life_of, now_state}
+use Rattle.board_model.specs.declared.durable.Entry.{Entry}
 use Rattle.tallies.specs.Books.{first_of, fresh_from}
 use Rattle.tallies.specs.declared.book_views.BookView.{BookView}
 use Rattle.tallies.specs.declared.book_views.PartView.{PartView}
@@ -13,31 +14,34 @@ use Rattle.hart_threads.specs.Noted.{boot_told, entries_in}
 use Rattle.hart_threads.proofs.Booted.{begins_same}
 use Rattle.hart_threads.proofs.Keeping.{begun_kept}
 use Rattle.hart_threads.proofs.UntoldParts.{all_rest, first_told, fresh_many, fresh_told, one_off}
+use Rattle.hart_threads.specs.Bused.{AreSaved}
+use Rattle.hart_threads.specs.declared.bus_turns.BusTurn.{BusTurn}
+use Rattle.hart_threads.proofs.Numbered.{two_more}
 use Rattle.hart_threads.proofs.unshared.Unshared.new.Goals as goal
 
 pub hand_out-part-requires : goal.hand_out-part-requires
 hand_out-part-requires g c =
     let n = g.J.Journal.parts in
     let some : 0 < length (fresh_from 0 n) = subst (λ (k : ℕ). 0 < k) (sym (fresh_many 0 n)) c.requires.some in
-    record { some = subst (λ (v : BookView). 0 < length v.parts) (sym c.named-book.ensures) some }
+    record { some = subst (λ (v : BookView Entry). 0 < length v.parts) (sym c.named-book.ensures) some }
 
 pub note_journal-part-requires-clause-fresh : goal.note_journal-part-requires-clause-fresh
 note_journal-part-requires-clause-fresh g c κs within =
     let n = g.J.Journal.parts in
-    ap (λ (d : PartView). d.told) c.hand_out-part.ensures.part ∙ ap (λ (v : BookView). (first_of v.parts).told) c.named-book.ensures ∙ first_told (fresh_from 0 n) (fresh_told 0 n)
+    ap (λ (d : PartView Entry). d.told) c.hand_out-part.ensures.part ∙ ap (λ (v : BookView Entry). (first_of v.parts).told) c.named-book.ensures ∙ first_told (fresh_from 0 n) (fresh_told 0 n)
 
 pub returns-clause-rest : goal.returns-clause-rest
 returns-clause-rest g c =
     let n = g.J.Journal.parts in
-    let rest = c.note_journal-part.ensures.parts ∙ ap (λ (v : BookView). v.parts) c.hand_out-part.ensures.keeper ∙ ap (λ (v : BookView). drop 1 v.parts) c.named-book.ensures in
+    let rest = c.note_journal-part.ensures.parts ∙ ap (λ (v : BookView Entry). v.parts) c.hand_out-part.ensures.keeper ∙ ap (λ (v : BookView Entry). drop 1 v.parts) c.named-book.ensures in
     let some : 0 < length (fresh_from 0 n) = subst (λ (k : ℕ). 0 < k) (sym (fresh_many 0 n)) c.requires.some in
-    ap (λ (ds : List PartView). length ds + 1) rest ∙ one_off (fresh_from 0 n) some ∙ fresh_many 0 n
+    ap (λ (ds : List (PartView Entry)). length ds + 1) rest ∙ one_off (fresh_from 0 n) some ∙ fresh_many 0 n
 
 pub returns-clause-fresh : goal.returns-clause-fresh
 returns-clause-fresh g c =
     let n = g.J.Journal.parts in
-    let rest = c.note_journal-part.ensures.parts ∙ ap (λ (v : BookView). v.parts) c.hand_out-part.ensures.keeper ∙ ap (λ (v : BookView). drop 1 v.parts) c.named-book.ensures in
-    subst (λ (ds : List PartView). All (λ d. d.told ≡ []) ds) (sym rest) (all_rest (fresh_from 0 n) (fresh_told 0 n))
+    let rest = c.note_journal-part.ensures.parts ∙ ap (λ (v : BookView Entry). v.parts) c.hand_out-part.ensures.keeper ∙ ap (λ (v : BookView Entry). drop 1 v.parts) c.named-book.ensures in
+    subst (λ (ds : List (PartView Entry)). All (λ d. d.told ≡ []) ds) (sym rest) (all_rest (fresh_from 0 n) (fresh_told 0 n))
 
 pub named-book-requires-clause-book : goal.named-book-requires-clause-book
 named-book-requires-clause-book g c = c.requires.book
@@ -54,6 +58,27 @@ new-doubts-requires-clause-parts g c = c.requires.two
 pub note_journal-part-requires-clause-few : goal.note_journal-part-requires-clause-few
 note_journal-part-requires-clause-few g c κs within = subst (λ (l : List Change). length l ≤ 4096) (sym c.requires.issued) c.requires.few
 
+pub hand_out-own-requires : goal.hand_out-own-requires
+hand_out-own-requires g c = record { some = subst (λ (ds : List (PartView BusTurn)). 0 < length ds) (sym (c.requires.bus ∙ two_more g.J.Journal.size.harts)) (omega arith) }
+
+pub hand_out-run-requires : goal.hand_out-run-requires
+hand_out-run-requires g c =
+    let rest = c.hand_out-own.ensures.parts ∙ ap (λ (ds : List (PartView BusTurn)). drop 1 ds) (c.requires.bus ∙ two_more g.J.Journal.size.harts) in
+    record { some = subst (λ (ds : List (PartView BusTurn)). 0 < length ds) (sym rest) (omega arith) }
+
+pub new-doubts-requires-clause-run : goal.new-doubts-requires-clause-run
+new-doubts-requires-clause-run g c =
+    let rest = c.hand_out-own.ensures.parts ∙ ap (λ (ds : List (PartView BusTurn)). drop 1 ds) (c.requires.bus ∙ two_more g.J.Journal.size.harts) in
+    c.hand_out-run.ensures.part ∙ ap (λ (ds : List (PartView BusTurn)). first_of ds) rest
+
+pub returns-clause-bus : goal.returns-clause-bus
+returns-clause-bus g c = c.hand_out-run.ensures.bus ∙ c.hand_out-own.ensures.bus
+
+pub returns-clause-harts : goal.returns-clause-harts
+returns-clause-harts g c =
+    let rest = c.hand_out-own.ensures.parts ∙ ap (λ (ds : List (PartView BusTurn)). drop 1 ds) (c.requires.bus ∙ two_more g.J.Journal.size.harts) in
+    c.hand_out-run.ensures.parts ∙ ap (λ (ds : List (PartView BusTurn)). drop 1 ds) rest
+
 pub invariant_of-whole : goal.invariant_of-whole
 invariant_of-whole g c = record {
   named = record {
@@ -66,6 +91,10 @@ invariant_of-whole g c = record {
   };
   issued = begins_same g.J.Journal.issued (journal_of c.args.store) c.requires.issued;
   carried = c.requires.carried;
+  there = refl;
+  saved =
+      let own = c.hand_out-own.ensures.part ∙ ap (λ (ds : List (PartView BusTurn)). first_of ds) (c.requires.bus ∙ two_more g.J.Journal.size.harts) in
+      subst (λ (d : PartView BusTurn). AreSaved (life_of c.args.store) d) (sym own) ∣ (refl, tt, c.requires.unsaved []) ∣₁;
   counted = c.note_journal-part.ensures.count;
   few = omega (arith, c.note_journal-part.ensures.count, ap (λ (l : List Change). length l) c.requires.issued, c.requires.few);
   tied = c.note_journal-part.ensures.tied;

@@ -1,0 +1,113 @@
+-- What is done with a bus, and its history.
+use Rattle.std.proofs.Common.{◌≡◌, ⊎_elim, ℕ, Bool, true, false, List, ◌∷◌, Result, Ok, Err, refl, sym, ap, subst, inl, inr}
+use Rattle.std.proofs.Math.Logic.{∥∥₁_map}
+use Rattle.board_model.specs.Durable.{Change}
+use Rattle.board_model.specs.Shapes.{Size}
+use Rattle.board_model.specs.Views.{change_of}
+use Rattle.board_model.specs.declared.durable.Command.{Command}
+use Rattle.board_model.specs.declared.refusal.Refusal.{Refusal}
+use Rattle.disk.specs.declared.device.Disk.{Ghosts}
+use Rattle.disk.specs.declared.device.Lane.{Ghosts as Lanes}
+use Rattle.hart.specs.State.{ArchState}
+use Rattle.hsm.specs.Words.{HartView}
+use Rattle.tallies.specs.Books.{keeper_view, told_after}
+use Rattle.tallies.specs.Logs.{Log}
+use Rattle.tallies.specs.declared.book_views.BookView.{BookView}
+use Rattle.tallies.specs.declared.book_views.PartView.{PartView}
+use Rattle.store.specs.Asked.{Asked}
+use Rattle.store.specs.Lives.{Life, Applied}
+use Rattle.store.specs.Views.{life_of}
+use Rattle.store.specs.declared.stores.Store.{Store}
+use Rattle.sbi_abi.specs.declared.call.Call.{Call}
+use Rattle.sbi_abi.specs.declared.call.Call.TheVariants as calls
+use Rattle.sbi_abi.specs.declared.ret.SbiError.{SbiError}
+use Rattle.sbi_calls.specs.Both.{Known}
+use Rattle.sbi_calls.specs.Words.{is_doze}
+use Rattle.sbi_calls.specs.declared.words.Turned.{Turned}
+use Rattle.susp.specs.Sleeps.{FallsAsleep, SleepsAt}
+use Rattle.susp.specs.declared.buses.Bus.{Bus}
+use Rattle.susp.specs.declared.sleeps.Sleep.{Sleep}
+use Rattle.susp.specs.declared.sleeps.Sleep.TheVariants.{ToRam, ToDisk}
+use Rattle.sbi.specs.Helds.{EndsSleep, MakesHeld}
+use Rattle.sbi.specs.declared.words.Word.{Word}
+use Rattle.sbi.specs.declared.words.Word.TheVariants.{Goes, Over}
+use Rattle.turns.specs.Own.{StepsIf, TurnAsOwn, TurnOwn}
+use Rattle.turns.specs.declared.readies.Ready.{Ready}
+use Rattle.turns.specs.declared.readies.Ready.TheVariants as readies
+use Rattle.hart_threads.specs.Bused.{AreSaved, CalledIf, IsCalled, LeftSo, Made, Makes, SavedBy, StepsBus, TurnsBus, WasTold, bus_turn}
+use Rattle.hart_threads.specs.Runs.{Carries, IsCarriedBy, StepsMake}
+use Rattle.hart_threads.specs.declared.bus_turns.BusTurn.{BusTurn}
+use Rattle.hart_threads.proofs.Carrying.{asked_carried, held_keeps}
+
+-- ---- one turn more
+pub more : (count who : ℕ) (x : BusTurn) (l : Log BusTurn) (ds : List (PartView BusTurn)) (v : BookView BusTurn) (m n left : Bus) → Made l m n → x.found ≡ n → x.left ≡ left
+    → v ≡ keeper_view count ((who, x) ∷ l) ds → Made v.log m left
+more count who x l ds v m n left made found is view =
+    subst (λ (w : BookView BusTurn). Made w.log m left) (sym view) (∥∥₁_map made (λ (row : Makes l m n). (sym is, subst (λ k. Makes l m k) (sym found) row)))
+
+-- ---- a turn of a hart, with the bus for its step or without it
+turned_by : (size : Size) (r : Ready) (s t : ArchState) (m n begun : List ℕ) (k k' : Known) (word : Turned) (d d' : PartView BusTurn) (Same : Type 0) → TurnAsOwn size r s m t n k k' word
+    → StepsIf r (StepsMake begun m × StepsMake begun n × StepsBus d d' m n) (StepsMake begun m × Same) → (Same → d' ≡ d) → TurnsBus r d d' m n × StepsMake begun m × StepsMake begun n
+turned_by size readies.Idle s t m n begun k k' word d d' Same turned took same = (same took.1, took.0, subst (StepsMake begun) (sym turned.1) took.0)
+turned_by size readies.Woke s t m n begun k k' word d d' Same turned took same = (same took.1, took.0, subst (StepsMake begun) (sym turned.1) took.0)
+turned_by size (readies.Enters a o) s t m n begun k k' word d d' Same turned took same = (same took.1, took.0, subst (StepsMake begun) (sym turned.1) took.0)
+turned_by size (readies.Steps pending) s t m n begun k k' word d d' Same turned took same = (took.2, took.0, took.1)
+
+pub turned_bus : (size : Size) (s t : ArchState) (m n begun : List ℕ) (k k' : Known) (word : Turned) (d d' : PartView BusTurn) (Same : Type 0) (own : TurnOwn size s m t n k k' word)
+    → StepsIf own.0 (StepsMake begun m × StepsMake begun n × StepsBus d d' m n) (StepsMake begun m × Same) → (Same → d' ≡ d) → TurnsBus own.0 d d' m n × StepsMake begun m × StepsMake begun n
+turned_bus size s t m n begun k k' word d d' Same own took same = turned_by size own.0 s t m n begun own.1 k' word d d' Same own.3 took same
+
+-- ---- a durable call
+stays_if : (dozes : Bool) (bus bus' : Bus) → bus' ≡ bus → CalledIf dozes bus bus'
+stays_if true bus bus' e = ap (λ (b : Bus). b.ram) e
+stays_if false bus bus' e = e
+
+stays_called : (word : Word) (bus bus' : Bus) → bus' ≡ bus → IsCalled word bus bus'
+stays_called (Goes did) bus bus' e = stays_if (is_doze did) bus bus' e
+stays_called (Over end) bus bus' e = e
+
+module _ {D L : Type 0} {g : Ghosts D L} {l : Lanes L} where
+  fallen_called : (sleep : Sleep) (by site opaque : ℕ) (vs vs' : List HartView) (bus bus' : Bus) (fell : Result Sleep SbiError) (s t : ArchState) (old new : Store D L g l) (word : Word)
+      → FallsAsleep sleep by site opaque vs bus old fell vs' bus' new → EndsSleep fell s t word → IsCalled word bus bus'
+  fallen_called ToRam by site opaque vs vs' bus bus' fell s t old new word p ends =
+      let told = subst (λ (x : Result Sleep SbiError). EndsSleep x s t word) p.0.0 ends in
+      subst (λ (w : Word). IsCalled w bus bus') (sym told.1) (ap (λ (b : Bus). b.ram) p.0.1)
+  fallen_called ToDisk by site opaque vs vs' bus bus' fell s t old new word p ends = stays_called word bus bus' p.3
+
+  slept_called : (harts by : ℕ) (asked : Result (Sleep × ℕ) SbiError) (opaque : ℕ) (vs vs' : List HartView) (bus bus' : Bus) (fell : Result Sleep SbiError) (s t : ArchState) (old new : Store D L g l) (word : Word)
+      → SleepsAt harts by asked opaque vs bus old fell vs' bus' new → EndsSleep fell s t word → IsCalled word bus bus'
+  slept_called harts by (Err e) opaque vs vs' bus bus' fell s t old new word p ends = stays_called word bus bus' p.2
+  slept_called harts by (Ok asked) opaque vs vs' bus bus' fell s t old new word p ends =
+      ⊎_elim (λ denied. stays_called word bus bus' denied.3) (λ fallen. fallen_called asked.0 by asked.1 opaque p.1 vs' bus bus' fell s t old new word fallen.1 ends) p.3
+
+  pub held_called : (harts : ℕ) (call : Call) (s t : ArchState) (k k' : Known) (bus bus' : Bus) (old new : Store D L g l) (word : Word) → MakesHeld harts call s t k k' bus bus' old new word → IsCalled word bus bus'
+  held_called harts (calls.SystemReset kind cause) s t k k' bus bus' old new word p = stays_called word bus bus' p.2
+  held_called harts (calls.SystemSuspend kind address opaque) s t k k' bus bus' old new word p =
+      slept_called harts s.id p.1.asked opaque k.harts k'.harts bus bus' p.0 s t old new word p.1.slept p.3
+  held_called harts call s t k k' bus bus' old new word p = stays_called word bus bus' p.3
+
+-- ---- what the store's part was told
+carries_more : (P Q : List ℕ → Type 0) (c : Change) → ((m : List ℕ) → P m → Q m) → Carries P c → Carries Q c
+carries_more P Q c on is hart address opaque memory e = on memory (is hart address opaque memory e)
+
+pub carried_more : (P Q : List ℕ → Type 0) (life : Life) → ((m : List ℕ) → P m → Q m) → IsCarriedBy P life → IsCarriedBy Q life
+carried_more P Q life on is = record { journal = λ k c e. carries_more P Q c on (is.journal k c e); doubt = λ c e. carries_more P Q c on (is.doubt c e) }
+
+told_more : (told : List (ℕ × BusTurn)) (t : ℕ × BusTurn) (m : List ℕ) → WasTold told m → WasTold (t ∷ told) m
+told_more told t m was = ∥∥₁_map was (λ (so : LeftSo m told). let more : LeftSo m (t ∷ told) = inr so in more)
+
+module _ {D L : Type 0} {g : Ghosts D L} {l : Lanes L} where
+  -- once a command was asked for that is no suspension
+  pub saved_still : (d : PartView BusTurn) (old new : Store D L g l) (command : Command) (r : Result ℕ Refusal) → AreSaved (life_of old) d → Asked Applied old (change_of command) r new → AreSaved (life_of new) d
+  saved_still d old new command r saved asked = ∥∥₁_map saved (λ (by : SavedBy (life_of old) d). let still : SavedBy (life_of new) d = (by.0, by.1, asked_carried (WasTold d.told) old new command r by.2 asked) in still)
+
+  -- once a durable call was made, directly behind which it looked
+  pub saved_held : (harts : ℕ) (call : Call) (s t : ArchState) (k k' : Known) (bus bus' : Bus) (old new : Store D L g l) (word : Word) (n : ℕ) (d d' : PartView BusTurn)
+      → d' ≡ told_after n (bus_turn bus' bus') d → AreSaved (life_of old) d → bus'.ram ≡ bus.ram → MakesHeld harts call s t k k' bus bus' old new word → AreSaved (life_of new) d'
+  saved_held harts call s t k k' bus bus' old new word n d d' is saved same made =
+      let told = (n, bus_turn bus' bus') ∷ d.told in
+      let here : WasTold told bus.ram = ∣ inl (sym same) ∣₁ in
+      subst (AreSaved (life_of new)) (sym is) (∥∥₁_map saved (λ (by : SavedBy (life_of old) d).
+      let carried = held_keeps (WasTold told) harts call s t k k' bus bus' old new word (carried_more (WasTold d.told) (WasTold told) (life_of old) (told_more d.told (n, bus_turn bus' bus')) by.2) here made in
+      let still : SavedBy (life_of new) (told_after n (bus_turn bus' bus') d) = (by.0, (refl, by.1), carried.carried) in
+      still))

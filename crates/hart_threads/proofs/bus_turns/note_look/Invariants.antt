@@ -1,0 +1,5 @@
+use Rattle.hart_threads.specs.Bused.{bus_turn}
+use Rattle.hart_threads.proofs.bus_turns.note_look.Given as goal
+
+abbrev pub ghosts-note_turn : goal.ghosts-note_turn
+ghosts-note_turn g a = record { entry = bus_turn a.bus.now a.bus.now }
