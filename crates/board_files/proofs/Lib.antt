@@ -7,3 +7,4 @@ mod InBlocks
 pub mod PayloadFaults
 pub mod FaultKinds
 pub mod FileSectors
+pub mod InFolders

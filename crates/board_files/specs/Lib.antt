@@ -12,3 +12,5 @@ pub mod Kept
 pub mod Named
 pub mod Disks
 pub mod Faults
+-- The disk's file in its folder, and what a crash leaves there.
+pub mod Folders

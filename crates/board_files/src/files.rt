@@ -44,22 +44,32 @@ pub trait HeldFile: DiskFile {
     ghost use Rattle.std.specs.Prelude.{◌≡◌, IfErr, IfSome, OnErr, OnOk};
     ghost use Rattle.board_files.specs.Disks.{HoldsDisk, KeepsOrHolds};
     ghost use Rattle.board_files.specs.Faults.{IsFileFault};
+    ghost use Rattle.board_files.specs.Folders.{LeftAt, NoMore, PutsDisk};
+
+    /// What a crash leaves at its path, where its bytes are known.
+    ghost left: { Self → LeftAt };
 
     /// Writes the disk of these sectors into the file. Of a new disk the file then holds the sectors and nothing else. Of a
     /// disk that came from the file, the bytes after its sectors stay. After a fault the file is as it was, or as it was to
-    /// become.
+    /// become. A crash leaves it whole, at each moment.
     fn write(&mut self, sectors: &[Sector], is_new: bool) -> Result<(), FileFault>
         ensures written { OnOk result (IfSome (Self.bytes self.new)
             (HoldsDisk is_new sectors.now (Self.bytes self.old))) }
         ensures kept { OnErr result (IfSome (Self.bytes self.new)
             (KeepsOrHolds is_new sectors.now (Self.bytes self.old))) }
+        ensures crash { IfSome (Self.bytes self.old) (λ all. PutsDisk is_new sectors.now all result (Self.bytes self.new)
+            (left self.old) (left self.new)) }
         ensures formed { Self.block self.new ≡ Self.block self.old }
         ensures failed { IfErr result (λ e. IsFileFault e.fault) };
+
+    /// This moment is one of all.
+    ghost counts_now: { (file : Self) → IfSome (Self.bytes file) (λ all. NoMore (left file).ever (left file).now) };
 }
 
 /// Where the files of disks are.
 pub trait BoardFiles {
-    ghost use Rattle.std.specs.Prelude.{◌≡◌, ℕ, List, Option, IfOk, IfErr, true};
+    ghost use Rattle.std.specs.Prelude.{◌≡◌, ℕ, List, Option, IfOk, IfErr, IfSome, true};
+    ghost use Rattle.board_files.specs.Folders.{NoMore};
     ghost use Rattle.board_files.specs.Files.{IfKnown, IsDurable};
     ghost use Rattle.board_files.specs.Faults.{IsFileFault};
 
@@ -72,6 +82,9 @@ pub trait BoardFiles {
     /// The bytes of the file at a path, where they are known. None are where there is no file.
     ghost disk_at: { Self → List ℕ → Option (List ℕ) };
 
+    /// What a crash may leave at a path, where those are known.
+    ghost left_at: { Self → List ℕ → List ℕ → Type 0 };
+
     /// Takes the file at that path for a session. Its disk is a new one or the file's. It is kept in the file all along, or
     /// written at the end. For a new disk the file is made if there is none, and its sectors lie in blocks of that size.
     fn hold(
@@ -82,6 +95,8 @@ pub trait BoardFiles {
         block: BlockSize,
     ) -> Result<Self::Held, FileFault>
         ensures held { IfOk result (λ held. Self.Held.bytes held ≡ disk_at self.now path.now) }
+        ensures left { IfOk result (λ held. IfSome (disk_at self.now path.now)
+            (λ all. NoMore (left_at self.now path.now) (Self.Held.left held).ever)) }
         ensures formed { is_new ≡ true → IfOk result (λ held. Self.Held.block held ≡ block.bytes) }
         ensures failed { IfErr result (λ e. IsFileFault e.fault) };
 

@@ -3,7 +3,6 @@
 ghost use Rattle.std.specs.Prelude.{◌≡◌, IfErr, IfOk, IfSome, length};
 ghost use Rattle.board_files.specs.Faults.{IsFileFault};
 ghost use Rattle.board_files.specs.Forms.{form_of};
-ghost use Rattle.std.proofs.Props.{props};
 
 use crate::block_size::BlockSize;
 use crate::files::DiskFile;
@@ -35,7 +34,6 @@ pub struct FormedFile<F: ByteFile + Drop> {
     pub file: F,
     /// How many bytes each sector's block has; 512 where they lie one after the other.
     pub block: BlockSize,
-    ghost formed: { IfSome (F.held file) (λ all. block.bytes ≡ form_of all) } by { Prim.hlevel props },
 }
 
 /// The blocks of a file of so many bytes, which begins with these 512.
@@ -61,6 +59,7 @@ impl<F: ByteFile + Drop> FormedFile<F> {
     /// The file with its sectors as it says: in blocks where its first bytes say how large, and it is whole blocks of them.
     pub fn found(file: F) -> Result<FormedFile<F>, FileFault>
         ensures found { IfOk result (λ formed. formed.file ≡ file) }
+        ensures formed { IfOk result (λ formed. IfSome (F.held file) (λ all. formed.block.bytes ≡ form_of all)) }
         ensures failed { IfErr result (λ e. IsFileFault e.fault) }
     {
         let block = form_by(&file)?;

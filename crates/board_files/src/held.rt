@@ -5,7 +5,7 @@ ghost use Rattle.board_files.specs.Faults.{IsFileFault};
 
 use crate::files::unreached;
 use crate::system::SystemFile;
-use crate::written::{make_beside, path_beside};
+use crate::system_folder::{SystemFolder, make_beside};
 use board_model::Refusal;
 use command_line::{FileFault, not_regular};
 use std::fs::{self, File, OpenOptions, TryLockError};
@@ -67,17 +67,27 @@ fn opened(rt: &HostRuntime, path: &str, is_new: bool) -> io::Result<File> {
 
 /// Tries whether a file can be made beside the disk's, as the end of the session has to, and removes it. So a folder that takes
 /// no file is told at the start, and not once commands were acknowledged.
-fn try_beside(held: &SystemFile<'_>) -> Result<(), FileFault>
+fn try_beside(held: &SystemFile<'_>, beside: &str) -> Result<(), FileFault>
     ensures failed { IfErr result (λ e. IsFileFault e.fault) }
 {
-    let beside = path_beside(held)?;
-    let tried = match make_beside(held, &beside) {
-        Ok(_file) => fs::remove_file(held.rt, beside.as_str()),
+    let tried = match make_beside(held, beside) {
+        Ok(_file) => fs::remove_file(held.rt, beside),
         Err(e) => Err(e),
     };
     match tried {
         Ok(()) => Ok(()),
-        Err(e) => Err(unreached(held.rt.alloc(), &beside, e)),
+        Err(e) => Err(unreached(held.rt.alloc(), beside, e)),
+    }
+}
+
+/// The path of the file beside.
+fn path_beside(held: &SystemFile<'_>) -> Result<String, FileFault>
+    ensures failed { IfErr result (λ e. IsFileFault e.fault) }
+{
+    let path = &held.path;
+    match format!(in held.rt.alloc(); "{path}.new") {
+        Ok(beside) => Ok(beside),
+        Err(_) => Err(FileFault::refused(Refusal::Memory)),
     }
 }
 
@@ -88,7 +98,7 @@ pub fn hold<'a>(
     path: &str,
     is_new: bool,
     is_synced: bool,
-) -> Result<SystemFile<'a>, FileFault>
+) -> Result<SystemFolder<'a>, FileFault>
     ensures failed { IfErr result (λ e. IsFileFault e.fault) }
 {
     let path = real_path(rt, path)?;
@@ -97,8 +107,9 @@ pub fn hold<'a>(
         Err(e) => return Err(unreached(rt.alloc(), &path, e)),
     };
     let held = SystemFile { rt, path, file };
+    let beside = path_beside(&held)?;
     if !is_synced {
-        try_beside(&held)?;
+        try_beside(&held, &beside)?;
     }
-    Ok(held)
+    Ok(SystemFolder::new(held, beside))
 }

@@ -1,6 +1,6 @@
 //! The files of the system, of whose bytes nothing is known.
 
-ghost use Rattle.std.specs.Prelude.{None};
+ghost use Rattle.std.specs.Prelude.{None, ⊤};
 
 use crate::block_device::SectorsInBlocks;
 use crate::block_size::BlockSize;
@@ -9,7 +9,8 @@ use crate::files::{BoardFiles, DiskFile, DiskFiles, HeldFile, unreached};
 use crate::formed_file::{ByteFile, FormedFile};
 use crate::held::hold;
 use crate::payload_files::PayloadFiles;
-use crate::written::{kept_file, write_disk};
+use crate::system_folder::SystemFolder;
+use crate::written::kept_file;
 use board_model::Refusal;
 use command_line::{FileFault, open_regular};
 use disk::Sector;
@@ -50,10 +51,10 @@ impl<'a> ByteFile for SystemFile<'a> {
     }
 }
 
-/// A disk's file of the system, in whatever form it holds the sectors.
+/// A disk's file of the system in its folder, in whatever form it holds the sectors.
 #[derive(Drop)]
 pub struct SystemDisk<'a> {
-    pub formed: FormedFile<SystemFile<'a>>,
+    pub formed: FormedFile<SystemFolder<'a>>,
 }
 
 impl<'a> DiskFile for SystemDisk<'a> {
@@ -75,9 +76,15 @@ impl<'a> DiskFile for SystemDisk<'a> {
 }
 
 impl<'a> HeldFile for SystemDisk<'a> {
+    ghost use Rattle.board_files.specs.Folders.{left_of, no_facts};
+
+    ghost left = { λ disk. left_of no_facts };
+
     fn write(&mut self, sectors: &[Sector], is_new: bool) -> Result<(), FileFault> {
-        write_disk(&self.formed, sectors, is_new)
+        self.formed.write(sectors, is_new)
     }
+
+    ghost counts_now = { λ disk. tt };
 }
 
 impl<'a> PayloadFiles for SystemFiles<'a> {
@@ -96,6 +103,8 @@ impl<'a> BoardFiles for SystemFiles<'a> {
     type Kept = KeptFile;
 
     ghost disk_at = { λ files path. None };
+
+    ghost left_at = { λ files path c. ⊤ };
 
     fn hold(
         &self,
@@ -120,7 +129,7 @@ impl<'a> BoardFiles for SystemFiles<'a> {
         is_new: bool,
     ) -> Result<KeptFile, FileFault> {
         let (rt, block) = (self.0, held.formed.block);
-        let file = kept_file(held.formed, sectors.len(), is_new)?;
+        let file = kept_file(held.formed, sectors.len(), is_new)?.held.file;
         match SectorsInBlocks::new(rt.alloc(), FileBlocks { file, block }) {
             Ok(sectors) => Ok(KeptFile { sectors }),
             Err(_) => Err(FileFault::refused(Refusal::Memory)),
@@ -144,7 +153,8 @@ impl<'a> DiskFiles for SystemFiles<'a> {
         };
         match path.to_string(rt.alloc()) {
             Ok(path) => {
-                let formed = FormedFile::found(SystemFile { rt, path, file })?;
+                let file = SystemFile { rt, path, file };
+                let formed = FormedFile::found(SystemFolder::new(file, String::new(rt.alloc())))?;
                 Ok(SystemDisk { formed })
             }
             Err(_) => Err(FileFault::refused(Refusal::Memory)),

@@ -1,41 +1,48 @@
 //! The disk's file, written beside and renamed.
 
-ghost use Rattle.std.specs.Prelude.{◌≡◌, IfErr, IfOk, length};
+ghost use Rattle.std.specs.Prelude.{◌≡◌, ◌*◌, ◌-◌, ◌^◌, ◌++◌, [], None, false, true, min, IfErr, IfOk, IfSome, IsOk, OnOk, length, take};
+ghost use Rattle.std.specs.List.{concat};
 ghost use Rattle.board_files.specs.Faults.{IsFileFault};
+ghost use Rattle.board_files.specs.Folders.{IsBlankOf, IsKept, IsReady, MakesBeside, Puts, Replaces, SyncsBeside, blank_disk, blocks_of, with_disk};
 
 use crate::block_size::{BlockSize, lay};
-use crate::files::unreached;
-use crate::formed_file::FormedFile;
-use crate::held::locked;
-use crate::system::SystemFile;
-use board_model::Refusal;
+use crate::files::{DiskFile, HeldFile};
+use crate::folder::Folder;
+use crate::formed_file::{ByteFile, FormedFile};
 use command_line::FileFault;
 use disk::Sector;
-use std::fs::{self, File};
-use std::io::{self, BufWriter, Seek, SeekFrom, Write};
-use std::os::unix::fs::{FileExt, MetadataExt, fchown};
-use std::path::Path;
+use std::alloc::{AllocError, Global};
+use std::io;
 
 /// A block of that size, in which sectors are laid in turn.
-fn blank_block(rt: &HostRuntime, size: BlockSize) -> io::Result<Vec<u8>>
+fn blank_block(alloc: Global, size: BlockSize) -> Result<Vec<u8>, AllocError>
     ensures { IfOk result (λ block. length block.items ≡ size.bytes) }
 {
-    let block = vec![in rt.alloc(); 0; size.bytes as usize]?;
-    Ok(block)
+    vec![in alloc; 0; size.bytes as usize]
+}
+
+/// So many sectors, in bytes, each in a block of that size.
+fn bytes_of(sectors: usize, size: BlockSize) -> u64
+    ensures { result ≡ min (sectors * size.bytes) (2 ^ 64 - 1) }
+{
+    (sectors as u64).saturating_mul(size.bytes as u64)
 }
 
 /// Whether the file begins with just these sectors, each in a block of that size.
-fn begins_with(
-    rt: &HostRuntime,
-    file: &File,
-    sectors: &[Sector],
-    size: BlockSize,
-) -> io::Result<bool> {
-    let mut block = blank_block(rt, size)?;
-    let mut found = blank_block(rt, size)?;
+#[tactic(auto, using(crate::proofs::InFolders::none_there, crate::proofs::InFolders::all_there))]
+fn begins_with<F: Folder>(file: &F, sectors: &[Sector], size: BlockSize) -> Result<bool, FileFault>
+    ensures { IfOk result (λ begins. begins ≡ true → IfSome (F.held file.now)
+        (λ all. take (size.bytes * length sectors.now) all ≡ concat (blocks_of size.bytes sectors.now))) }
+{
+    let (Ok(mut block), Ok(mut found)) = (
+        blank_block(file.alloc(), size),
+        blank_block(file.alloc(), size),
+    ) else {
+        return Ok(false);
+    };
     for number in 0..sectors.len() {
         lay(&mut block, size, number, &sectors[number]);
-        file.read_exact_at(&mut found, bytes_of(number, size))?;
+        file.read_at(bytes_of(number, size), &mut found)?;
         if found != block {
             return Ok(false);
         }
@@ -43,200 +50,215 @@ fn begins_with(
     Ok(true)
 }
 
-/// So many sectors, in bytes, each in a block of that size.
-fn bytes_of(sectors: usize, size: BlockSize) -> u64 {
-    (sectors as u64).saturating_mul(size.bytes as u64)
-}
-
 /// Whether the file holds the disk already, so that nothing is to be written. Of a disk that was there, more bytes may follow its
 /// sectors, which are no part of it. Of a new disk none may.
-fn holds(held: &FormedFile<SystemFile<'_>>, sectors: &[Sector], is_new: bool) -> io::Result<bool> {
-    let file = &held.file.file;
-    let length = file.metadata()?.len();
-    let whole = bytes_of(sectors.len(), held.block);
+#[tactic(auto, using(crate::proofs::InFolders::is_there))]
+fn holds<F: Folder>(
+    file: &F,
+    sectors: &[Sector],
+    size: BlockSize,
+    is_new: bool,
+) -> Result<bool, FileFault>
+    ensures { IfOk result (λ holds. holds ≡ true → IfSome (F.held file.now)
+        (λ all. with_disk size.bytes is_new sectors.now all ≡ all)) }
+{
+    let length = file.byte_count()?;
+    let whole = bytes_of(sectors.len(), size);
     if length < whole || is_new && length != whole {
         return Ok(false);
     }
-    begins_with(held.file.rt, file, sectors, held.block)
+    begins_with(file, sectors, size)
 }
 
-/// Makes an empty file at that path, which replaces one that an earlier session left. It has the mode of the disk's file, and its
-/// owner where the system allows that.
-pub fn make_beside(held: &SystemFile<'_>, beside: &str) -> io::Result<File> {
-    let rt = held.rt;
-    if let Ok(left) = fs::symlink_metadata(rt, beside) {
-        if left.is_file() {
-            fs::remove_file(rt, beside)?;
-        }
+/// Writes these sectors at the end of the file beside, each in a block of that size.
+#[tactic(auto, using(crate::proofs::InFolders::no_block, crate::proofs::InFolders::none_appended, crate::proofs::InFolders::not_appended, crate::proofs::InFolders::all_appended))]
+fn append_sectors<F: Folder>(file: &mut F, sectors: &[Sector], size: BlockSize) -> io::Result<()>
+    ensures held { F.held file.new ≡ F.held file.old }
+    ensures made { IfSome (F.held file.old) (λ all. MakesBeside
+        ((F.folder_facts file.old).beside ++ concat (blocks_of size.bytes sectors.now)) result
+        (F.folder_facts file.old) (F.folder_facts file.new)) }
+{
+    let mut block = blank_block(file.alloc(), size)?;
+    for number in 0..sectors.len() {
+        lay(&mut block, size, number, &sectors[number]);
+        file.append(&block)?;
     }
-    let file = File::create_new(rt, beside)?;
-    let old = held.file.metadata()?;
-    let _given = fchown(&file, Some(old.uid()), Some(old.gid()));
-    file.set_permissions(old.permissions())?;
-    Ok(file)
-}
-
-/// Writes the bytes of a file from that one on.
-fn copy_behind<W: Write>(mut from: File, at: u64, out: &mut W) -> io::Result<()> {
-    let _at = from.seek(SeekFrom::Start(at))?;
-    let _count = io::copy(&mut from, out)?;
     Ok(())
 }
 
-/// Writes these sectors into a new file, each into a block of that size, and makes it durable. Of a disk that was there, the bytes
-/// after its sectors follow.
-fn write_sectors(
-    rt: &HostRuntime,
-    file: File,
+/// Writes the disk into the file beside.
+#[tactic(auto, using(crate::proofs::InFolders::not_written, crate::proofs::InFolders::new_written, crate::proofs::InFolders::old_written))]
+fn append_disk<F: Folder>(
+    file: &mut F,
     sectors: &[Sector],
     size: BlockSize,
-    behind: Option<File>,
-) -> io::Result<()> {
-    let mut out = BufWriter::new(rt.alloc(), file)?;
-    let mut block = blank_block(rt, size)?;
-    for number in 0..sectors.len() {
-        lay(&mut block, size, number, &sectors[number]);
-        out.write_all(&block)?;
-    }
-    if let Some(old) = behind {
-        copy_behind(old, bytes_of(sectors.len(), size), &mut out)?;
-    }
-    out.flush()?;
-    out.get_ref().sync_all()
-}
-
-/// Makes it durable that the file at this path is in its folder.
-fn sync_folder(rt: &HostRuntime, path: &str) -> io::Result<()> {
-    let folder = match Path::new(path).parent() {
-        Some(parent) if !parent.as_str().is_empty() => parent.as_str(),
-        _ => ".",
-    };
-    fs::open(rt, folder)?.sync_all()
-}
-
-/// Renames the file beside over the disk's, and makes that durable.
-fn replace(held: &SystemFile<'_>, beside: &str) -> io::Result<()> {
-    fs::rename(held.rt, beside, held.path.as_str())?;
-    sync_folder(held.rt, &held.path)
-}
-
-/// The path of the file beside.
-pub fn path_beside(held: &SystemFile<'_>) -> Result<String, FileFault>
-    ensures failed { IfErr result (λ e. IsFileFault e.fault) }
-{
-    let path = &held.path;
-    match format!(in held.rt.alloc(); "{path}.new") {
-        Ok(beside) => Ok(beside),
-        Err(_) => Err(FileFault::refused(Refusal::Memory)),
-    }
-}
-
-/// Writes the disk into the file beside. Where it cannot be written whole it is removed.
-fn write_beside(
-    held: &FormedFile<SystemFile<'_>>,
-    beside: &str,
-    sectors: &[Sector],
     is_new: bool,
-) -> io::Result<()> {
-    let rt = held.file.rt;
-    let file = make_beside(&held.file, beside)?;
-    let behind = if is_new {
-        Ok(None)
+) -> io::Result<()>
+    ensures held { F.held file.new ≡ F.held file.old }
+    ensures made { IfSome (F.held file.old) (λ all. MakesBeside
+        ((F.folder_facts file.old).beside ++ with_disk size.bytes is_new sectors.now all) result
+        (F.folder_facts file.old) (F.folder_facts file.new)) }
+{
+    append_sectors(file, sectors, size)?;
+    if is_new {
+        Ok(())
     } else {
-        held.file.file.try_clone().map(Some)
-    };
-    let wrote = match behind {
-        Ok(behind) => write_sectors(rt, file, sectors, held.block, behind),
-        Err(e) => Err(e),
-    };
+        file.append_rest(bytes_of(sectors.len(), size))
+    }
+}
+
+/// Makes the file beside durable, where it was written whole. Else it is removed.
+#[tactic(auto, using(crate::proofs::InFolders::unsettled, crate::proofs::InFolders::unsynced))]
+fn settle<F: Folder>(file: &mut F, wrote: io::Result<()>) -> io::Result<()>
+    ensures held { F.held file.new ≡ F.held file.old }
+    ensures whole { OnOk result (IsOk wrote) }
+    ensures synced { IfSome (F.held file.old) (λ all. SyncsBeside result (F.folder_facts file.old) (F.folder_facts file.new)) }
+{
     if let Err(e) = wrote {
-        let _gone = fs::remove_file(rt, beside);
+        file.remove();
+        return Err(e);
+    }
+    if let Err(e) = file.sync_beside() {
+        file.remove();
         return Err(e);
     }
     Ok(())
+}
+
+/// Writes the disk into a file beside, and makes it durable.
+#[tactic(auto, using(crate::proofs::InFolders::unready, crate::proofs::InFolders::is_ready))]
+fn make_disk<F: Folder>(
+    file: &mut F,
+    sectors: &[Sector],
+    size: BlockSize,
+    is_new: bool,
+) -> io::Result<()>
+    ensures held { F.held file.new ≡ F.held file.old }
+    ensures made { IfSome (F.held file.old) (λ all. IsReady (with_disk size.bytes is_new sectors.now all) result
+        (F.folder_facts file.old) (F.folder_facts file.new)) }
+{
+    file.create(false)?;
+    let wrote = append_disk(file, sectors, size, is_new);
+    settle(file, wrote)
+}
+
+/// Renames the file beside over the disk's, and makes that durable.
+#[tactic(auto, using(crate::proofs::InFolders::not_renamed, crate::proofs::InFolders::replaced, crate::proofs::InFolders::stays_unknown))]
+fn replace<F: Folder>(file: &mut F) -> io::Result<()>
+    ensures unknown { F.held file.old ≡ None → F.held file.new ≡ None }
+    ensures replaced { IfSome (F.held file.old) (λ all. Replaces all result (F.held file.new)
+        (F.folder_facts file.old) (F.folder_facts file.new)) }
+{
+    file.rename()?;
+    file.sync_folder()
 }
 
 /// Writes the disk into its file, unless the file holds it already. It is written into a file beside, named `.new`, which is then
 /// renamed over the disk's. So a host that crashes meanwhile leaves the old file or the new one whole, and perhaps the file beside.
 /// Where that cannot be written whole it is removed.
-pub fn write_disk(
-    held: &FormedFile<SystemFile<'_>>,
+#[tactic(auto, using(crate::proofs::InFolders::held_already, crate::proofs::InFolders::not_made, crate::proofs::InFolders::put_there, crate::proofs::InFolders::put_failed))]
+fn write_disk<F: Folder>(
+    file: &mut F,
     sectors: &[Sector],
+    size: BlockSize,
     is_new: bool,
 ) -> Result<(), FileFault>
+    ensures unknown { F.held file.old ≡ None → F.held file.new ≡ None }
+    ensures put { IfSome (F.held file.old) (λ all. Puts size.bytes is_new sectors.now all result (F.held file.new)
+        (F.folder_facts file.old) (F.folder_facts file.new)) }
     ensures failed { IfErr result (λ e. IsFileFault e.fault) }
 {
-    if let Ok(true) = holds(held, sectors, is_new) {
+    if let Ok(true) = holds(file, sectors, size, is_new) {
         return Ok(());
     }
-    let file = &held.file;
-    let beside = path_beside(file)?;
-    if let Err(e) = write_beside(held, &beside, sectors, is_new) {
-        return Err(unreached(file.rt.alloc(), &beside, e));
+    if let Err(e) = make_disk(file, sectors, size, is_new) {
+        return Err(file.fault_beside(e));
     }
-    match replace(file, &beside) {
+    match replace(file) {
         Ok(()) => Ok(()),
-        Err(e) => Err(unreached(file.rt.alloc(), &file.path, e)),
+        Err(e) => Err(file.fault(e)),
     }
 }
 
-/// Makes the file one of so many zero sectors, each in a block of that size, and makes it durable.
-fn blank(rt: &HostRuntime, file: &File, sectors: usize, size: BlockSize) -> io::Result<()> {
-    file.set_len(bytes_of(sectors, size))?;
-    if size.bytes != 512 {
-        let mut block = blank_block(rt, size)?;
-        lay(&mut block, size, 0, &[0; 512]);
-        file.write_all_at(&block, 0)?;
+impl<F: Folder + Drop> HeldFile for FormedFile<F> {
+    ghost use Rattle.std.specs.Prelude.{◌==◌};
+    ghost use Rattle.board_files.specs.Folders.{counts_in, left_of};
+
+    ghost left = { λ f. left_of (F.folder_facts f.file) };
+
+    #[tactic(auto, using(crate::proofs::InFolders::disk_written, crate::proofs::InFolders::disk_kept, crate::proofs::InFolders::disk_left))]
+    fn write(&mut self, sectors: &[Sector], is_new: bool) -> Result<(), FileFault> {
+        write_disk(&mut self.file, sectors, self.block, is_new)
     }
-    file.sync_all()
+
+    ghost counts_now = { λ f. counts_in (f.block.bytes == 512) (F.held f.file) (F.folder_facts f.file) (F.counts_now f.file) };
 }
 
-/// A file of so many zero sectors at that path. Its lock is taken first, so that no other session has it once it is renamed.
-fn blank_beside(
-    held: &FormedFile<SystemFile<'_>>,
-    beside: &str,
-    sectors: usize,
-) -> io::Result<File> {
-    let rt = held.file.rt;
-    let file = locked(rt, beside, make_beside(&held.file, beside)?)?;
-    if let Err(e) = blank(rt, &file, sectors, held.block) {
-        let _gone = fs::remove_file(rt, beside);
-        return Err(e);
+/// Makes the file beside, which is empty, one of so many zero sectors, each in a block of that size.
+#[tactic(auto, using(crate::proofs::InFolders::no_block, crate::proofs::InFolders::plain_filled, crate::proofs::InFolders::blocks_filled))]
+fn fill_blank<F: Folder>(file: &mut F, sectors: usize, size: BlockSize) -> io::Result<()>
+    ensures held { F.held file.new ≡ F.held file.old }
+    ensures made { IfSome (F.held file.old) (λ all. IsBlankOf size.bytes sectors → (F.folder_facts file.old).beside ≡ []
+        → MakesBeside (blank_disk size.bytes sectors) result (F.folder_facts file.old) (F.folder_facts file.new)) }
+{
+    let count = bytes_of(sectors, size);
+    if size.bytes == 512 {
+        return file.fill(&[], count);
     }
-    Ok(file)
+    let mut block = blank_block(file.alloc(), size)?;
+    lay(&mut block, size, 0, &[0; 512]);
+    file.fill(&block, count)
 }
 
-/// Puts a blank file of so many sectors into the place of the disk's, and gives it.
-fn blank_file(held: &FormedFile<SystemFile<'_>>, sectors: usize) -> Result<File, FileFault>
+/// Makes a blank file beside, and makes it durable. Its lock is taken first, so that no other session has it once it is renamed.
+#[tactic(auto, using(crate::proofs::InFolders::unready_blank, crate::proofs::InFolders::is_blank_ready))]
+fn make_blank<F: Folder>(file: &mut F, sectors: usize, size: BlockSize) -> io::Result<()>
+    ensures held { F.held file.new ≡ F.held file.old }
+    ensures made { IfSome (F.held file.old) (λ all. IsBlankOf size.bytes sectors
+        → IsReady (blank_disk size.bytes sectors) result (F.folder_facts file.old) (F.folder_facts file.new)) }
+{
+    file.create(true)?;
+    let wrote = fill_blank(file, sectors, size);
+    settle(file, wrote)
+}
+
+/// Puts a blank file of so many sectors into the place of the disk's.
+#[tactic(auto, using(crate::proofs::InFolders::kept_new))]
+fn put_blank<F: Folder>(file: &mut F, sectors: usize, size: BlockSize) -> Result<(), FileFault>
+    ensures put { OnOk result (IfSome (F.held file.old) (λ all. IsBlankOf size.bytes sectors
+        → IsKept true (blank_disk size.bytes sectors) (F.held file.new) (F.folder_facts file.new))) }
     ensures failed { IfErr result (λ e. IsFileFault e.fault) }
 {
-    let old = &held.file;
-    let beside = path_beside(old)?;
-    let file = match blank_beside(held, &beside, sectors) {
-        Ok(file) => file,
-        Err(e) => return Err(unreached(old.rt.alloc(), &beside, e)),
-    };
-    match replace(old, &beside) {
-        Ok(()) => Ok(file),
-        Err(e) => Err(unreached(old.rt.alloc(), &old.path, e)),
+    if let Err(e) = make_blank(file, sectors, size) {
+        return Err(file.fault_beside(e));
+    }
+    match replace(file) {
+        Ok(()) => Ok(()),
+        Err(e) => Err(file.fault(e)),
     }
 }
 
 /// The file in which a session keeps its disk all along. For a new disk it is a blank one of so many sectors, which replaces what
 /// was there. Else it is the one that was read, which is made durable first.
-pub fn kept_file(
-    held: FormedFile<SystemFile<'_>>,
+#[tactic(auto, using(crate::proofs::InFolders::kept_old))]
+pub fn kept_file<F: Folder + Drop>(
+    held: FormedFile<F>,
     sectors: usize,
     is_new: bool,
-) -> Result<File, FileFault>
+) -> Result<F, FileFault>
+    ensures blank { is_new ≡ true → IfOk result (λ kept. IfSome (F.held held.file) (λ all. IsBlankOf held.block.bytes sectors
+        → IsKept true (blank_disk held.block.bytes sectors) (F.held kept) (F.folder_facts kept))) }
+    ensures old { is_new ≡ false → IfOk result (λ kept. IfSome (F.held held.file) (λ all.
+        IsKept false all (F.held kept) (F.folder_facts kept))) }
     ensures failed { IfErr result (λ e. IsFileFault e.fault) }
 {
+    let FormedFile { mut file, block } = held;
     if is_new {
-        return blank_file(&held, sectors);
+        put_blank(&mut file, sectors, block)?;
+        return Ok(file);
     }
-    let SystemFile { rt, path, file } = held.file;
-    match file.sync_all() {
+    match file.sync_held() {
         Ok(()) => Ok(file),
-        Err(e) => Err(unreached(rt.alloc(), &path, e)),
+        Err(e) => Err(file.fault(e)),
     }
 }

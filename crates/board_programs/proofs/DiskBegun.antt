@@ -1,5 +1,5 @@
 -- The disk that a session begins with, and why none begins.
-use Rattle.std.proofs.Common.{◌≡◌, ◌∙◌, ℕ, Bool, true, false, List, Option, None, Some, IfSome, inl}
+use Rattle.std.proofs.Common.{◌≡◌, ◌∙◌, ℕ, Bool, true, false, List, Option, None, Some, IfSome, inl, subst}
 use Rattle.board_files.specs.Disks.{IsDiskFile, first_sectors}
 use Rattle.board_files.specs.Faults.{IsFileFault}
 use Rattle.board_model.specs.Shapes.{Size, sectors_of}
@@ -15,6 +15,12 @@ begins_with (Some all) shape size disk is fresh = (size, is, fresh)
 pub begins_by : (new old : Bool) (known at : Option (List ℕ)) (shape : Size) (disk : Facts) → new ≡ old → at ≡ known
     → Begins new shape at disk → Begins old shape known disk
 begins_by new old known at shape disk is same begins = rw (← is, ← same) begins
+
+-- what a crash leaves at a path under another name
+pub left_by : (at : List ℕ → Option (List ℕ)) (found : List ℕ → List ℕ → Type 0) (ever : List ℕ → Type 0) (path named : List ℕ) → path ≡ named
+    → IfSome (at path) (λ all. (c : List ℕ) → ever c → found path c) → IfSome (at named) (λ all. (c : List ℕ) → ever c → found named c)
+left_by at found ever path named same left =
+    subst (λ (p : List ℕ). IfSome (at p) (λ all. (c : List ℕ) → ever c → found p c)) same left
 
 pub unread_by : (new old : Bool) (known at : Option (List ℕ)) (fault : ProgramFault) → new ≡ old → at ≡ known
     → IsUnread new at fault → IsUnread old known fault

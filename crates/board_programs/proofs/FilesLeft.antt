@@ -1,5 +1,5 @@
 -- From the clause of a session to what the program made of its files.
-use Rattle.std.proofs.Common.{◌≡◌, ◌⊎◌, ◌∙◌, ◌==◌, ℕ, true, false, List, [], Option, None, Some, Result, Err, if◌then◌else◌, inl, inr, map, refl, string_bytes}
+use Rattle.std.proofs.Common.{◌≡◌, ◌⊎◌, ◌∙◌, ◌==◌, ℕ, Bool, true, false, List, [], Option, None, Some, Result, Ok, Err, IfSome, OnErr, OnOk, if◌then◌else◌, inl, inr, map, refl, string_bytes, subst, ⊎_elim}
 use Rattle.std.specs.Io.Buffered.{reader_buffer, reader_capacity, reader_inner, reader_remaining}
 use Rattle.std.specs.Io.KnownBytes.{prepend_known}
 use Rattle.std.specs.Option.{option_map}
@@ -13,7 +13,7 @@ use Rattle.board_session.specs.declared.given.Options.{Options}
 use Rattle.board_programs.proofs.DiskBegun.{begins_unchanged}
 use Rattle.board_session.specs.Parses.{AreRefused}
 use Rattle.board_session.specs.Refused.{AreNoOptions}
-use Rattle.board_programs.specs.Operated.{AskForNone, Begins, EndsInFile, HasLeft, IsUnread, Known, StaysInFile, known}
+use Rattle.board_programs.specs.Operated.{AskForNone, Begins, EndsInFile, HasLeft, IsUnread, IsWritten, Known, LeavesDisk, StaysInFile, known}
 use Rattle.board_programs.specs.Ran.{HasRun}
 use Rattle.board_programs.specs.declared.runs.FileLeft.{FileLeft}
 use Rattle.board_programs.specs.declared.runs.FileLeft.TheVariants as lefts
@@ -25,8 +25,10 @@ use Rattle.command_line.specs.Kinds.{no_work}
 use Rattle.command_line.specs.declared.NoWork.{NoWork}
 use Rattle.command_line.specs.declared.fault.ProgramFault.{ProgramFault}
 use Rattle.command_line.specs.declared.fault.ProgramFault.TheVariants.{Refused}
+use Rattle.board_files.specs.Disks.{HoldsDisk, KeepsOrHolds}
 use Rattle.board_files.specs.Files.{FileKnown}
-use Rattle.disk.specs.Facts.{Facts, Unchanged}
+use Rattle.board_files.specs.Folders.{LeftAt, NoMore}
+use Rattle.disk.specs.Facts.{Content, Facts, Unchanged}
 use Rattle.hart_threads.specs.Ends.{Ending}
 use Rattle.board_files.specs.Named.{AreFilesOf}
 use Rattle.hart_threads.specs.Heard.{Hearing, heard_nothing}
@@ -64,28 +66,67 @@ read_through remaining input r i h s =
 
 -- ---- what is left
 -- None was begun, and the fault is one of that.
-pub none_left : {H D K : Type 0} (bytes : H → Option (List ℕ)) (facts : SimDisk → Facts) (file_facts : D → Facts) (in_file : K → FileKnown) (o : Options)
-    (bytes_at : List ℕ → Option (List ℕ)) (s : Known) (left : FileLeft H K) (done : Result (Unit {0}) ProgramFault) (fault : ProgramFault)
+pub none_left : {H D K : Type 0} (bytes : H → Option (List ℕ)) (at : H → LeftAt) (facts : SimDisk → Facts) (file_facts : D → Facts) (in_file : K → FileKnown) (o : Options)
+    (bytes_at : List ℕ → Option (List ℕ)) (found : List ℕ → Type 0) (s : Known) (left : FileLeft H K) (done : Result (Unit {0}) ProgramFault) (fault : ProgramFault)
     → left ≡ lefts.None → done ≡ Err fault → IsUnread o.new s.disk fault → s.written ≡ s.out
-    → HasLeft bytes facts file_facts in_file o bytes_at s left done
-none_left bytes facts file_facts in_file o bytes_at s left done fault none is unread same = inl (none, rw is unread, same)
+    → HasLeft bytes at facts file_facts in_file o bytes_at found s left done
+none_left bytes at facts file_facts in_file o bytes_at found s left done fault none is unread same = inl (none, rw is unread, same)
 
 pub no_memory : (fault : ProgramFault) → fault ≡ Refused Memory → IsFileFault fault
 no_memory fault is = inr is
 
-module _ {H D K : Type 0} (bytes : H → Option (List ℕ)) (facts : SimDisk → Facts) (file_facts : D → Facts) (in_file : K → FileKnown) (o : Options)
-    (bytes_at : List ℕ → Option (List ℕ)) (payloads : List (List ℕ)) (begun : SimDisk) (held disk read input out written : Option (List ℕ))
+-- what was found is no more than that
+leaves_found : (new : Bool) (sectors : Content) (disk held now : Option (List ℕ)) (written : Result (Unit {0}) ProgramFault) (f g : List ℕ → Type 0) (left : LeftAt)
+    → held ≡ disk → IfSome disk (λ all. NoMore g f) → IfSome held (λ all. LeavesDisk new sectors all written now f left)
+    → IfSome disk (λ all. LeavesDisk new sectors all written now g left)
+leaves_found new sectors None held now written f g left same more crash = tt
+leaves_found new sectors (Some all) held now (Ok u) f g left same more crash =
+    let there = subst (λ (x : Option (List ℕ)). IfSome x (λ all. LeavesDisk {E = ProgramFault} new sectors all (Ok u) now f left)) same crash in
+    record {
+      durable = (there.durable.0, there.durable.1, there.durable.2, ⊎_elim (λ only. inl only) (λ (none : (there.durable.0 ≡ all) × NoMore f left.now). inr (none.0, λ c is. more c (none.1 c is))) there.durable.3);
+      ever = λ c is. ⊎_elim (λ was. inl (more c was)) (λ holds. inr holds) (there.ever c is);
+    }
+leaves_found new sectors (Some all) held now (Err e) f g left same more crash =
+    let there = subst (λ (x : Option (List ℕ)). IfSome x (λ all. LeavesDisk {T = Unit {0}} new sectors all (Err e) now f left)) same crash in
+    record { durable = tt; ever = λ c is. ⊎_elim (λ was. inl (more c was)) (λ holds. inr holds) (there.ever c is) }
+
+written_found : (new : Bool) (disk : Facts) (ran : Result (Unit {0}) Refusal) (known held now : Option (List ℕ)) (f g : List ℕ → Type 0) (left : LeftAt)
+    (done : Result (Unit {0}) ProgramFault) → held ≡ known → IfSome known (λ all. NoMore g f) → IsWritten new disk ran held now f left done
+    → IsWritten new disk ran known now g left done
+written_found new disk ran known held now f g left done same more is = record {
+  written = is.written;
+  stands = subst (λ (x : Option (List ℕ)). OnOk is.written (IfSome now (HoldsDisk new disk.content x))) same is.stands;
+  kept = subst (λ (x : Option (List ℕ)). OnErr is.written (IfSome now (KeepsOrHolds new disk.content x))) same is.kept;
+  crash = leaves_found new disk.content known held now is.written f g left same more is.crash;
+  failed = is.failed;
+  told = is.told;
+}
+
+module _ {H D K : Type 0} (bytes : H → Option (List ℕ)) (at : H → LeftAt) (facts : SimDisk → Facts) (file_facts : D → Facts) (in_file : K → FileKnown) (o : Options)
+    (bytes_at : List ℕ → Option (List ℕ)) (found : List ℕ → Type 0) (payloads : List (List ℕ)) (begun : SimDisk) (held disk read input out written : Option (List ℕ))
     (left : FileLeft H K) (done : Result (Unit {0}) ProgramFault) (files : AreFilesOf bytes_at (map (option_map string_bytes) o.payloads) payloads)
     (begins : Begins o.new o.shape disk (facts begun)) (buffered : read ≡ input) where
   -- The disk that is there where the session begins is that of the file. It was written there at the end.
-  pub ended_left : EndsInFile bytes facts o payloads (facts begun) (known held read out written) left done → held ≡ disk → o.sync ≡ false
-      → HasLeft bytes facts file_facts in_file o bytes_at (known disk input out written) left done
-  ended_left ended same unsynced = inr (payloads, files, inl (unsynced, begun, begins, rw (← same, ← buffered) ended))
+  pub ended_left : (f : List ℕ → Type 0) → EndsInFile bytes at facts o payloads (facts begun) f (known held read out written) left done → held ≡ disk
+      → IfSome disk (λ all. NoMore found f) → o.sync ≡ false
+      → HasLeft bytes at facts file_facts in_file o bytes_at found (known disk input out written) left done
+  ended_left f ended same more unsynced = inr (payloads, files, inl (unsynced, begun, begins, ends left ended))
+    where
+      ends : (l : FileLeft H K) → EndsInFile bytes at facts o payloads (facts begun) f (known held read out written) l done
+          → EndsInFile bytes at facts o payloads (facts begun) found (known disk input out written) l done
+      ends lefts.None is = is
+      ends (lefts.AtEnd file now) (ran, moments, run, is) = (
+        ran,
+        moments,
+        subst (λ (x : Option (List ℕ)). HasRun o payloads (facts begun) (facts now) moments x out written ran) buffered run,
+        written_found o.new (facts now) ran disk held (bytes file) f found (at file) done same more is,
+      )
+      ends (lefts.AllAlong now moments) is = is
 
   -- or it was kept there all along
   pub stayed_left : (kept : D) → Unchanged (facts begun) (file_facts kept)
       → StaysInFile file_facts in_file o payloads (file_facts kept) (known disk read out written) left done → o.sync ≡ true
-      → HasLeft bytes facts file_facts in_file o bytes_at (known disk input out written) left done
+      → HasLeft bytes at facts file_facts in_file o bytes_at found (known disk input out written) left done
   stayed_left kept same stayed synced =
       inr (payloads, files, inr (synced, kept, begins_unchanged o.new o.shape disk (facts begun) (file_facts kept) same begins, rw (← buffered) stayed))
 

@@ -15,6 +15,7 @@ use Rattle.command_line.specs.declared.NoWork.TheVariants as whys
 use Rattle.command_line.specs.declared.fault.ProgramFault.{ProgramFault}
 use Rattle.disk.specs.Facts.{Facts}
 use Rattle.board_files.specs.Files.{FileKnown}
+use Rattle.board_files.specs.Folders.{LeftAt}
 use Rattle.board_session.specs.Parses.{AreRefused}
 use Rattle.simdisk.specs.declared.sim.SimDisk.{SimDisk}
 
@@ -41,9 +42,9 @@ first : (ran : Result (Unit {0}) Refusal) (written : Result (Unit {0}) ProgramFa
 first (Ok u) written failed = if_file written failed
 first (Err e) written failed = omega arith
 
-module _ {H D K : Type 0} (bytes : H → Option (List ℕ)) (facts : SimDisk → Facts) (file_facts : D → Facts) (in_file : K → FileKnown) (o : Options) (s : Known) where
+module _ {H D K : Type 0} (bytes : H → Option (List ℕ)) (at : H → LeftAt) (facts : SimDisk → Facts) (file_facts : D → Facts) (in_file : K → FileKnown) (o : Options) (found : List ℕ → Type 0) (s : Known) where
   ended : (payloads : List (List ℕ)) (begun : Facts) (left : FileLeft H K) (done : Result (Unit {0}) ProgramFault)
-      → EndsInFile bytes facts o payloads begun s left done → status_after done ≤ 1
+      → EndsInFile bytes at facts o payloads begun found s left done → status_after done ≤ 1
   ended payloads begun lefts.None done is = absurd is
   ended payloads begun (lefts.AtEnd held now) done (ran, moments, run, written) = rw written.told (first ran written.written written.failed)
   ended payloads begun (lefts.AllAlong kept moments) done is = absurd is
@@ -55,14 +56,14 @@ module _ {H D K : Type 0} (bytes : H → Option (List ℕ)) (facts : SimDisk →
   stayed payloads begun (lefts.AllAlong kept moments) done (now, ran, run, leaves, ever, since, is) = rw is (told ran)
 
   pub session_status : (bytes_at : List ℕ → Option (List ℕ)) (left : FileLeft H K) (done : Result (Unit {0}) ProgramFault)
-      → HasLeft bytes facts file_facts in_file o bytes_at s left done → status_after done ≤ 1
+      → HasLeft bytes at facts file_facts in_file o bytes_at found s left done → status_after done ≤ 1
   session_status bytes_at left done (inl none) = not_begun o.new s.disk done none.1
   session_status bytes_at left done (inr (payloads, files, inl (unsynced, begun, begins, is))) = ended payloads (facts begun) left done is
   session_status bytes_at left done (inr (payloads, files, inr (synced, begun, begins, is))) = stayed payloads (file_facts begun) left done is
 
   -- so of a status 2 nothing is to be shown
   pub no_usage : (P : Type 0) (bytes_at : List ℕ → Option (List ℕ)) (left : FileLeft H K) (done : Result (Unit {0}) ProgramFault) (status : ℕ)
-      → HasLeft bytes facts file_facts in_file o bytes_at s left done → status ≡ status_after done → status ≡ 2 → P
+      → HasLeft bytes at facts file_facts in_file o bytes_at found s left done → status ≡ status_after done → status ≡ 2 → P
   no_usage P bytes_at left done status is st two =
       let one = session_status bytes_at left done is in absurd (omega (arith, one, st, two))
 

@@ -1,7 +1,7 @@
 -- What the program makes of its files, and how it ends. Source: docs/CONSOLE.md, "Statuses and faults".
-use Rattle.std.specs.Prelude.{◌≡◌, ◌⊎◌, ℕ, Bool, true, false, List, map, Option, Result, Ok, Err, IfErr, IfSome, OnOk, replicate, string_bytes}
+use Rattle.std.specs.Prelude.{◌≡◌, ◌⊎◌, ℕ, Bool, true, false, List, map, Option, Result, Ok, Err, Some, IfErr, IfSome, OnErr, OnOk, replicate, string_bytes}
 use Rattle.std.specs.Option.{option_map}
-use Rattle.board_files.specs.Disks.{HoldsDisk, IsDiskFile, IsNoDisk, first_sectors}
+use Rattle.board_files.specs.Disks.{HoldsDisk, IsDiskFile, IsNoDisk, KeepsOrHolds, first_sectors}
 use Rattle.board_files.specs.Faults.{IsFileFault}
 use Rattle.board_model.specs.Shapes.{Size, sectors_of}
 use Rattle.board_model.specs.declared.refusal.Refusal.{Refusal}
@@ -19,8 +19,9 @@ use Rattle.command_line.specs.Kinds.{no_work}
 use Rattle.command_line.specs.declared.NoWork.{NoWork}
 use Rattle.command_line.specs.declared.NoWork.TheVariants.{Memory, Usage}
 use Rattle.command_line.specs.declared.fault.ProgramFault.{ProgramFault}
-use Rattle.disk.specs.Facts.{Facts, IsFresh}
+use Rattle.disk.specs.Facts.{Content, Facts, IsFresh}
 use Rattle.board_files.specs.Files.{AllowedSince, EverAllowed, FileKnown, IfKnown, LeavesNoMore}
+use Rattle.board_files.specs.Folders.{LeftAt, NoMore, OnlyThese}
 use Rattle.board_files.specs.Named.{AreFilesOf}
 use Rattle.simdisk.specs.declared.sim.SimDisk.{SimDisk}
 
@@ -40,12 +41,22 @@ abbrev pub IsNotBegun : Bool → Option (List ℕ) → Result (Unit {0}) Program
 IsNotBegun new bytes (Ok done) = ⊥
 IsNotBegun new bytes (Err fault) = IsUnread new bytes fault
 
--- The disk was written into its file at the end, whatever the session was refused, or that could not be done. Of two faults
--- the first is told.
-pub record IsWritten (new : Bool) (disk : Facts) (ran : Result (Unit {0}) Refusal) (held now : Option (List ℕ))
-    (done : Result (Unit {0}) ProgramFault) : Type 0 where
+-- What a crash leaves at the path of a file that held those bytes, once a disk was to be written into it: with Ok the disk, whole, and
+-- nothing else; or nothing was written, since it was there. And what one has left at any moment: what was found there, or the disk, whole.
+pub record LeavesDisk {T E : Type 0} (new : Bool) (sectors : Content) (bytes : List ℕ) (written : Result T E) (now : Option (List ℕ))
+    (found : List ℕ → Type 0) (left : LeftAt) : Type 0 where
+  pub durable : OnOk written ((all : List ℕ) × (now ≡ Some all) × HoldsDisk new sectors (Some bytes) all
+      × (OnlyThese all left.now ⊎ ((all ≡ bytes) × NoMore found left.now)))
+  pub ever : (c : List ℕ) → left.ever c → found c ⊎ HoldsDisk new sectors (Some bytes) c
+
+-- The disk was written into its file at the end, whatever the session was refused, or that could not be done: then the file is as it
+-- was, or as it was to become. Of two faults the first is told.
+pub record IsWritten (new : Bool) (disk : Facts) (ran : Result (Unit {0}) Refusal) (held now : Option (List ℕ)) (found : List ℕ → Type 0)
+    (left : LeftAt) (done : Result (Unit {0}) ProgramFault) : Type 0 where
   pub written : Result (Unit {0}) ProgramFault
   pub stands : OnOk written (IfSome now (HoldsDisk new disk.content held))
+  pub kept : OnErr written (IfSome now (KeepsOrHolds new disk.content held))
+  pub crash : IfSome held (λ bytes. LeavesDisk new disk.content bytes written now found left)
   pub failed : IfErr written IsFileFault
   pub told : done ≡ first_fault (told_of ran) written
 
@@ -61,12 +72,13 @@ abbrev pub known : Option (List ℕ) → Option (List ℕ) → Option (List ℕ)
 known disk input out written = record { disk = disk; input = input; out = out; written = written }
 
 -- it is written into its file at the end
-abbrev pub EndsInFile : {H K : Type 0} → (H → Option (List ℕ)) → (SimDisk → Facts) → Options → List (List ℕ) → Facts → Known
-    → FileLeft H K → Result (Unit {0}) ProgramFault → Type 0
-EndsInFile bytes facts o payloads begun s None done = ⊥
-EndsInFile bytes facts o payloads begun s (AtEnd held now) done = (ran : Result (Unit {0}) Refusal) × (moments : List ℕ)
-    × HasRun o payloads begun (facts now) moments s.input s.out s.written ran × IsWritten o.new (facts now) ran s.disk (bytes held) done
-EndsInFile bytes facts o payloads begun s (AllAlong now moments) done = ⊥
+abbrev pub EndsInFile : {H K : Type 0} → (H → Option (List ℕ)) → (H → LeftAt) → (SimDisk → Facts) → Options → List (List ℕ) → Facts
+    → (List ℕ → Type 0) → Known → FileLeft H K → Result (Unit {0}) ProgramFault → Type 0
+EndsInFile bytes left facts o payloads begun found s None done = ⊥
+EndsInFile bytes left facts o payloads begun found s (AtEnd held now) done = (ran : Result (Unit {0}) Refusal) × (moments : List ℕ)
+    × HasRun o payloads begun (facts now) moments s.input s.out s.written ran
+    × IsWritten o.new (facts now) ran s.disk (bytes held) found (left held) done
+EndsInFile bytes left facts o payloads begun found s (AllAlong now moments) done = ⊥
 
 -- It is kept in its file all along. Each content that a crash may then leave in the file is one that the disk may leave; and each that a
 -- crash has left there, at any moment and within a call of the file too, is one that the disk might have left, and so it is from each
@@ -81,14 +93,15 @@ StaysInFile {D = D} facts in_file o payloads begun s (AllAlong kept moments) don
 
 -- ---- from the files to the file
 -- Each slot boots what stands in the file that is named for it. A session began with the disk of the file or a blank one,
--- and it was written into the file at the end, or kept there all along, as was asked for; or none was begun.
-abbrev pub HasLeft : {H D K : Type 0} → (H → Option (List ℕ)) → (SimDisk → Facts) → (D → Facts) → (K → FileKnown) → Options
-    → (List ℕ → Option (List ℕ)) → Known → FileLeft H K → Result (Unit {0}) ProgramFault → Type 0
-HasLeft {H} {D} {K} bytes facts file_facts in_file o bytes_at s file_left done =
+-- and it was written into the file at the end, or kept there all along, as was asked for; or none was begun. What a crash might have
+-- left at the file's path before is found there.
+abbrev pub HasLeft : {H D K : Type 0} → (H → Option (List ℕ)) → (H → LeftAt) → (SimDisk → Facts) → (D → Facts) → (K → FileKnown) → Options
+    → (List ℕ → Option (List ℕ)) → (List ℕ → Type 0) → Known → FileLeft H K → Result (Unit {0}) ProgramFault → Type 0
+HasLeft {H} {D} {K} bytes left facts file_facts in_file o bytes_at found s file_left done =
     ((file_left ≡ None) × IsNotBegun o.new s.disk done × (s.written ≡ s.out))
     ⊎ ((payloads : List (List ℕ)) × AreFilesOf bytes_at (map (option_map string_bytes) o.payloads) payloads
     × (((o.sync ≡ false) × (begun : SimDisk) × Begins o.new o.shape s.disk (facts begun)
-    × EndsInFile bytes facts o payloads (facts begun) s file_left done)
+    × EndsInFile bytes left facts o payloads (facts begun) found s file_left done)
     ⊎ ((o.sync ≡ true) × (begun : D) × Begins o.new o.shape s.disk (file_facts begun)
     × StaysInFile file_facts in_file o payloads (file_facts begun) s file_left done)))
 

@@ -1,6 +1,7 @@
 //! The disk that a session begins with.
 
-ghost use Rattle.std.specs.Prelude.{◌≡◌, false, string_bytes, IfOk, IfErr};
+ghost use Rattle.std.specs.Prelude.{◌≡◌, false, string_bytes, IfOk, IfErr, IfSome};
+ghost use Rattle.board_files.specs.Folders.{NoMore};
 ghost use Rattle.board_programs.specs.Operated.{Begins, IsUnread};
 
 use crate::notices::{tell_block, tell_shape};
@@ -62,7 +63,7 @@ pub struct TakenDisk<H: Drop> {
 }
 
 /// Takes the disk's file for this session, and reads the disk or makes a blank one.
-#[tactic(auto, using(crate::proofs::DiskBegun::begins_by, crate::proofs::DiskBegun::unread_by, crate::proofs::DiskBegun::unread_file))]
+#[tactic(auto, using(crate::proofs::DiskBegun::left_by, crate::proofs::DiskBegun::begins_by, crate::proofs::DiskBegun::unread_by, crate::proofs::DiskBegun::unread_file))]
 pub fn take_disk<B: BoardFiles, F: Write + IsTerminal>(
     alloc: Global,
     files: &B,
@@ -71,6 +72,8 @@ pub fn take_disk<B: BoardFiles, F: Write + IsTerminal>(
 ) -> Result<TakenDisk<B::Held>, FileFault>
     ensures none_out { IfOk result (λ b. (⟦<SimDisk as Disk>⟧.facts b.disk).lent.lanes ≡ 0) }
     ensures held { IfOk result (λ b. B.Held.bytes b.held ≡ B.disk_at files.now (string_bytes options.now.disk)) }
+    ensures left { IfOk result (λ b. IfSome (B.disk_at files.now (string_bytes options.now.disk))
+        (λ all. NoMore (B.left_at files.now (string_bytes options.now.disk)) (B.Held.left b.held).ever)) }
     ensures begins { IfOk result (λ b. Begins options.now.new options.now.shape
         (B.disk_at files.now (string_bytes options.now.disk)) (⟦<SimDisk as Disk>⟧.facts b.disk)) }
     ensures failed { IfErr result (λ e. IsUnread options.now.new

@@ -66,8 +66,8 @@ pub fn operate_on<
     // where they ask for a session. Else none is begun, and the fault is the one of the words, or refused memory.
     ensures status { (done : Result (Unit {0}) ProgramFault) × (result.status ≡ status_after done)
         × (((options : Options) × IsReadFrom (map S.text words.now) options
-        × HasLeft B.Held.bytes ⟦<SimDisk as Disk>⟧.facts ⟦<FileDisk<B::Kept> as Disk>⟧.facts B.Kept.file_facts options
-        (B.bytes_at files.now)
+        × HasLeft B.Held.bytes B.Held.left ⟦<SimDisk as Disk>⟧.facts ⟦<FileDisk<B::Kept> as Disk>⟧.facts B.Kept.file_facts options
+        (B.bytes_at files.now) (B.left_at files.now (string_bytes options.disk))
         (known (B.disk_at files.now (string_bytes options.disk)) (I.remaining streams.input) (O.contents streams.out)
         (O.contents result.out))
         result.file_left done)

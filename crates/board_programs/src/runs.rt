@@ -1,10 +1,11 @@
 //! From the files that a command line names to the file of the session's disk.
 
-ghost use Rattle.std.specs.Prelude.{◌≡◌, ℕ, List, Option, IfErr, IfOk, IfSome, OnOk, string_bytes};
+ghost use Rattle.std.specs.Prelude.{◌≡◌, ℕ, List, Option, IfErr, IfOk, IfSome, OnErr, OnOk, string_bytes};
 ghost use Rattle.store.specs.Leaves.{IsIdle};
 ghost use Rattle.command_line.specs.Told.{fault_of};
-ghost use Rattle.board_files.specs.Disks.{HoldsDisk};
+ghost use Rattle.board_files.specs.Disks.{HoldsDisk, KeepsOrHolds};
 ghost use Rattle.board_files.specs.Faults.{IsFileFault};
+ghost use Rattle.board_files.specs.Folders.{PutsDisk};
 ghost use Rattle.disk.specs.Facts.{Unchanged};
 ghost use Rattle.board_programs.specs.Operated.{EndsInFile, HasLeft, IsWritten, StaysInFile, known};
 ghost use Rattle.board_programs.specs.Ran.{HasRun, told_of};
@@ -68,7 +69,7 @@ fn has_commands(alloc: Global, options: &Options, disk: &SimDisk) -> bool {
 }
 
 /// Writes the disk into its file. A fault says whether commands are lost by it.
-#[tactic(auto, using(crate::proofs::FaultsEnded::same_fault))]
+#[tactic(auto, using(crate::proofs::FaultsEnded::same_fault, crate::proofs::FaultsEnded::put_not))]
 fn write_disk<H: HeldFile>(
     alloc: Global,
     options: &Options,
@@ -77,6 +78,10 @@ fn write_disk<H: HeldFile>(
 ) -> Result<(), FileFault>
     ensures written { OnOk result (IfSome (H.bytes held.new)
         (HoldsDisk options.now.new (⟦<SimDisk as Disk>⟧.facts disk.now).content (H.bytes held.old))) }
+    ensures kept { OnErr result (IfSome (H.bytes held.new)
+        (KeepsOrHolds options.now.new (⟦<SimDisk as Disk>⟧.facts disk.now).content (H.bytes held.old))) }
+    ensures crash { IfSome (H.bytes held.old) (λ all. PutsDisk options.now.new (⟦<SimDisk as Disk>⟧.facts disk.now).content all result
+        (H.bytes held.new) (H.left held.old) (H.left held.new)) }
     ensures failed { IfErr result (λ e. IsFileFault e.fault) }
 {
     match held.write(disk.content(), options.new) {
@@ -86,7 +91,6 @@ fn write_disk<H: HeldFile>(
 }
 
 /// Writes the disk into its file at the end of a session, also of one that was refused. Of two faults the first is told.
-#[tactic(auto, using(crate::proofs::FaultsEnded::is_written))]
 fn write_at_the_end<H: HeldFile>(
     alloc: Global,
     options: &Options,
@@ -95,7 +99,7 @@ fn write_at_the_end<H: HeldFile>(
     ran: Result<(), Refusal>,
 ) -> Result<(), FileFault>
     ensures { IsWritten options.now.new (⟦<SimDisk as Disk>⟧.facts disk.now) ran (H.bytes held.old) (H.bytes held.new)
-        (fault_of result) }
+        (H.left held.old).ever (H.left held.new) (fault_of result) }
 {
     let written = write_disk(alloc, options, held, disk);
     first_of(as_file_fault(ran), written)
@@ -203,8 +207,8 @@ fn run_then_write<
     faults: &mut F,
 ) -> RunEnd<H, K, O>
     requires { IsIdle (⟦<SimDisk as Disk>⟧.facts disk) }
-    ensures { EndsInFile H.bytes ⟦<SimDisk as Disk>⟧.facts setup.now.options.now setup.now.payloads.now
-        (⟦<SimDisk as Disk>⟧.facts disk)
+    ensures { EndsInFile H.bytes H.left ⟦<SimDisk as Disk>⟧.facts setup.now.options.now setup.now.payloads.now
+        (⟦<SimDisk as Disk>⟧.facts disk) (H.left held).ever
         (known (H.bytes held) (I.remaining streams.input) (O.contents streams.out) (O.contents result.out))
         result.file_left (fault_of result.ended) }
 {
@@ -276,8 +280,8 @@ pub fn run_from_files<
     streams: Streams<I, O>,
     faults: &mut F,
 ) -> RunEnd<B::Held, B::Kept, O>
-    ensures { HasLeft B.Held.bytes ⟦<SimDisk as Disk>⟧.facts ⟦<FileDisk<B::Kept> as Disk>⟧.facts B.Kept.file_facts
-        options.now (B.bytes_at files.now)
+    ensures { HasLeft B.Held.bytes B.Held.left ⟦<SimDisk as Disk>⟧.facts ⟦<FileDisk<B::Kept> as Disk>⟧.facts B.Kept.file_facts
+        options.now (B.bytes_at files.now) (B.left_at files.now (string_bytes options.now.disk))
         (known (B.disk_at files.now (string_bytes options.now.disk)) (I.remaining streams.input)
         (O.contents streams.out) (O.contents result.out))
         result.file_left (fault_of result.ended) }

@@ -1,23 +1,26 @@
 //! Boards that are about to be run, and their runs.
 
-ghost use Rattle.std.specs.Prelude.{◌≡◌, ◌+◌, ℕ, [], true, Some, All, IfOk, vec_len};
+ghost use Rattle.std.specs.Prelude.{◌≡◌, ◌+◌, ℕ, [], true, None, Some, All, IfOk, map, vec_len};
 ghost use Rattle.disk.specs.Facts.{Content};
 ghost use Rattle.store.specs.Leaves.{IsIdle};
 ghost use Rattle.store.specs.Views.{disk_of, found_state, failures_at_open};
 ghost use Rattle.hart_threads.specs.Begun.{board_of};
+ghost use Rattle.hart_threads.specs.Bused.{begun_bus};
+ghost use Rattle.hart_threads.specs.Views.{bus_parts};
 ghost use Rattle.machine.specs.Held.{IsHeld};
 ghost use Rattle.tallies.specs.BookViews.{id_of, parts_of};
+ghost use Rattle.tallies.specs.Books.{fresh_from};
 ghost use Rattle.tests.specs.Begun.{IsBegun};
 
 use crate::dozing::UntilWoken;
 use crate::fixtures::{NEVER, formatted};
 use board::{Board, BoardParts, Payloads};
-use board_model::{BootMode, Command, Refusal, Shape, Slot};
+use board_model::{BootMode, Command, Entry, Refusal, Shape, Slot};
 use board_session::console;
 use disk::{ArmedFault, Disk};
 use hart_threads::{
-    AfterConsole, BookPart, BootedHarts, Closing, Gate, Heard, Journal, Locks, NewBook, Rested,
-    SharedBoard, SharedBus, SharedStore, Threaded, Unshared, Why, drive,
+    AfterConsole, BookPart, BootedHarts, BusTurn, Closing, Gate, HartParts, Heard, Journal, Locks,
+    NewBook, Rested, SharedBoard, SharedBus, SharedStore, Threaded, Unshared, Why, drive,
 };
 use rv_decode::Reg;
 use simdisk::SimDisk;
@@ -47,6 +50,7 @@ pub fn parts_of(
 ) -> Result<(BoardParts<SimDisk>, Shape), Refusal>
     ensures held { IfOk result (λ p. IsHeld p.1 p.0.harts.items p.0.tables (Some p.0.seats) p.0.bus.doze) }
     ensures begun { IfOk result (λ p. IsBegun p.1 p.0.store) }
+    ensures awake { IfOk result (λ p. p.0.bus.doze ≡ None) }
 {
     let disk = formatted(alloc, shape)?;
     let payloads = booting(alloc, payload)?;
@@ -65,6 +69,7 @@ fn armed(parts: BoardParts<SimDisk>, shape: &Shape, fault: ArmedFault) -> BoardP
     requires begun { IsBegun shape.now parts.store }
     ensures held { IsHeld shape.now result.harts.items result.tables (Some result.seats) result.bus.doze }
     ensures begun { IsBegun shape.now result.store }
+    ensures bus { result.bus ≡ parts.bus }
 {
     let _ = shape;
     let mut parts = parts;
@@ -106,8 +111,7 @@ impl<'a> BoardTrial<'a> {
     }
 }
 
-/// How a loop ended: how many turns it made and why it ended, the hart's a0, a1 and pc then, the number of its receipt, how
-/// many of its turns it dozed, and how often it found the board woken.
+/// How a loop ended: how many turns it made and why it ended, the hart's a0, a1 and pc then, and the number of its receipt.
 #[derive(Drop)]
 pub struct End {
     pub made: u64,
@@ -115,8 +119,6 @@ pub struct End {
     pub regs: (u64, u64),
     pub pc: u64,
     pub receipt: Option<u32>,
-    pub dozed: u64,
-    pub woken: u64,
 }
 
 /// How the loop of a board's first hart ended, what its console wrote, and its disk.
@@ -136,15 +138,13 @@ fn end_of<J: Threaded>(loops: &[Rested<'_, J>]) -> Option<End> {
         regs: (ended.hart.reg(Reg::new(10)), ended.hart.reg(Reg::new(11))),
         pc: ended.hart.pc(),
         receipt: ended.told.as_ref().map(|told| told.number()),
-        dozed: ended.looks.made(),
-        woken: ended.looks.woken(),
     })
 }
 
 /// Issues these commands, whatever they are answered, for the console that is to be.
 fn issue<J: Journal>(
     store: &mut SharedStore<SimDisk, J>,
-    part: BookPart<J>,
+    part: BookPart<J, Entry>,
     heard: &mut Heard<J>,
     commands: &[Command],
 ) {
@@ -161,7 +161,7 @@ fn talk<J: Journal, R: Wait + Clock>(
     alloc: Global,
     bus: &Mutex<SharedBus<J>>,
     store: &Mutex<SharedStore<SimDisk, J>>,
-    part: BookPart<J>,
+    part: BookPart<J, Entry>,
     heard: Heard<J>,
     trial: BoardTrial<'_>,
 ) -> (Vec<u8>, Heard<J>) {
@@ -178,18 +178,31 @@ fn talk<J: Journal, R: Wait + Clock>(
     (out, heard)
 }
 
-/// The marks of a life: the books of its commands and of what is in doubt, and what ends its loops: what the console says, and the
-/// halt.
-type Marks = ((NewBook, NewBook), (OnceLock<AfterConsole>, Halt));
+/// The books of a life: of its commands, of what is in doubt, and of the history of its bus.
+#[derive(Drop)]
+struct Books {
+    commands: NewBook<Entry>,
+    doubts: NewBook<Entry>,
+    runs: NewBook<BusTurn>,
+}
 
-/// New marks, of which the book of commands has so many parts.
+/// The marks of a life: its books, and what ends its loops: what the console says, and the halt.
+type Marks = (Books, (OnceLock<AfterConsole>, Halt));
+
+/// New marks, of which the books of commands and of the bus have so many parts.
 fn new_marks(rt: &impl Abort, alloc: Global, parts: u32) -> Marks
-    ensures { (parts_of result.0.0 ≡ parts) × (parts_of result.0.1 ≡ 2) }
+    ensures { (parts_of result.0.commands ≡ parts) × (parts_of result.0.doubts ≡ 2) × (parts_of result.0.runs ≡ parts) }
 {
-    let book = NewBook::new(alloc, parts).expect(rt, "memory");
+    let commands = NewBook::new(alloc, parts).expect(rt, "memory");
     let doubts = NewBook::new(alloc, 2).expect(rt, "memory");
+    let runs = NewBook::new(alloc, parts).expect(rt, "memory");
     let halt = Halt::new(alloc).expect(rt, "memory");
-    ((book, doubts), (OnceLock::new(), halt))
+    let books = Books {
+        commands,
+        doubts,
+        runs,
+    };
+    (books, (OnceLock::new(), halt))
 }
 
 /// Runs the harts of a board that was powered on fresh under that gate, with its console.
@@ -229,29 +242,32 @@ pub fn ended<R: Threads + Wait + Clock + Abort + Sync>(
 fn shared<J: Threaded>(
     rt: &impl Abort,
     alloc: Global,
-    begun: (Store<SimDisk>, (NewBook, NewBook)),
+    begun: (Store<SimDisk>, (NewBook<Entry>, NewBook<Entry>)),
+    bus: &mut SharedBus<J>,
     harts: usize,
     commands: &[Command],
 ) -> (
     SharedStore<SimDisk, J>,
-    BookPart<J>,
-    Vec<BookPart<J>>,
+    BookPart<J, Entry>,
+    Vec<HartParts<J>>,
     Heard<J>,
 )
     requires begun { IsBegun J.size begun.0 }
     requires named { (J.found ≡ found_state begun.0) × (J.issued ≡ []) }
     requires book { (id_of begun.1.0 ≡ J.book) × (parts_of begun.1.0 ≡ J.parts) × (J.parts ≡ harts + 2) }
     requires doubts { (id_of begun.1.1 ≡ J.doubts) × (parts_of begun.1.1 ≡ 2) }
+    requires bus { (bus_parts bus.old ≡ fresh_from 0 (J.size.harts + 2)) × (J.size.harts ≡ harts) }
     requires opened { failures_at_open begun.0 ≡ J.failures }
     requires moment { (disk_of begun.0).moment ≡ J.moment }
     requires earlier { (t : ℕ) (c : Content) → (disk_of begun.0).since t c → J.earlier t c }
     ensures many { vec_len result.2 ≡ harts }
-    ensures fresh { All (λ p. p.told ≡ []) result.2.items }
+    ensures fresh { All (λ p. p.receipts.told ≡ []) result.2.items }
+    ensures runs { map (λ p. p.run) result.2.items ≡ fresh_from 2 harts }
 {
     let (store, books) = begun;
-    let (mut whole, boot, mut heard) = Unshared::<SimDisk, J>::new(store, books.0, books.1);
+    let (mut whole, boot, mut heard) = Unshared::<SimDisk, J>::new(store, books.0, books.1, bus);
     let part = whole.hand_out();
-    let Ok(given) = whole.hand_out_all(alloc, harts) else {
+    let Ok(given) = whole.hand_out_all(alloc, harts, bus) else {
         rt.panic("no memory")
     };
     let mut store = whole.share();
@@ -273,8 +289,11 @@ fn driven_as<J: Threaded + Send + Sync, R: Threads + Wait + Clock + Abort + Sync
     requires begun { IsBegun shape.now parts.store }
     requires named { (J.size ≡ shape.now) × (J.found ≡ found_state parts.store) × (J.issued ≡ [])
         × (J.memory ≡ parts.bus.ram) }
-    requires book { (id_of marks.0.0 ≡ J.book) × (parts_of marks.0.0 ≡ J.parts) × (J.parts ≡ shape.now.harts + 2) }
-    requires doubts { (id_of marks.0.1 ≡ J.doubts) × (parts_of marks.0.1 ≡ 2) }
+    requires book { (id_of marks.0.commands ≡ J.book) × (parts_of marks.0.commands ≡ J.parts)
+        × (J.parts ≡ shape.now.harts + 2) }
+    requires doubts { (id_of marks.0.doubts ≡ J.doubts) × (parts_of marks.0.doubts ≡ 2) }
+    requires runs { (id_of marks.0.runs ≡ J.runs) × (parts_of marks.0.runs ≡ J.size.harts + 2) }
+    requires awake { parts.bus ≡ begun_bus J.memory }
     requires opened { failures_at_open parts.store ≡ J.failures }
     requires moment { (disk_of parts.store).moment ≡ J.moment }
     requires earlier { (t : ℕ) (c : Content) → (disk_of parts.store).since t c → J.earlier t c }
@@ -290,21 +309,29 @@ fn driven_as<J: Threaded + Send + Sync, R: Threads + Wait + Clock + Abort + Sync
         store,
     } = parts;
     let (books, halting) = marks;
+    let Books {
+        commands,
+        doubts,
+        runs,
+    } = books;
+    let doze = bus.doze;
+    let mut bus = SharedBus::<J>::new(bus, runs);
     let (store, part, given, heard) = shared::<J>(
         rt,
         alloc,
-        (store, books),
+        (store, (commands, doubts)),
+        &mut bus,
         harts.len(),
         trial.commands,
     );
     let booted = BootedHarts {
         harts,
         seats,
-        doze: bus.doze,
+        doze,
         parts: given,
         turns: trial.turns,
     };
-    let bus: Mutex<SharedBus<J>> = Mutex::new(SharedBus::new(bus));
+    let bus: Mutex<SharedBus<J>> = Mutex::new(bus);
     let store = Mutex::new(store);
     let (lock, halt) = halting;
     let closing = Closing::new(lock, halt);
@@ -330,7 +357,7 @@ fn driven_as<J: Threaded + Send + Sync, R: Threads + Wait + Clock + Abort + Sync
         rt.panic("a thread was not had")
     };
     let end = end_of(&loops);
-    let (store, _moments) = store.into_inner().unshare().close(heard);
+    let (store, _moments, _runs) = store.into_inner().unshare().close(heard);
     Ran {
         end,
         said,

@@ -70,6 +70,18 @@ impl Carries for Climb {
 
     fn memo(&self) {}
 
+    fn find(
+        &self,
+        _from: &Self,
+        _memo: &(),
+        row: &[u32],
+        out: &mut Vec<u32>,
+    ) -> Result<bool, Refused> {
+        out.clear();
+        out.extend_from_slice(row)?;
+        Ok(true)
+    }
+
     fn carry(
         &mut self,
         _from: &Self,

@@ -111,6 +111,11 @@ fn with_disk(
 }
 
 impl HeldFile for MemoryDisk {
+    ghost use Rattle.std.specs.Prelude.{⊤};
+
+    /// It is durable at once. What a crash has left before is not known.
+    ghost left = { λ disk. record { now = λ c. c ≡ disk.bytes.items; ever = λ c. ⊤ } };
+
     fn write(&mut self, sectors: &[Sector], is_new: bool) -> Result<(), FileFault> {
         if self.failing == Failing::Write {
             return Err(self.fault());
@@ -123,4 +128,6 @@ impl HeldFile for MemoryDisk {
             Err(_) => Err(FileFault::refused(Refusal::Memory)),
         }
     }
+
+    ghost counts_now = { λ disk c is. tt };
 }

@@ -128,7 +128,11 @@ impl BoardFiles for MemoryFiles {
 
     type Kept = MemoryFile;
 
+    ghost use Rattle.std.specs.Prelude.{⊤};
+
     ghost disk_at = { λ files path. Some files.disk.items };
+
+    ghost left_at = { λ files path c. ⊤ };
 
     fn hold(
         &self,

@@ -23,7 +23,8 @@ returns-in-Ok-clause-usage g c = λ two.
     let done = c.run_from_files-done.result in
     let s = known (g.B.BoardFiles.disk_at c.args.files.now (string_bytes options.disk)) (g.I.Read.remaining c.args.streams.input)
     (g.O.Write.contents c.args.streams.out) (g.O.Write.contents done.out) in
-    no_usage g.B.Held.DiskFile.bytes sim_disk.facts-value.it kept.it g.B.Kept.SectorFile.file_facts options s (GiveNoOptions (map g.S.AsStr.text c.args.words.now))
+    no_usage g.B.Held.DiskFile.bytes g.B.Held.HeldFile.left sim_disk.facts-value.it kept.it g.B.Kept.SectorFile.file_facts options
+    (g.B.BoardFiles.left_at c.args.files.now (string_bytes options.disk)) s (GiveNoOptions (map g.S.AsStr.text c.args.words.now))
     (g.B.PayloadFiles.bytes_at c.args.files.now) done.file_left (fault_of done.ended) c.end_with.result c.run_from_files-done.ensures c.end_with.ensures.status two
 
 pub returns-in-Err-clause-usage : goal.returns-in-Err-clause-usage

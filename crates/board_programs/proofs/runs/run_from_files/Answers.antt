@@ -12,11 +12,12 @@ returns-then-not-options g c =
     let read = c.in-Ok-new in
     let taken = c.in-Ok-take_disk.taken in
     let done = c.run_then_write.result in
-    ended_left g.B.Held.DiskFile.bytes sim_disk.facts-value.it kept.it g.B.Kept.SectorFile.file_facts c.args.options.now (g.B.PayloadFiles.bytes_at c.args.files.now) c.in-Ok.payloads taken.disk
+    ended_left g.B.Held.DiskFile.bytes g.B.Held.HeldFile.left sim_disk.facts-value.it kept.it g.B.Kept.SectorFile.file_facts c.args.options.now (g.B.PayloadFiles.bytes_at c.args.files.now)
+    (g.B.BoardFiles.left_at c.args.files.now (string_bytes c.args.options.now.disk)) c.in-Ok.payloads taken.disk
     (g.B.Held.DiskFile.bytes taken.held) (g.B.BoardFiles.disk_at c.args.files.now (string_bytes c.args.options.now.disk)) (reader_remaining g.I.Read.remaining read.input)
     (g.I.Read.remaining c.args.streams.input) (g.O.Write.contents c.args.streams.out) (g.O.Write.contents done.out) done.file_left (fault_of done.ended) c.in-Ok.ensures.read c.in-Ok-take_disk.ensures.begins
     (read_through g.I.Read.remaining c.args.streams.input read.input read.ensures.inner read.ensures.empty read.ensures.capacity)
-    c.run_then_write.ensures c.in-Ok-take_disk.ensures.held c.if-not-options.true
+    (g.B.Held.HeldFile.left taken.held).ever c.run_then_write.ensures c.in-Ok-take_disk.ensures.held c.in-Ok-take_disk.ensures.left c.if-not-options.true
 
 pub returns-in-Ok-disk_in_file : goal.returns-in-Ok-disk_in_file
 returns-in-Ok-disk_in_file g c =
@@ -25,7 +26,8 @@ returns-in-Ok-disk_in_file g c =
     let taken = c.in-Ok-take_disk.taken in
     let disk = g.B.BoardFiles.disk_at c.args.files.now (string_bytes c.args.options.now.disk) in
     let done = c.run_in_file.result in
-    stayed_left g.B.Held.DiskFile.bytes sim_disk.facts-value.it kept.it g.B.Kept.SectorFile.file_facts c.args.options.now (g.B.PayloadFiles.bytes_at c.args.files.now) c.in-Ok.payloads taken.disk
+    stayed_left g.B.Held.DiskFile.bytes g.B.Held.HeldFile.left sim_disk.facts-value.it kept.it g.B.Kept.SectorFile.file_facts c.args.options.now (g.B.PayloadFiles.bytes_at c.args.files.now)
+    (g.B.BoardFiles.left_at c.args.files.now (string_bytes c.args.options.now.disk)) c.in-Ok.payloads taken.disk
     (g.B.Held.DiskFile.bytes taken.held) disk (reader_remaining g.I.Read.remaining read.input)
     (g.I.Read.remaining c.args.streams.input) (g.O.Write.contents c.args.streams.out) (g.O.Write.contents done.out) done.file_left (fault_of done.ended) c.in-Ok.ensures.read c.in-Ok-take_disk.ensures.begins
     (read_through g.I.Read.remaining c.args.streams.input read.input read.ensures.inner read.ensures.empty read.ensures.capacity)

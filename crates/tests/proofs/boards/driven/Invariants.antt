@@ -6,7 +6,7 @@ use Rattle.tests.proofs.boards.driven.Given as goal
 
 -- the life that the board has just begun
 abbrev pub ghosts-driven_as-J-Journal : goal.ghosts-driven_as-J-Journal
-ghosts-driven_as-J-Journal g a = record { found = found_state a.parts.store; size = a.shape.now; issued = []; memory = a.parts.bus.ram; book = id_of a.marks.0.0; parts = parts_of a.marks.0.0; failures = failures_at_open a.parts.store; doubts = id_of a.marks.0.1; moment = (disk_of a.parts.store).moment; earlier = (disk_of a.parts.store).since }
+ghosts-driven_as-J-Journal g a = record { found = found_state a.parts.store; size = a.shape.now; issued = []; memory = a.parts.bus.ram; book = id_of a.marks.0.commands; parts = parts_of a.marks.0.commands; failures = failures_at_open a.parts.store; doubts = id_of a.marks.0.doubts; runs = id_of a.marks.0.runs; moment = (disk_of a.parts.store).moment; earlier = (disk_of a.parts.store).since }
 
 -- and its harts, which the gate may end
 abbrev pub ghosts-driven_as-J-Threaded : goal.ghosts-driven_as-J-Threaded

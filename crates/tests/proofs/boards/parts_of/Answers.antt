@@ -16,6 +16,9 @@ returns-in-Ok-clause-held c =
     subst (λ (o : Option Doze). IsHeld c.shape-shape.result parts.harts.items parts.tables (Some parts.seats) o) (sym c.into_parts.ensures.doze)
     (subst (λ (z : Size). IsHeld z parts.harts.items parts.tables (Some parts.seats) (machine_of c.in-Ok.board).doze) (ap (λ (m : Machine). m.size) c.in-Ok.ensures.on.begun ∙ sym c.shape-shape.ensures) c.into_parts.ensures.held)
 
+pub returns-in-Ok-clause-awake : goal.returns-in-Ok-clause-awake
+returns-in-Ok-clause-awake c = c.into_parts.ensures.doze ∙ ap (λ (m : Machine). m.doze) c.in-Ok.ensures.on.begun
+
 pub returns-in-Ok-clause-begun : goal.returns-in-Ok-clause-begun
 returns-in-Ok-clause-begun c =
     let on = c.in-Ok.ensures.on in
