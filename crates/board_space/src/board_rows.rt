@@ -135,8 +135,8 @@ fn tell_hart(
 {
     match power {
         Power::On => harts.put_near(board.machine().hart(hart), near),
-        Power::Off(_) => harts.put(&Hart::stopped(hart)),
-        Power::Ended => harts.put(&Hart::stopped(hart)),
+        Power::Off(_) => harts.put_near(&Hart::stopped(hart), near),
+        Power::Ended => harts.put_near(&Hart::stopped(hart), near),
     }
 }
 
@@ -325,6 +325,12 @@ impl BoardRows {
         }
     }
 
+    /// Whether a board is, beside its harts and its memory, as a row has it. That it is not is not said.
+    #[inline]
+    pub fn has_rest(&self, row: &[u32], board: &Board) -> bool {
+        self.rests.is_at(near_at(row, 0), &seen_rest(board.rest()))
+    }
+
     /// The row of a board, in place of what was in the row. Boards that differ have rows that differ. At `Err` each row stands
     /// for what it stood for. It is found sooner where it is much like the row `near`.
     pub fn row_of(&mut self, board: &Board, near: &[u32], row: &mut Vec<u32>) -> Result<(), Refused>
@@ -337,7 +343,7 @@ impl BoardRows {
         bytes_in(board.machine().ram().bytes());
         bytes_in(self.layout.base());
         row.clear();
-        row.push(self.rests.put(&rest)?)?;
+        row.push(self.rests.put_near(&rest, near_at(near, 0))?)?;
         tell_harts(
             &mut self.harts,
             board,

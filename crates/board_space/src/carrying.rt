@@ -1,6 +1,6 @@
 //! Rows of one space of boards as rows of another, whose stores number the same records otherwise.
 
-ghost use Rattle.std.specs.Prelude.{◌≡◌, ◌<◌, ◌≤◌, ◌+◌, ℕ, List, length, slice_index, IfOk, true};
+ghost use Rattle.std.specs.Prelude.{◌≡◌, ◌<◌, ◌≤◌, ◌+◌, ℕ, List, length, slice_index, IfOk, IfSome, Ok, true};
 ghost use Rattle.model_board.specs.Boards.{Board as AnyBoard};
 ghost use Rattle.state_space.specs.Numbered.{word_count, words_of};
 ghost use Rattle.board_space.specs.Carried.{AreSameRecords, AreSameWords};
@@ -71,6 +71,50 @@ impl RowMemo {
     }
 }
 
+/// The number of a record of another store, where it is known.
+#[inline]
+fn known_record<T: Recorded>(
+    to: &Records<T>,
+    from: &Records<T>,
+    memo: &Numbers,
+    number: u32,
+) -> Option<u32>
+    requires { number < length from.now.records.items }
+    ensures { IfSome result (λ n. (x : T) → IsAt from.now.records.items number x → IsAt to.now.records.items n x) }
+{
+    let guess = memo.get(number);
+    if to.is_at(guess, from.get(number)) {
+        Some(guess)
+    } else {
+        None
+    }
+}
+
+/// The numbers of records of another store, so many from a place of a row on, after what is in the other row, where they are known.
+fn find_records<T: Recorded>(
+    to: &Records<T>,
+    from: &Records<T>,
+    memo: &Numbers,
+    first: usize,
+    count: usize,
+    row: &[u32],
+    out: &mut Vec<u32>,
+) -> Result<bool, Refused>
+    requires long { first + count ≤ length row.now }
+    requires known { (h : ℕ) → h < count → slice_index row.now (first + h) < length from.now.records.items }
+    ensures row { IfOk result (λ found. found ≡ true → Extends out.old.items out.new.items count) }
+    ensures same { IfOk result (λ found. found ≡ true → AreSameRecords from.now.records.items row.now first to.now.records.items
+        out.new.items (length out.old.items) count) }
+{
+    for place in 0..count {
+        let Some(number) = known_record(to, from, memo, row[first + place]) else {
+            return Ok(false);
+        };
+        out.push(number)?;
+    }
+    Ok(true)
+}
+
 /// The number of a record of another store.
 fn carry_record<T: Recorded>(
     to: &mut Records<T>,
@@ -82,12 +126,10 @@ fn carry_record<T: Recorded>(
     ensures same { IfOk result (λ n. (x : T) → IsAt from.now.records.items number x → IsAt to.new.records.items n x) }
     ensures stay { Stays to.old.records.items to.new.records.items }
 {
-    let item = from.get(number);
-    let guess = memo.get(number);
-    if to.is_at(guess, item) {
-        return Ok(guess);
+    if let Some(known) = known_record(to, from, memo, number) {
+        return Ok(known);
     }
-    let other = to.put(item)?;
+    let other = to.put(from.get(number))?;
     memo.set(number, other)?;
     Ok(other)
 }
@@ -125,6 +167,46 @@ fn are_at(words: &Interner, number: u32, others: &[u64]) -> bool
     (number as usize) < words.count() && words.get(number as usize) == others
 }
 
+/// The number of a slice of words of another store, where it is known.
+#[inline]
+fn known_words(to: &Interner, from: &Interner, memo: &Numbers, number: u32) -> Option<u32>
+    requires { number < word_count from.now }
+    ensures within { IfSome result (λ n. n < word_count to.now) }
+    ensures same { IfSome result (λ n. words_of to.now n ≡ words_of from.now number) }
+{
+    let guess = memo.get(number);
+    if are_at(to, guess, from.get(number as usize)) {
+        Some(guess)
+    } else {
+        None
+    }
+}
+
+/// The numbers of slices of words of another store, so many from a place of a row on, after what is in the other row, where they are known.
+fn find_segments(
+    to: &Interner,
+    from: &Interner,
+    memo: &Numbers,
+    first: usize,
+    count: usize,
+    row: &[u32],
+    out: &mut Vec<u32>,
+) -> Result<bool, Refused>
+    requires long { first + count ≤ length row.now }
+    requires known { (s : ℕ) → s < count → slice_index row.now (first + s) < word_count from.now }
+    ensures row { IfOk result (λ found. found ≡ true → Extends out.old.items out.new.items count) }
+    ensures same { IfOk result (λ found. found ≡ true → AreSameWords from.now row.now first to.now out.new.items
+        (length out.old.items) count) }
+{
+    for place in 0..count {
+        let Some(number) = known_words(to, from, memo, row[first + place]) else {
+            return Ok(false);
+        };
+        out.push(number)?;
+    }
+    Ok(true)
+}
+
 /// The number of a slice of words of another store.
 fn carry_words(
     to: &mut Interner,
@@ -137,12 +219,10 @@ fn carry_words(
     ensures same { IfOk result (λ n. words_of to.new n ≡ words_of from.now number) }
     ensures grows { Grows to.old to.new }
 {
-    let words = from.get(number as usize);
-    let guess = memo.get(number);
-    if are_at(to, guess, words) {
-        return Ok(guess);
+    if let Some(known) = known_words(to, from, memo, number) {
+        return Ok(known);
     }
-    let other = told(to.put(words)?)?;
+    let other = told(to.put(from.get(number as usize))?)?;
     memo.set(number, other)?;
     Ok(other)
 }
@@ -171,6 +251,44 @@ fn carry_segments(
 }
 
 impl BoardRows {
+    /// Whether the row is known that stands for the same board as a row of another space of the same layout. It is put in place of what was
+    /// in `out`.
+    pub fn find(
+        &self,
+        from: &BoardRows,
+        memo: &RowMemo,
+        row: &[u32],
+        out: &mut Vec<u32>,
+    ) -> Result<bool, Refused>
+        requires size { size_of self.now.layout ≡ size_of from.now.layout }
+        requires laid { laid_by self.now.layout ≡ laid_by from.now.layout }
+        requires known { (b : AnyBoard) × Stands from.now row.now b }
+        ensures stands { result ≡ Ok true → (b : AnyBoard) → Stands from.now row.now b → Stands self.now out.new.items b }
+    {
+        let harts = from.layout.harts();
+        let segments = from.layout.segments();
+        out.clear();
+        let rests = find_records(&self.rests, &from.rests, &memo.rests, 0, 1, row, out)?;
+        if !rests {
+            return Ok(false);
+        }
+        let all = find_records(&self.harts, &from.harts, &memo.harts, 1, harts, row, out)?;
+        if !all {
+            return Ok(false);
+        }
+        let words = &memo.words;
+        let found = find_segments(
+            &self.words,
+            &from.words,
+            words,
+            1 + harts,
+            segments,
+            row,
+            out,
+        )?;
+        Ok(found)
+    }
+
     /// Makes of a row of another space the row of this one that stands for the same board, in place of what was in `out`. The two have
     /// one layout. At `Err` each row stands for what it stood for.
     pub fn carry(
@@ -248,6 +366,16 @@ impl Carries for BoardSpace {
 
     fn memo(&self) -> RowMemo {
         RowMemo::new(self.alloc)
+    }
+
+    fn find(
+        &self,
+        from: &Self,
+        memo: &RowMemo,
+        row: &[u32],
+        out: &mut Vec<u32>,
+    ) -> Result<bool, Refused> {
+        self.rows.find(&from.rows, memo, row, out)
     }
 
     fn carry(

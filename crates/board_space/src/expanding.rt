@@ -23,6 +23,9 @@ use crate::space::BoardSpace;
 use board_model::HartId;
 use state_space::{Refused, Successors};
 
+/// All harts, as the bits of a number.
+const ALL_HARTS: u32 = 0xff;
+
 /// What was seen of turns.
 #[derive(Clone, Copy, Drop)]
 pub(crate) struct Seen {
@@ -44,8 +47,25 @@ fn both(before: Seen, seen: Seen) -> Seen
 }
 
 impl BoardSpace {
-    /// Adds what the board settles to as one that the event of that number leads to. It is much like the board of the row.
-    fn tell(&mut self, near: &[u32], number: u8, found: &mut Successors) -> Result<(), Refused>
+    /// The harts that a turn of one may have moved, as the bits of a number: it alone, where what the board is beside its harts and its memory
+    /// is as the row has it.
+    fn moved_by(&self, row: &[u32], hart: HartId) -> u32 {
+        if self.rows.has_rest(row, &self.board) {
+            1 << hart.number()
+        } else {
+            ALL_HARTS
+        }
+    }
+
+    /// Adds what the board settles to as one that the event of that number leads to. It is much like the board of the row, and moved are those
+    /// harts whose bits are set.
+    fn tell(
+        &mut self,
+        near: &[u32],
+        number: u8,
+        harts: u32,
+        found: &mut Successors,
+    ) -> Result<(), Refused>
         requires width { found_width found.old ≡ width_of self.old.rows.layout }
         ensures pushed { IfOk result (λ _. IsPushed (asked_of self.old) (map_in self.old.map) self.old.leaves
             (StandsAll self.old.leaves self.new.rows) found.old found.new self.old.board.board number) }
@@ -55,12 +75,13 @@ impl BoardSpace {
         ensures width { found_width found.new ≡ found_width found.old }
     {
         let _sized = self.board.machine();
-        settle(&mut self.board, &self.map, self.leaves);
+        settle(&mut self.board, &self.map, self.leaves, harts);
         self.broke = leave_all(
             &mut self.board,
             &self.lives,
             &self.stood,
             self.leaves,
+            harts,
             self.broke,
         );
         self.rows.row_of(&self.board, near, &mut self.row)?;
@@ -94,12 +115,13 @@ impl BoardSpace {
         true
     }
 
-    /// Whether the board was shown to differ from that of a row, where it is asked.
-    fn is_away(&self, row: &[u32], asked: bool) -> bool
+    /// Whether the board was shown to differ from that of a row, where it is asked, after a turn of a hart.
+    fn is_away(&self, row: &[u32], hart: HartId, asked: bool) -> bool
         requires known { (b : AnyBoard) × Stands self.now.rows row.now b }
+        requires hart { hart < self.now.shape.harts }
         ensures { result ≡ true → (n d : AnyBoard) → Stands self.now.rows row.now n → StandsFor n d → StandsFor self.now.board.board d → ⊥ }
     {
-        asked && self.rows.differs(row, &self.board)
+        asked && self.rows.differs(row, &self.board, hart)
     }
 
     /// Adds what a turn of a hart leads to from the board of a row. What was seen of it: whether it changes the board only where that is asked.
@@ -130,8 +152,9 @@ impl BoardSpace {
         boards_stand();
         model_board::event_determines_board();
         let asks = self.turn_at(row, hart);
-        let moves = self.is_away(row, asked);
-        self.tell(row, hart.number() as u8, found)?;
+        let moves = self.is_away(row, hart, asked);
+        let harts = self.moved_by(row, hart);
+        self.tell(row, hart.number() as u8, harts, found)?;
         Ok(Seen { asks, moves })
     }
 
@@ -227,7 +250,7 @@ impl BoardSpace {
         if !happening.happen(&mut self.board, self.payload.as_slice()) {
             return Ok(());
         }
-        self.tell(row, number, found)
+        self.tell(row, number, ALL_HARTS, found)
     }
 
     /// Adds what the happenings of these numbers lead to from the board of a row.

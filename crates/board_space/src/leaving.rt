@@ -11,6 +11,7 @@ ghost use Rattle.board_space.specs.Standing.{Standing};
 
 use crate::guesses::Broke;
 use crate::lives::Lives;
+use crate::settling::one_of;
 use board_model::HartId;
 use hart::Hart;
 use model_board::{Board, LEFT_OUT, PROBE, Status};
@@ -154,13 +155,14 @@ fn also(broke: Option<Broke>, pc: u64, missed: u32) -> Option<Broke> {
     }
 }
 
-/// Leaves out those registers of each hart that are not read again, as it is guessed, if any are to be left out. What was guessed wrong: where
-/// some were left out before, as the harts stood there, and are read again, it is that.
+/// Leaves out those registers of each hart whose bit is set that are not read again, as it is guessed, if any are to be left out. What was
+/// guessed wrong: where some were left out before, as the harts stood there, and are read again, it is that.
 pub(crate) fn leave_all(
     board: &mut Board,
     lives: &Lives,
     stood: &[u64; 8],
     leaves: bool,
+    harts: u32,
     broke: Option<Broke>,
 ) -> Option<Broke>
     ensures stands { IsFor leaves board.new.board board.old.board }
@@ -173,7 +175,7 @@ pub(crate) fn leave_all(
         return broke;
     }
     for number in 0..8u64 {
-        if let Some(hart) = board.machine().shape().hart(number) {
+        if let Some(hart) = one_of(board, harts, number) {
             let missed = leave_out(board, lives, hart);
             broke = also(broke, stood[hart.index()], missed);
         }

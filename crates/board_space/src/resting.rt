@@ -60,7 +60,7 @@ impl BoardSpace {
         self.rows.put(row, &mut self.board);
         let _sized = self.board.machine();
         self.board.turn(hart);
-        if self.rows.differs(row, &self.board) {
+        if self.rows.differs(row, &self.board, hart) {
             return Ok(true);
         }
         self.rows.row_of(&self.board, row, &mut self.row)?;

@@ -32,7 +32,7 @@ impl BoardSpace {
         }
         let _sized = self.board.machine();
         self.board.turn(hart);
-        if self.rows.differs(row, &self.board) {
+        if self.rows.differs(row, &self.board, hart) {
             return Ok(false);
         }
         self.rows.row_of(&self.board, row, &mut self.row)?;

@@ -91,10 +91,11 @@ impl BoardRows {
         false
     }
 
-    /// Whether a board is shown to differ from that of a row, which is on: they stand for no board both.
-    pub fn differs(&self, row: &[u32], board: &Board) -> bool
+    /// Whether a board is shown to differ from that of a row, which is on: they stand for no board both. `likely` is looked at first.
+    pub fn differs(&self, row: &[u32], board: &Board, likely: HartId) -> bool
         requires known { (b : AnyBoard) × Stands self.now row.now b }
         requires based { IsBased self.now.layout board.now }
+        requires within { likely < (size_of self.now.layout).harts }
         ensures { result ≡ true → (n d : AnyBoard) → Stands self.now row.now n → StandsFor n d → StandsFor board.now.board d → ⊥ }
     {
         let rest = self.rests.get(row[0]);
@@ -103,6 +104,9 @@ impl BoardRows {
             return false;
         }
         if self.rest_differs(rest, &own, row, board) {
+            return true;
+        }
+        if self.hart_differs(rest, &own, row, board, likely) {
             return true;
         }
         for number in 0..self.layout.harts() {

@@ -1,6 +1,6 @@
 //! Local turns, made until one is not: what a board settles to. How far they go is a guess; that each is local is not.
 
-ghost use Rattle.std.specs.Prelude.{◌≡◌, ◌<◌, ◌≤◌, true, false};
+ghost use Rattle.std.specs.Prelude.{◌≡◌, ◌<◌, ◌≤◌, IfSome, true, false};
 ghost use Rattle.model_board.specs.Maps.{SameOutside};
 ghost use Rattle.board_space.specs.Mapped.{map_in};
 ghost use Rattle.board_space.specs.Space.{IsSureTurn, SettlesSure};
@@ -135,16 +135,27 @@ pub(crate) fn settle_one(board: &mut Board, map: &TouchMap, leaves: bool, hart: 
     turns + round + run_to(board, map, leaves, hart, &least)
 }
 
-/// Makes local turns of each hart in turn.
+/// The hart of that number, where the board has it and its bit is set.
+pub(crate) fn one_of(board: &Board, harts: u32, number: u64) -> Option<HartId>
+    requires { number < 32 }
+    ensures { IfSome result (λ h. h < board.now.size.harts) }
+{
+    if harts >> number & 1 == 0 {
+        return None;
+    }
+    board.machine().shape().hart(number)
+}
+
+/// Makes local turns of those harts in turn whose bits are set.
 #[tactic(auto, using(crate::proofs::Chains::settled, crate::proofs::Chains::settles_on, crate::proofs::Chains::same_outside, crate::proofs::Chains::outside_on))]
-pub(crate) fn settle(board: &mut Board, map: &TouchMap, leaves: bool)
+pub(crate) fn settle(board: &mut Board, map: &TouchMap, leaves: bool, harts: u32)
     ensures settles { SettlesSure board.old.size (map_in map.now) leaves board.old.board board.new.board }
     ensures size { board.new.size ≡ board.old.size }
     ensures raw { board.new.machine.size ≡ board.old.machine.size }
     ensures memory { SameOutside (map_in map.now) board.old.machine.memory board.new.machine.memory }
 {
     for number in 0..8u64 {
-        if let Some(hart) = board.machine().shape().hart(number) {
+        if let Some(hart) = one_of(board, harts, number) {
             let _turns = settle_one(board, map, leaves, hart);
         }
     }

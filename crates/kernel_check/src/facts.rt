@@ -41,8 +41,6 @@ pub enum Stop {
     Boards,
     /// It took so much memory.
     Memory,
-    /// Numbers ran out.
-    Numbers,
     /// It wanted no more, since a turn broke the map of what harts touch.
     Map,
     /// With so few preemptions some order comes to no end, and more of them may lead to one.

@@ -100,7 +100,6 @@ fn stop_value(alloc: Global, stop: Option<Stop>) -> Result<Value, AllocError> {
         None => return Ok(Value::Null),
         Some(Stop::Boards) => "boards",
         Some(Stop::Memory) => "memory",
-        Some(Stop::Numbers) => "numbers",
         Some(Stop::Map) => "map",
         Some(Stop::Switches) => "preemptions",
         Some(Stop::Untold) => "untold",

@@ -37,7 +37,6 @@ fn stop_words(stop: Stop) -> &'static str {
     match stop {
         Stop::Boards => "so many boards as --boards says",
         Stop::Memory => "so much memory as --memory says",
-        Stop::Numbers => "2^32 boards or steps",
         Stop::Map => "a turn that broke the map of what harts touch",
         Stop::Switches => "its end, with orders that come to none",
         Stop::Untold => "its end, and it tells nothing of every order",

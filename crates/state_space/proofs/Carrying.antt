@@ -1,16 +1,17 @@
 -- What was found by a system beside the one that is searched is carried over, and entered.
-use Rattle.std.proofs.Common.{◌≡◌, ⊎_elim, ℕ, ◌+◌, ◌<◌, ◌≤◌, Bool, true, false, if◌then◌else◌, List, [], ◌∷◌, ◌++◌, length, get_or, take, drop, refl, sym, ap, subst, ◌∙◌, arith}
-use Rattle.std.specs.Prelude.{All, ◌↔◌}
+use Rattle.std.proofs.Common.{◌≡◌, ⊎_elim, ℕ, ◌+◌, ◌<◌, ◌≤◌, Bool, true, false, if◌then◌else◌, List, [], ◌∷◌, ◌++◌, length, get_or, take, drop, refl, sym, ap, subst, ◌∙◌, arith, length-append}
+use Rattle.std.specs.Prelude.{All, ◌↔◌, ◌≢◌, IfSome, None, Option, Some, slice_index}
 use Rattle.std.proofs.lemmas.Bool.{cases_lt}
 use Rattle.std.proofs.lemmas.List.{take_at}
 use Rattle.std.proofs.lemmas.List.Elements.{All-push, All-same}
 use Rattle.state_space.specs.declared.found.Successors.{Successors}
 use Rattle.state_space.specs.declared.graph.Graph.{Graph}
 use Rattle.state_space.specs.declared.workers.Made.{Made}
-use Rattle.state_space.specs.Carried.{IsMade, IsCarried, IsLater, AreMade}
+use Rattle.state_space.specs.Carried.{AreMade, AreTargets, IsCarried, IsLater, IsMade, IsPushed, IsTarget, NOWHERE}
 use Rattle.state_space.specs.Graphs.{count_of, expanded_of, row_at, IsAdded, IsSearched, IsWhole}
 use Rattle.state_space.specs.Successors.{found_count, found_event, found_row}
 use Rattle.state_space.specs.Systems.{Rules, Moves, IsExpanded, Stay}
+use Rattle.state_space.proofs.Growth.{earlier_one, last_one}
 use Rattle.state_space.proofs.Grown.{expanded_moved, searched_grown}
 use Rattle.state_space.proofs.Priced.{stays_on}
 
@@ -22,23 +23,45 @@ pub pushed_each : {X : Type 0} (P : X → Type 0) (done : Bool) (before now : Li
 pushed_each P true before now x is each here = All-same P now (before ++ x ∷ []) is (All-push P before x each here)
 pushed_each P false before now x is each here = All-same P now before is each
 
+-- what is known of an option's value
+pub some_too : {X : Type 0} (o : Option X) (P Q R : X → Type 0) → ((x : X) → P x → Q x → R x) → IfSome o P → IfSome o Q → IfSome o R
+some_too None P Q R so p q = p
+some_too (Some x) P Q R so p q = so x p q
+
 module _ {State : Type 0} (rules : Rules State) where
+  -- each successor stands for something
+  pub made_known : (main own : List ℕ → State → Type 0) (graph : Graph) (made : Made) → ((k : ℕ) → k < count_of graph → (b : State) × main (row_at graph k) b) → IsMade rules main own graph made → (i : ℕ) → i < found_count made.found → (b : State) × own (found_row made.found i) b
+  made_known main own graph made each is i lt =
+      let known = each made.row is.within in
+      let to = (is.told known.0 known.1).sound i lt in
+      (to.0, to.2)
+
   -- ---- the other system's tables grow
-  pub made_stays : (main own own' : List ℕ → State → Type 0) (graph : Graph) (made : Made) → Stay own own' → IsMade rules main own graph made → IsMade rules main own' graph made
-  made_stays main own own' graph made stays is = record {
+  pub made_stays : (main own own' : List ℕ → State → Type 0) (graph : Graph) (made : Made) → ((k : ℕ) → k < count_of graph → (b : State) × main (row_at graph k) b) → Stay own own' → IsMade rules main own graph made → IsMade rules main own' graph made
+  made_stays main own own' graph made each stays is = record {
     within = is.within;
     told = λ b has. expanded_moved rules own own' (found_count made.found) (found_count made.found) (found_event made.found) (found_event made.found) (found_row made.found) (found_row made.found) b (λ r c here. (stays r c c here).0 here) refl (λ i less. refl) (λ i less. refl) (is.told b has);
+    targets = λ i lt within some.
+        let was = is.targets i lt within some in
+        let known = made_known main own graph made each is i lt in
+        (was.0, λ b has. was.1 b ((stays (found_row made.found i) known.0 b known.1).1 has));
     ended = is.ended;
   }
 
-  pub all_stay : (main own own' : List ℕ → State → Type 0) (graph : Graph) (made : List Made) → Stay own own' → All (IsMade rules main own graph) made → All (IsMade rules main own' graph) made
-  all_stay main own own' graph made stays all k d lt = made_stays main own own' graph (get_or made k d) stays (all k d lt)
+  pub all_stay : (main own own' : List ℕ → State → Type 0) (graph : Graph) (made : List Made) → ((k : ℕ) → k < count_of graph → (b : State) × main (row_at graph k) b) → Stay own own' → All (IsMade rules main own graph) made → All (IsMade rules main own' graph) made
+  all_stay main own own' graph made each stays all k d lt = made_stays main own own' graph (get_or made k d) each stays (all k d lt)
 
   -- ---- the graph and the tables of the system that is searched grow
   pub made_later : (main main' own : List ℕ → State → Type 0) (old new : Graph) (made : Made) → IsSearched rules main old → IsLater main main' old new → IsMade rules main own old made → IsMade rules main' own new made
   made_later main main' own old new made searched later is = record {
     within = omega (arith, is.within, later.grown);
     told = λ b has. is.told b (back b has);
+    targets = λ i lt within some.
+        let was = is.targets i lt within some in
+        let at = slice_index made.targets.items i in (
+          omega (arith, was.0, later.grown),
+          λ b has. subst (λ r. main' r b) (sym (later.rows at was.0)) ((later.stays (row_at old at) b b (was.1 b has)).0 (was.1 b has)),
+        );
     ended = λ b has. is.ended b (back b has);
   }
     where
@@ -59,13 +82,6 @@ module _ {State : Type 0} (rules : Rules State) where
         let was = is.sound i less in
         (was.0, subst (λ e. Moves rules e b was.0) (sym (carried.events i less)) was.1, carried.rows i was.0 less was.2);
   }
-
-  -- each successor stands for something
-  pub made_known : (main own : List ℕ → State → Type 0) (graph : Graph) (made : Made) → IsSearched rules main graph → IsMade rules main own graph made → (i : ℕ) → i < found_count made.found → (b : State) × own (found_row made.found i) b
-  made_known main own graph made searched is i lt =
-      let known = searched.known made.row is.within in
-      let to = (is.told known.0 known.1).sound i lt in
-      (to.0, to.2)
 
   -- ---- what was made of the next row is entered
   module _ (main main' own : List ℕ → State → Type 0) (old new : Graph) (made : Made) (found : Successors) where
@@ -91,35 +107,59 @@ module _ {State : Type 0} where
     rows = λ i b lt. absurd (omega arith);
   }
 
-  pub carried_more : (own main main' : List ℕ → State → Type 0) (from old new : Successors) (n : ℕ) (row : List ℕ)
+  pub carried_more : (own main main' : List ℕ → State → Type 0) (from old new : Successors) (n : ℕ)
       → Stay main main' → n < found_count from → IsCarried own main from old n
-      → ((i : ℕ) → i < found_count from → (b : State) × own (found_row from i) b)
-      → ((b : State) → own (found_row from n) b → main' row b)
-      → found_count new ≡ found_count old + 1
-      → found_event new (found_count old) ≡ found_event from n
-      → found_row new (found_count old) ≡ row
-      → ((k : ℕ) → k < found_count old → found_event new k ≡ found_event old k)
-      → ((k : ℕ) → k < found_count old → found_row new k ≡ found_row old k)
+      → IsPushed own main' old new (found_event from n) (found_row from n)
       → IsCarried own main' from new (n + 1)
-  carried_more own main main' from old new n row stays within was known stands counted event at events rows = record {
-    count = counted ∙ ap (λ m. m + 1) was.count;
+  carried_more own main main' from old new n stays within was pushed = record {
+    count = pushed.counted ∙ ap (λ m. m + 1) was.count;
     events = λ i lt. ⊎_elim
-        (λ below. events i (subst (λ m. i < m) (sym was.count) below) ∙ was.events i below)
+        (λ below. pushed.events_stay i (subst (λ m. i < m) (sym was.count) below) ∙ was.events i below)
         (λ last.
         let is : i ≡ n = omega (arith, last, lt) in
         let place : i ≡ found_count old = is ∙ sym was.count in
-        ap (found_event new) place ∙ (event ∙ ap (found_event from) (sym is)))
+        ap (found_event new) place ∙ (pushed.is_of ∙ ap (found_event from) (sym is)))
         (cases_lt i n);
     rows = λ i b lt has. ⊎_elim
         (λ below.
         let before : main (found_row old i) b = was.rows i b below has in
-        subst (λ r. main' r b) (sym (rows i (subst (λ m. i < m) (sym was.count) below))) ((stays (found_row old i) b b before).0 before))
+        subst (λ r. main' r b) (sym (pushed.rows_stay i (subst (λ m. i < m) (sym was.count) below))) ((stays (found_row old i) b b before).0 before))
         (λ last.
         let is : i ≡ n = omega (arith, last, lt) in
-        let place : found_row new i ≡ row = ap (found_row new) (is ∙ sym was.count) ∙ at in
-        subst (λ r. main' r b) (sym place) (stands b (subst (λ m. own (found_row from m) b) is has)))
+        subst (λ m. main' (found_row new m) b) (sym (is ∙ sym was.count)) (pushed.stands b (subst (λ m. own (found_row from m) b) is has)))
         (cases_lt i n);
   }
+
+  -- ---- one row more that is known, or not
+  pub targets_none : (own main : List ℕ → State → Type 0) (graph : Graph) (found : Successors) (targets : List ℕ) → targets ≡ [] → AreTargets own main graph found targets
+  targets_none own main graph found targets none i lt within some = let long : length targets ≡ 0 = ap length none in absurd (omega (arith, long, within))
+
+  pub targets_more : (own main : List ℕ → State → Type 0) (graph : Graph) (found : Successors) (targets now : List ℕ) (n k : ℕ)
+      → now ≡ targets ++ k ∷ [] → length targets ≡ n → AreTargets own main graph found targets
+      → (k ≢ NOWHERE → IsTarget own main graph (found_row found n) k)
+      → AreTargets own main graph found now
+  targets_more own main graph found targets now n k is long are one i lt within some =
+      let longer : length now ≡ length targets + 1 = ap length is ∙ length-append targets (k ∷ []) in
+      ⊎_elim
+      (λ below.
+      let e : slice_index now i ≡ slice_index targets i = earlier_one targets now k 0 i is below in
+      subst (λ m. IsTarget own main graph (found_row found i) m) (sym e) (are i lt below (λ z. some (e ∙ z))))
+      (λ last.
+      let p : i ≡ length targets = omega (arith, last, within, longer) in
+      let e : slice_index now i ≡ k = last_one targets now k 0 i is p in
+      subst (λ m. IsTarget own main graph (found_row found i) m) (sym e)
+      (subst (λ m. IsTarget own main graph (found_row found m) k) (sym (p ∙ long)) (one (λ z. some (e ∙ z)))))
+      (cases_lt i (length targets))
+
+  -- the row of the graph to which a successor leads, where it is known
+  pub known_stands : (own main main' : List ℕ → State → Type 0) (graph : Graph) (found : Successors) (targets : List ℕ) (i : ℕ) (row : List ℕ)
+      → Stay main main' → i < found_count found → AreTargets own main graph found targets
+      → (i < length targets) × (slice_index targets i ≢ NOWHERE) × (row ≡ row_at graph (slice_index targets i))
+      → (b : State) → own (found_row found i) b → main' row b
+  known_stands own main main' graph found targets i row stays lt are at b has =
+      let target = are i lt at.0 at.1 in
+      let here = target.1 b has in
+      subst (λ r. main' r b) (sym at.2) ((stays (row_at graph (slice_index targets i)) b b here).0 here)
 
   -- ---- later and later
   pub later_same : (main : List ℕ → State → Type 0) (graph : Graph) → IsLater main main graph graph

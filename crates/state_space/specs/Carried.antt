@@ -1,5 +1,5 @@
 -- What was found of rows by a system beside the one that is searched, and what it is in the numbers of that one.
-use Rattle.std.specs.Prelude.{◌≡◌, ◌↔◌, ℕ, ◌<◌, ◌≤◌, List, All, true}
+use Rattle.std.specs.Prelude.{◌≡◌, ◌≢◌, ◌↔◌, ℕ, ◌+◌, ◌<◌, ◌≤◌, List, All, length, slice_index, true}
 use Rattle.state_space.specs.declared.found.Successors.{Successors}
 use Rattle.state_space.specs.declared.graph.Graph.{Graph}
 use Rattle.state_space.specs.declared.workers.Made.{Made}
@@ -7,9 +7,23 @@ use Rattle.state_space.specs.Graphs.{count_of, expanded_of, row_at}
 use Rattle.state_space.specs.Successors.{found_count, found_event, found_row}
 use Rattle.state_space.specs.Systems.{Rules, IsExpanded, Stay}
 
+-- the number of no row
+abbrev pub NOWHERE : ℕ
+NOWHERE = 4294967295
+
+-- That row of the graph stands for each state for which a row of another system does.
+abbrev pub IsTarget : {State : Type 0} → (List ℕ → State → Type 0) → (List ℕ → State → Type 0) → Graph → List ℕ → ℕ → Type 0
+IsTarget {State} own main graph row target = (target < count_of graph) × ((b : State) → own row b → main (row_at graph target) b)
+
+-- the rows of the graph to which successors lead, as far as they are known
+abbrev pub AreTargets : {State : Type 0} → (List ℕ → State → Type 0) → (List ℕ → State → Type 0) → Graph → Successors → List ℕ → Type 0
+AreTargets own main graph found targets =
+    (i : ℕ) → i < found_count found → i < length targets → slice_index targets i ≢ NOWHERE → IsTarget own main graph (found_row found i) (slice_index targets i)
+
 -- These are the successors of a row of the graph, whose rows are those of `main`, by the tables of another system.
 pub record IsMade {State : Type 0} (rules : Rules State) (main own : List ℕ → State → Type 0) (graph : Graph) (made : Made) : Type 0 where
   pub within : made.row < count_of graph
+  pub targets : AreTargets own main graph made.found made.targets.items
   pub told : (b : State) → main (row_at graph made.row) b → IsExpanded rules own (found_count made.found) (found_event made.found) (found_row made.found) b
   pub ended : (b : State) → main (row_at graph made.row) b → (made.is_end ≡ true) ↔ rules.is_end b
 
@@ -18,6 +32,14 @@ pub record IsCarried {State : Type 0} (own main : List ℕ → State → Type 0)
   pub count : found_count to ≡ n
   pub events : (i : ℕ) → i < n → found_event to i ≡ found_event from i
   pub rows : (i : ℕ) (b : State) → i < n → own (found_row from i) b → main (found_row to i) b
+
+-- one more successor was found, which stands for what the row of another system does
+pub record IsPushed {State : Type 0} (own main : List ℕ → State → Type 0) (old new : Successors) (event : ℕ) (row : List ℕ) : Type 0 where
+  pub counted : found_count new ≡ found_count old + 1
+  pub is_of : found_event new (found_count old) ≡ event
+  pub stands : (b : State) → own row b → main (found_row new (found_count old)) b
+  pub events_stay : (k : ℕ) → k < found_count old → found_event new k ≡ found_event old k
+  pub rows_stay : (k : ℕ) → k < found_count old → found_row new k ≡ found_row old k
 
 -- a graph with more rows: what the first ones stand for stays
 pub record IsLater {State : Type 0} (before after : List ℕ → State → Type 0) (old new : Graph) : Type 0 where

@@ -6,11 +6,11 @@ use crate::systems::System;
 /// A system of which several of one setting may be at work, each with tables of its own: what a row of one stands for, a row of any other
 /// can stand for.
 pub trait Carries: System + Send + Sync {
-    ghost use Rattle.std.specs.Prelude.{◌≡◌, ℕ, List, length, IfOk};
+    ghost use Rattle.std.specs.Prelude.{◌≡◌, ℕ, List, length, IfOk, Ok, true};
     ghost use Rattle.state_space.specs.Systems.{Stay};
 
     /// What a system remembers of another one's numbers, so that a row is carried over sooner. It is no more than a guess.
-    type Memo: Send + Drop;
+    type Memo: Send + Sync + Drop;
 
     /// Another system of the same setting, with empty tables.
     fn another(&self) -> Result<Self, Refused>
@@ -18,6 +18,18 @@ pub trait Carries: System + Send + Sync {
 
     /// Nothing is remembered yet.
     fn memo(&self) -> Self::Memo;
+
+    /// Whether the row of this one is known that stands for the same as a row of another system. It is put in place of what was in `out`.
+    fn find(
+        &self,
+        from: &Self,
+        memo: &Self::Memo,
+        row: &[u32],
+        out: &mut Vec<u32>,
+    ) -> Result<bool, Refused>
+        requires setting { Self.setting self.now ≡ Self.setting from.now }
+        requires known { (b : Self.State) × Self.stands from.now row.now b }
+        ensures stands { result ≡ Ok true → (b : Self.State) → Self.stands from.now row.now b → Self.stands self.now out.new.items b };
 
     /// Makes of a row of another system the row of this one that stands for the same, in place of what was in `out`.
     fn carry(

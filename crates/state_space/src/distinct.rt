@@ -1,6 +1,6 @@
 //! Pairwise distinct entries.
 
-ghost use Rattle.std.specs.Prelude.{◌≡◌, ◌<◌, ◌+◌, ℕ, IfOk, OnOk, OnErr, length};
+ghost use Rattle.std.specs.Prelude.{◌≡◌, ◌<◌, ◌+◌, ℕ, IfOk, OnOk, OnErr, length, IfSome};
 ghost use Rattle.state_space.specs.Tables.{EMPTY as FREE, IsTable, IsFree};
 ghost use Rattle.state_space.specs.Pools.{AreKept, IsPut, Stay};
 
@@ -74,6 +74,18 @@ impl<T, P: Pool<T>> Distinct<T, P> {
         ensures { result.now ≡ P.entry self.now.pool number }
     {
         self.pool.get(number)
+    }
+
+    /// The number of an entry that equals the key, where one is found.
+    pub fn find(&self, key: &[T]) -> Option<usize>
+        requires kept { AreKept (P.entry self.now.pool) (P.count self.now.pool) P.hash_of self.now.slots.items }
+        ensures within { IfSome result (λ n. n < P.count self.now.pool) }
+        ensures is { IfSome result (λ n. P.entry self.now.pool n ≡ key.now) }
+    {
+        match probe(&self.pool, &self.slots, key) {
+            Probed::Found(number) => Some(number),
+            _ => None,
+        }
     }
 
     /// How much memory the entries and the table take, in bytes.

@@ -39,11 +39,11 @@ fn expand_next<S: System>(
     match system.expand(graph.row(next), found)? {
         Expansion::Halts => Ok(false),
         Expansion::Goes => {
-            graph.add(found, false)?;
+            graph.add(found, &[], false)?;
             Ok(true)
         }
         Expansion::Ends => {
-            graph.add(found, true)?;
+            graph.add(found, &[], true)?;
             Ok(true)
         }
     }

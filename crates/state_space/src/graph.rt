@@ -1,6 +1,6 @@
 //! The rows that a search found, with the steps between them.
 
-ghost use Rattle.std.specs.Prelude.{◌≡◌, ◌<◌, ◌+◌, ◌≤◌, ◌-◌, ℕ, length, IfOk, OnOk, slice_index, slice_index_or, slice_range, true, false};
+ghost use Rattle.std.specs.Prelude.{◌≡◌, ◌<◌, ◌+◌, ◌≤◌, ◌-◌, ℕ, length, IfOk, IfSome, OnOk, slice_index, slice_index_or, slice_range, true, false};
 ghost use Rattle.std.specs.Vec.{vec_len};
 
 use crate::found::Successors;
@@ -19,6 +19,19 @@ pub struct Graph {
     events: Vec<u8>,
     /// Of each expanded row, whether its state is at an end.
     is_end: Vec<bool>,
+}
+
+/// The number of no row.
+pub(crate) const NO_ROW: u32 = u32::MAX;
+
+/// The guess of that place, if there is one.
+#[inline]
+fn guess_at(guesses: &[u32], place: usize) -> u32 {
+    if place < guesses.len() {
+        guesses[place]
+    } else {
+        NO_ROW
+    }
 }
 
 impl Graph {
@@ -77,6 +90,15 @@ impl Graph {
         ensures width { length result.now ≡ row_width self.now.rows }
     {
         self.rows.get(number)
+    }
+
+    /// The number of a row, where it is found.
+    #[inline]
+    pub(crate) fn find(&self, row: &[u32]) -> Option<usize>
+        ensures within { IfSome result (λ n. n < count_of self.now) }
+        ensures is { IfSome result (λ n. row_at self.now n ≡ row.now) }
+    {
+        self.rows.find(row)
     }
 
     /// Whether the state of an expanded row is at an end.
@@ -139,13 +161,13 @@ impl Graph {
         self.events[step]
     }
 
-    /// Adds a step to a row, which may be new. At `Err` the graph is of no more use.
+    /// Adds a step to a row, which may be new: a guess of its number is looked at first. At `Err` the graph is of no more use.
     #[inline]
-    fn add_step(&mut self, event: u8, row: &[u32]) -> Result<(), Refused>
+    fn add_step(&mut self, event: u8, row: &[u32], guess: u32) -> Result<(), Refused>
         requires { length row.now ≡ row_width self.old.rows }
         ensures { OnOk result (IsStepAdded self.old self.new event row.now) }
     {
-        let target = self.rows.put(row)?;
+        let target = self.rows.put_near(guess, row)?;
         self.targets.push(target as u32)?;
         self.events.push(event)?;
         Ok(())
@@ -153,25 +175,32 @@ impl Graph {
 
     #[tactic(auto, using(crate::proofs::Growth::growing_more, crate::proofs::Growth::growing_none))]
     /// Adds the next row's steps. At `Err` the graph is of no more use.
-    fn add_steps(&mut self, found: &Successors) -> Result<(), Refused>
+    fn add_steps(&mut self, found: &Successors, guesses: &[u32]) -> Result<(), Refused>
         requires { found_width found.now ≡ row_width self.old.rows }
         ensures { OnOk result (IsGrowing self.old self.new found.now (found_count found.now)) }
     {
         for number in 0..found.count() {
-            self.add_step(found.event(number), found.row(number))?;
+            let guess = guess_at(guesses, number);
+            self.add_step(found.event(number), found.row(number), guess)?;
         }
         Ok(())
     }
 
     #[tactic(auto, using(crate::proofs::Growth::added, crate::proofs::Growth::whole_added))]
-    /// Adds what the next row leads to. At `Err` the graph is of no more use.
-    pub(crate) fn add(&mut self, found: &Successors, is_end: bool) -> Result<(), Refused>
+    /// Adds what the next row leads to. Guesses of the numbers of these rows are looked at first, as far as there are some. At `Err` the
+    /// graph is of no more use.
+    pub(crate) fn add(
+        &mut self,
+        found: &Successors,
+        guesses: &[u32],
+        is_end: bool,
+    ) -> Result<(), Refused>
         requires whole { IsWhole self.old }
         requires width { found_width found.now ≡ row_width self.old.rows }
         ensures added { OnOk result (IsAdded self.old self.new found.now is_end) }
         ensures whole { OnOk result (IsWhole self.new) }
     {
-        self.add_steps(found)?;
+        self.add_steps(found, guesses)?;
         let Ok(end) = u32::try_from(self.targets.len()) else {
             return Err(Refused::Numbers);
         };

@@ -1,6 +1,6 @@
 //! Rows of one width, pairwise distinct.
 
-ghost use Rattle.std.specs.Prelude.{◌≡◌, ◌<◌, length, IfOk, OnErr, [], ℕ};
+ghost use Rattle.std.specs.Prelude.{◌≡◌, ◌<◌, length, IfOk, IfSome, OnErr, [], ℕ};
 ghost use Rattle.state_space.specs.Hash.{hash_from, HASH_SEED};
 ghost use Rattle.state_space.specs.Pools.{AreKept, IsPut, Stay};
 ghost use Rattle.state_space.specs.Stores.{row_entry};
@@ -50,6 +50,31 @@ impl Rows {
     /// How much memory they take, in bytes.
     pub fn bytes(&self) -> u64 {
         self.entries.bytes()
+    }
+
+    /// The number of the row that equals this one, where it is found.
+    #[inline]
+    pub fn find(&self, row: &[u32]) -> Option<usize>
+        ensures within { IfSome result (λ n. n < row_count self.now) }
+        ensures is { IfSome result (λ n. row_of self.now n ≡ row.now) }
+    {
+        self.entries.find(row)
+    }
+
+    /// The number of the row that equals this one, as `put` has it: the guess is looked at first.
+    #[inline]
+    pub fn put_near(&mut self, guess: u32, row: &[u32]) -> Result<usize, Refused>
+        requires { length row.now ≡ row_width self.old }
+        ensures put { IfOk result (IsPut (row_of self.old) (row_count self.old) (row_of self.new) (row_count self.new) row.now) }
+        ensures stay { Stay (row_of self.old) (row_count self.old) (row_of self.new) }
+        ensures refused { OnErr result (row_count self.new ≡ row_count self.old) }
+        ensures width { row_width self.new ≡ row_width self.old }
+    {
+        let number = guess as usize;
+        if number < self.count() && self.get(number) == row {
+            return Ok(number);
+        }
+        self.put(row)
     }
 
     /// The number of the row that equals this one. Where there is none it is added at the end. At `Err` the rows are as they were.

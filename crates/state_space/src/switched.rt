@@ -227,6 +227,24 @@ impl<S: Preempted + Carries> Carries for Switching<S> {
         self.system.memo()
     }
 
+    fn find(
+        &self,
+        from: &Self,
+        memo: &S::Memo,
+        row: &[u32],
+        out: &mut Vec<u32>,
+    ) -> Result<bool, Refused> {
+        let mut inner = Vec::new(self.alloc);
+        if !self.system.find(&from.system, memo, &row[2..], &mut inner)? {
+            return Ok(false);
+        }
+        out.clear();
+        out.push(row[0])?;
+        out.push(row[1])?;
+        out.extend_from_slice(&inner)?;
+        Ok(true)
+    }
+
     #[tactic(auto, using(crate::proofs::Priced::stays_within))]
     fn carry(
         &mut self,

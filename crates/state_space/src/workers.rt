@@ -1,13 +1,14 @@
 //! Systems beside the one that is searched, each of which expands rows of it by tables of its own.
 
-ghost use Rattle.std.specs.Prelude.{◌≡◌, ◌<◌, ℕ, All, IfOk, IfSome, length, slice_index_or};
-ghost use Rattle.state_space.specs.Carried.{IsMade};
+ghost use Rattle.std.specs.Prelude.{◌≡◌, ◌≢◌, ◌<◌, ℕ, All, IfOk, IfSome, [], length, slice_index_or};
+ghost use Rattle.state_space.specs.Carried.{AreTargets, IsMade, IsTarget, NOWHERE};
 ghost use Rattle.state_space.specs.Graphs.{count_of, row_at};
+ghost use Rattle.state_space.specs.Successors.{found_count, found_row};
 ghost use Rattle.state_space.specs.Systems.{Stay};
 
 use crate::carries::Carries;
 use crate::found::Successors;
-use crate::graph::Graph;
+use crate::graph::{Graph, NO_ROW};
 use crate::refusal::Refused;
 use crate::systems::Expansion;
 use std::alloc::Global;
@@ -19,6 +20,8 @@ pub struct Made {
     pub(crate) row: usize,
     /// Where it leads to, in the numbers of the system that expanded it.
     pub(crate) found: Successors,
+    /// Of each of these the row of the graph that stands for the same, where it is known, else the number of no row.
+    pub(crate) targets: Vec<u32>,
     /// Whether its state is at an end.
     pub(crate) is_end: bool,
 }
@@ -36,6 +39,54 @@ pub struct Worker<S: Carries> {
     pub(crate) made: Vec<Made>,
 }
 
+/// The row of a graph that stands for the same as a row of another system, where it is known, else the number of no row.
+fn target_of<S: Carries>(
+    main: &S,
+    graph: &Graph,
+    system: &S,
+    back: &S::Memo,
+    row: &[u32],
+    out: &mut Vec<u32>,
+) -> Result<u32, Refused>
+    requires setting { S.setting main.now ≡ S.setting system.now }
+    requires known { (b : S.State) × S.stands system.now row.now b }
+    ensures { IfOk result (λ target. target ≢ NOWHERE → IsTarget (S.stands system.now) (S.stands main.now) graph.now row.now target) }
+{
+    if !main.find(system, back, row, out)? {
+        return Ok(NO_ROW);
+    }
+    let Some(target) = graph.find(out) else {
+        return Ok(NO_ROW);
+    };
+    match u32::try_from(target) {
+        Ok(target) => Ok(target),
+        Err(_) => Ok(NO_ROW),
+    }
+}
+
+/// The rows of a graph that stand for the same as successors, as far as they are known.
+fn targets_of<S: Carries>(
+    alloc: Global,
+    main: &S,
+    graph: &Graph,
+    system: &S,
+    back: &S::Memo,
+    found: &Successors,
+    out: &mut Vec<u32>,
+) -> Result<Vec<u32>, Refused>
+    requires setting { S.setting main.now ≡ S.setting system.now }
+    requires known { (i : ℕ) → i < found_count found.now → (b : S.State) × S.stands system.now (found_row found.now i) b }
+    ensures { IfOk result (λ targets. AreTargets (S.stands system.now) (S.stands main.now) graph.now found.now targets.items) }
+{
+    let mut targets = Vec::new(alloc);
+    for index in 0..found.count() {
+        let target = target_of(main, graph, system, back, found.row(index), out)?;
+        targets.push(target)?;
+    }
+    Ok(targets)
+}
+
+#[tactic(auto, using(crate::proofs::Carrying::targets_none))]
 /// Expands a row of a graph by the tables of another system. `None` where that one wants no more of the search.
 fn made_of<S: Carries>(
     alloc: Global,
@@ -64,8 +115,28 @@ fn made_of<S: Carries>(
     Ok(Some(Made {
         row: number,
         found,
+        targets: Vec::new(alloc),
         is_end,
     }))
+}
+
+/// What was made of a row, with the rows of the graph to which it leads, as far as they are known.
+fn aimed<S: Carries>(
+    alloc: Global,
+    main: &S,
+    graph: &Graph,
+    system: &S,
+    back: &S::Memo,
+    made: Made,
+    out: &mut Vec<u32>,
+) -> Result<Made, Refused>
+    requires setting { S.setting main.now ≡ S.setting system.now }
+    requires known { (k : ℕ) → k < count_of graph.now → (b : S.State) × S.stands main.now (row_at graph.now k) b }
+    requires made { IsMade (S.rules (S.setting main.now)) (S.stands main.now) (S.stands system.now) graph.now made }
+    ensures { IfOk result (IsMade (S.rules (S.setting main.now)) (S.stands main.now) (S.stands system.now) graph.now) }
+{
+    let targets = targets_of(alloc, main, graph, system, back, &made.found, out)?;
+    Ok(Made { targets, ..made })
 }
 
 impl<S: Carries> Worker<S> {
@@ -99,18 +170,24 @@ impl<S: Carries> Worker<S> {
         &self.made[index]
     }
 
-    /// Expands a row, and answers whether it could. It can't where its system wants no more of the search, or where memory was refused.
-    fn make(&mut self, main: &S, graph: &Graph, number: usize) -> bool
+    /// What a row leads to. `None` where its system wants no more of the search.
+    fn expanded(
+        &mut self,
+        main: &S,
+        graph: &Graph,
+        back: &S::Memo,
+        number: usize,
+    ) -> Result<Option<Made>, Refused>
         requires within { number < count_of graph.now }
         requires setting { S.setting self.old.system ≡ S.setting main.now }
-        requires known { (b : S.State) × S.stands main.now (row_at graph.now number) b }
-        requires made { All (IsMade (S.rules (S.setting main.now)) (S.stands main.now) (S.stands self.old.system) graph.now)
-            self.old.made.items }
+        requires known { (k : ℕ) → k < count_of graph.now → (b : S.State) × S.stands main.now (row_at graph.now k) b }
         ensures setting { S.setting self.new.system ≡ S.setting main.now }
-        ensures made { All (IsMade (S.rules (S.setting main.now)) (S.stands main.now) (S.stands self.new.system) graph.now)
-            self.new.made.items }
+        ensures stays { Stay (S.stands self.old.system) (S.stands self.new.system) }
+        ensures same { self.new.made.items ≡ self.old.made.items }
+        ensures made { IfOk result (λ found. IfSome found
+            (IsMade (S.rules (S.setting main.now)) (S.stands main.now) (S.stands self.new.system) graph.now)) }
     {
-        match made_of(
+        let made = made_of(
             self.alloc,
             &mut self.system,
             &mut self.memo,
@@ -118,14 +195,49 @@ impl<S: Carries> Worker<S> {
             main,
             graph,
             number,
-        ) {
+        )?;
+        match made {
+            None => Ok(None),
+            Some(made) => Ok(Some(aimed(
+                self.alloc,
+                main,
+                graph,
+                &self.system,
+                back,
+                made,
+                &mut self.row,
+            )?)),
+        }
+    }
+
+    /// Expands a row, and answers whether it could. It can't where its system wants no more of the search, or where memory was refused.
+    fn make(&mut self, main: &S, graph: &Graph, back: &S::Memo, number: usize) -> bool
+        requires within { number < count_of graph.now }
+        requires setting { S.setting self.old.system ≡ S.setting main.now }
+        requires known { (k : ℕ) → k < count_of graph.now → (b : S.State) × S.stands main.now (row_at graph.now k) b }
+        requires made { All (IsMade (S.rules (S.setting main.now)) (S.stands main.now) (S.stands self.old.system) graph.now)
+            self.old.made.items }
+        ensures setting { S.setting self.new.system ≡ S.setting main.now }
+        ensures made { All (IsMade (S.rules (S.setting main.now)) (S.stands main.now) (S.stands self.new.system) graph.now)
+            self.new.made.items }
+    {
+        match self.expanded(main, graph, back, number) {
             Ok(Some(made)) => self.made.push(made).is_ok(),
             _ => false,
         }
     }
 
-    /// Expands the rows of a graph from one up to another, in place of those before, as far as it can.
-    pub fn make_all(&mut self, main: &S, graph: &Graph, from: usize, to: usize)
+    /// Forgets what it found.
+    pub fn forget(&mut self)
+        ensures system { self.new.system ≡ self.old.system }
+        ensures none { self.new.made.items ≡ [] }
+    {
+        self.made.clear();
+    }
+
+    /// Expands the rows of a graph from one up to another, in place of those before, as far as it can. `back` is what `main` remembers of
+    /// its numbers.
+    pub fn make_all(&mut self, main: &S, graph: &Graph, back: &S::Memo, from: usize, to: usize)
         requires setting { S.setting self.old.system ≡ S.setting main.now }
         requires known { (k : ℕ) → k < count_of graph.now → (b : S.State) × S.stands main.now (row_at graph.now k) b }
         ensures setting { S.setting self.new.system ≡ S.setting main.now }
@@ -134,7 +246,7 @@ impl<S: Carries> Worker<S> {
     {
         self.made.clear();
         for number in from..to.min(graph.count()) {
-            if !self.make(main, graph, number) {
+            if !self.make(main, graph, back, number) {
                 return;
             }
         }

@@ -6,7 +6,7 @@ use Rattle.board_space.proofs.leaving.leave_all.Goals.{in-Some, in_default}
 
 pub loop-number-preserved : goal.loop-number-preserved
 loop-number-preserved c =
-    elim c.match-hart.branch [
+    elim c.match-one_of.branch [
       | in-Some w ↦
           let one = w.leave_out-missed.ensures in
           let until = c.loop-number.invariant in

@@ -8,7 +8,7 @@ use Rattle.board_space.proofs.settling.settle.Goals.{in-Some, in_default}
 
 pub loop-number-preserved : goal.loop-number-preserved
 loop-number-preserved c =
-    elim c.match-hart.branch [
+    elim c.match-one_of.branch [
       | in-Some w ↦
           let map = map_in c.args.map.now in
           let one = w.settle_one-turns.ensures in

@@ -1,24 +1,33 @@
-use Rattle.std.proofs.Common.{◌∙◌, subst, sym, arith}
-use Rattle.state_space.proofs.Carrying.{carried_more}
+use Rattle.std.proofs.Common.{◌∙◌, List, ℕ, subst, sym, arith}
+use Rattle.state_space.specs.Carried.{IsPushed}
+use Rattle.state_space.specs.Successors.{found_event, found_row}
+use Rattle.state_space.proofs.Carrying.{carried_more, known_stands, some_too}
 use Rattle.state_space.proofs.Priced.{stays_on}
 use Rattle.state_space.proofs.windows.carry_all.Goals as goal
 
-pub carry-requires-clause-known : goal.carry-requires-clause-known
-carry-requires-clause-known g c =
+pub carry_one-requires-clause-stands : goal.carry_one-requires-clause-stands
+carry_one-requires-clause-stands g c κs within =
     let known = c.requires.known c.loop-index.index (omega (arith, c.loop-index-test.true, c.count-index-end.ensures)) in
     (known.0, subst (λ r. g.S.System.stands c.args.from.now r known.0) (sym c.row.ensures.row) known.1)
+
+pub carry_one-requires-clause-known : goal.carry_one-requires-clause-known
+carry_one-requires-clause-known g c κs within =
+    let s = g.S.System in
+    some_too c.known_row-known.result _ _ _
+    (λ r at long b has. known_stands (s.stands c.args.from.now) (s.stands c.args.system.now) (s.stands c.loop-index.system) c.args.graph.now c.args.successors.now c.args.targets.now c.loop-index.index r.now c.loop-index.invariant.stays
+    (omega (arith, c.loop-index-test.true, c.count-index-end.ensures)) c.requires.targets at b (subst (λ l. s.stands c.args.from.now l b) c.row.ensures.row has))
+    c.known_row-known.ensures.is c.known_row-known.ensures.width
 
 pub loop-index-preserved : goal.loop-index-preserved
 loop-index-preserved g c =
     let s = g.S.System in
     let until = c.loop-index.invariant in
-    let push = c.in_ok-push.ensures in
+    let pushed = subst (λ (e : ℕ). IsPushed (s.stands c.args.from.now) (s.stands c.carry_one.new.system) c.loop-index.found c.carry_one.new.found e (found_row c.args.successors.now c.loop-index.index)) c.event.ensures
+    (subst (λ (r : List ℕ). IsPushed (s.stands c.args.from.now) (s.stands c.carry_one.new.system) c.loop-index.found c.carry_one.new.found c.event.result r) c.row.ensures.row c.in_ok-carry_one.ensures.pushed) in
     record {
-      setting = c.carry.ensures.setting ∙ until.setting;
-      stays = stays_on (s.stands c.args.system.now) (s.stands c.loop-index.system) (s.stands c.carry.new.self) until.stays c.carry.ensures.stays;
-      width = c.push.ensures.width ∙ until.width;
-      carried = carried_more (s.stands c.args.from.now) (s.stands c.loop-index.system) (s.stands c.carry.new.self) c.args.successors.now c.loop-index.found c.push.new.self c.loop-index.index c.carry.new.out.items
-          c.carry.ensures.stays (omega (arith, c.loop-index-test.true, c.count-index-end.ensures)) until.carried c.requires.known
-          (λ b has. c.in_ok-carry.ensures.stands b (subst (λ r. s.stands c.args.from.now r b) (sym c.row.ensures.row) has))
-          push.counted (push.event ∙ c.event.ensures) (push.row ∙ c.deref.ensures.value) push.events_stay push.rows_stay;
+      setting = c.carry_one.ensures.setting ∙ until.setting;
+      stays = stays_on (s.stands c.args.system.now) (s.stands c.loop-index.system) (s.stands c.carry_one.new.system) until.stays c.carry_one.ensures.stays;
+      width = c.carry_one.ensures.width ∙ until.width;
+      carried = carried_more (s.stands c.args.from.now) (s.stands c.loop-index.system) (s.stands c.carry_one.new.system) c.args.successors.now c.loop-index.found c.carry_one.new.found c.loop-index.index
+          c.carry_one.ensures.stays (omega (arith, c.loop-index-test.true, c.count-index-end.ensures)) until.carried pushed;
     }

@@ -1,4 +1,5 @@
 use Rattle.std.proofs.Common.{◌≡◌, ◌∙◌, ◌<◌, ap, subst, sym, arith}
+use Rattle.state_space.specs.Carried.{AreTargets}
 use Rattle.state_space.specs.Graphs.{IsSearched, count_of, expanded_of}
 use Rattle.state_space.proofs.Carrying.{entered, made_known}
 use Rattle.state_space.proofs.windows.enter.Goals as goal
@@ -6,7 +7,12 @@ use Rattle.state_space.proofs.windows.enter.Goals as goal
 pub carry_all-requires-clause-known : goal.carry_all-requires-clause-known
 carry_all-requires-clause-known g c κs within =
     let s = g.S.System in
-    made_known (s.rules (s.setting c.args.system.now)) (s.stands c.args.system.now) (s.stands c.args.from.now) c.args.graph.now c.args.made.now c.requires.searched c.requires.made
+    made_known (s.rules (s.setting c.args.system.now)) (s.stands c.args.system.now) (s.stands c.args.from.now) c.args.graph.now c.args.made.now c.requires.searched.known c.requires.made
+
+pub carry_all-requires-clause-targets : goal.carry_all-requires-clause-targets
+carry_all-requires-clause-targets g c κs within =
+    let s = g.S.System in
+    subst (AreTargets (s.stands c.args.from.now) (s.stands c.args.system.now) c.args.graph.now c.args.made.now.found) (sym c.as_slice-targets.ensures.value) c.requires.made.targets
 
 pub returns-clause-searched : goal.returns-clause-searched
 returns-clause-searched g c =

@@ -17,9 +17,9 @@ pub returns-clause-stands : goal.returns-clause-stands
 returns-clause-stands c =
     let rest = c.rest.result in
     let seen = c.seen_rest-rest.result in
-    let rows : BoardRows = record c.args.self.now { rests = c.put.new.self; harts = c.tell_harts.new.harts; words = c.tell_segments.new.words; values = c.tell_segments.new.values } in
+    let rows : BoardRows = record c.args.self.now { rests = c.put_near.new.self; harts = c.tell_harts.new.harts; words = c.tell_segments.new.words; values = c.tell_segments.new.values } in
     let b = c.args.board.now in
-    let n = c.in_ok-put.field-0 in
+    let n = c.in_ok-put_near.field-0 in
     let first = c.push.new.self.items in
     let then = c.tell_harts.new.row.items in
     let row = c.tell_segments.new.row.items in
@@ -33,7 +33,7 @@ returns-clause-stands c =
       bytes = subst (λ (m : List ℕ). (i : ℕ) → i < length m → slice_index m i < 256) memory c.bytes_in.ensures;
       base = subst (λ (m : List ℕ). (i : ℕ) → i < length m → slice_index m i < 256) c.base.ensures c.bytes_in-2.ensures;
       long = told_long rest seen rows b first then row n c.harts.result c.seen_rest-rest.ensures c.harts.ensures one c.in_ok-tell_harts.ensures.row c.in_ok-tell_segments.ensures.row;
-      rested = told_rested rest seen rows b first then row n c.harts.result c.seen_rest-rest.ensures c.harts.ensures one c.in_ok-tell_harts.ensures.row c.in_ok-tell_segments.ensures.row c.in_ok-put.ensures.put;
+      rested = told_rested rest seen rows b first then row n c.harts.result c.seen_rest-rest.ensures c.harts.ensures one c.in_ok-tell_harts.ensures.row c.in_ok-tell_segments.ensures.row c.in_ok-put_near.ensures.put;
       harts = told_harts rest seen rows b first then row n c.harts.result c.seen_rest-rest.ensures c.harts.ensures one c.in_ok-tell_harts.ensures.row c.in_ok-tell_segments.ensures.row c.in_ok-tell_harts.ensures.harts;
       segments = told_segments rest seen rows b first then row n c.harts.result c.seen_rest-rest.ensures c.harts.ensures one c.in_ok-tell_harts.ensures.row c.in_ok-tell_segments.ensures.row
           (subst (λ (m : List ℕ). AreSegments c.args.self.now.layout c.tell_segments.new.words row (length then) m) c.seen_memory.ensures c.in_ok-tell_segments.ensures.segments);
@@ -42,8 +42,8 @@ returns-clause-stands c =
 
 pub returns-in_err-tell_segments-clause-stay : goal.returns-in_err-tell_segments-clause-stay
 returns-in_err-tell_segments-clause-stay c =
-    stands_stays c.args.self.now (record c.args.self.now { rests = c.put.new.self; harts = c.tell_harts.new.harts; words = c.tell_segments.new.words; values = c.tell_segments.new.values }) refl c.put.ensures.stay c.tell_harts.ensures.stay c.tell_segments.ensures.grows
+    stands_stays c.args.self.now (record c.args.self.now { rests = c.put_near.new.self; harts = c.tell_harts.new.harts; words = c.tell_segments.new.words; values = c.tell_segments.new.values }) refl c.put_near.ensures.stay c.tell_harts.ensures.stay c.tell_segments.ensures.grows
 
 pub returns-clause-stay : goal.returns-clause-stay
 returns-clause-stay c =
-    stands_stays c.args.self.now (record c.args.self.now { rests = c.put.new.self; harts = c.tell_harts.new.harts; words = c.tell_segments.new.words; values = c.tell_segments.new.values }) refl c.put.ensures.stay c.tell_harts.ensures.stay c.tell_segments.ensures.grows
+    stands_stays c.args.self.now (record c.args.self.now { rests = c.put_near.new.self; harts = c.tell_harts.new.harts; words = c.tell_segments.new.words; values = c.tell_segments.new.values }) refl c.put_near.ensures.stay c.tell_harts.ensures.stay c.tell_segments.ensures.grows

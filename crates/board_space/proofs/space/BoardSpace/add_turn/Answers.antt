@@ -16,10 +16,9 @@ use Rattle.board_space.proofs.Moves.{teller_by}
 use Rattle.board_space.proofs.Seen.{moved_goes}
 use Rattle.board_space.proofs.space.BoardSpace.add_turn.Goals as goal
 
-pub is_away-moves-requires : goal.is_away-moves-requires
-is_away-moves-requires c = record {
-  known = (c.requires.known.0, subst (λ (r : BoardRows). Stands r c.args.row.now c.requires.known.0) (sym c.turn_at-asks.ensures.rows) c.requires.known.1);
-}
+pub is_away-moves-requires-clause-known : goal.is_away-moves-requires-clause-known
+is_away-moves-requires-clause-known c =
+    (c.requires.known.0, subst (λ (r : BoardRows). Stands r c.args.row.now c.requires.known.0) (sym c.turn_at-asks.ensures.rows) c.requires.known.1)
 
 pub returns-clause-teller : goal.returns-clause-teller
 returns-clause-teller c b stands =

@@ -1,4 +1,4 @@
-use Rattle.std.proofs.Common.{is_ok, IfSome, Option, subst}
+use Rattle.std.proofs.Common.{is_ok, All, IfSome, List, Option, subst, sym}
 use Rattle.state_space.specs.Carried.{IsMade}
 use Rattle.state_space.specs.declared.workers.Made.{Made}
 use Rattle.state_space.proofs.Carrying.{all_stay, pushed_each}
@@ -8,16 +8,21 @@ pub returns-in-Ok-Some-clause-made : goal.returns-in-Ok-Some-clause-made
 returns-in-Ok-Some-clause-made g c =
     let s = g.S.System in
     let rules = s.rules (s.setting c.args.main.now) in
-    pushed_each (IsMade rules (s.stands c.args.main.now) (s.stands c.made_of.new.system) c.args.graph.now) (is_ok c.push.result) c.args.self.now.made.items c.push.new.self.items c.in-Ok-Some.made c.push.ensures.items
-    (all_stay rules (s.stands c.args.main.now) (s.stands c.args.self.now.system) (s.stands c.made_of.new.system) c.args.graph.now c.args.self.now.made.items c.made_of.ensures.stays c.requires.made)
-    (subst (λ (o : Option Made). IfSome o (IsMade rules (s.stands c.args.main.now) (s.stands c.made_of.new.system) c.args.graph.now)) c.in-Ok-Some.field-0-is c.in-Ok-Some.ensures.made)
+    let before = subst (λ (l : List Made). All (IsMade rules (s.stands c.args.main.now) (s.stands c.args.self.now.system) c.args.graph.now) l) (sym c.expanded.ensures.same) c.requires.made in
+    pushed_each (IsMade rules (s.stands c.args.main.now) (s.stands c.expanded.new.self.system) c.args.graph.now) (is_ok c.push.result) c.expanded.new.self.made.items c.push.new.self.items c.in-Ok-Some.made c.push.ensures.items
+    (all_stay rules (s.stands c.args.main.now) (s.stands c.args.self.now.system) (s.stands c.expanded.new.self.system) c.args.graph.now c.expanded.new.self.made.items c.requires.known c.expanded.ensures.stays before)
+    (subst (λ (o : Option Made). IfSome o (IsMade rules (s.stands c.args.main.now) (s.stands c.expanded.new.self.system) c.args.graph.now)) c.in-Ok-Some.field-0-is c.in-Ok-Some.ensures.made)
 
 pub returns-in_default-clause-made : goal.returns-in_default-clause-made
 returns-in_default-clause-made g c =
     let s = g.S.System in
-    all_stay (s.rules (s.setting c.args.main.now)) (s.stands c.args.main.now) (s.stands c.args.self.now.system) (s.stands c.made_of.new.system) c.args.graph.now c.args.self.now.made.items c.made_of.ensures.stays c.requires.made
+    let rules = s.rules (s.setting c.args.main.now) in
+    all_stay rules (s.stands c.args.main.now) (s.stands c.args.self.now.system) (s.stands c.expanded.new.self.system) c.args.graph.now c.expanded.new.self.made.items c.requires.known c.expanded.ensures.stays
+    (subst (λ (l : List Made). All (IsMade rules (s.stands c.args.main.now) (s.stands c.args.self.now.system) c.args.graph.now) l) (sym c.expanded.ensures.same) c.requires.made)
 
 pub returns-in_default-2-clause-made : goal.returns-in_default-2-clause-made
 returns-in_default-2-clause-made g c =
     let s = g.S.System in
-    all_stay (s.rules (s.setting c.args.main.now)) (s.stands c.args.main.now) (s.stands c.args.self.now.system) (s.stands c.made_of.new.system) c.args.graph.now c.args.self.now.made.items c.made_of.ensures.stays c.requires.made
+    let rules = s.rules (s.setting c.args.main.now) in
+    all_stay rules (s.stands c.args.main.now) (s.stands c.args.self.now.system) (s.stands c.expanded.new.self.system) c.args.graph.now c.expanded.new.self.made.items c.requires.known c.expanded.ensures.stays
+    (subst (λ (l : List Made). All (IsMade rules (s.stands c.args.main.now) (s.stands c.args.self.now.system) c.args.graph.now) l) (sym c.expanded.ensures.same) c.requires.made)

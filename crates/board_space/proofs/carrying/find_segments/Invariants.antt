@@ -1,0 +1,10 @@
+use Rattle.std.specs.Prelude.{length}
+use Rattle.board_space.specs.Carried.{AreSameWords}
+use Rattle.board_space.specs.Rows.{Extends}
+use Rattle.board_space.proofs.carrying.find_segments.Given as goal
+
+abbrev pub invariant-loop-place : goal.invariant-loop-place
+invariant-loop-place l = record {
+  row : Extends l.initial.out.items l.out.items l.place;
+  same : AreSameWords l.from l.row l.first l.to l.out.items (length l.initial.out.items) l.place;
+}
