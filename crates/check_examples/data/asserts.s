@@ -1,0 +1,2 @@
+# EBREAK, and no handler: stvec is 0 at a boot.
+        ebreak

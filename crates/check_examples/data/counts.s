@@ -1,0 +1,14 @@
+# It counts at `count`, sleeps on the disk, and begins again when the board goes on: for ever.
+        .option norelax
+begin:  la      t0, count
+        ld      t1, 0(t0)
+        addi    t1, t1, 1
+        sd      t1, 0(t0)
+        li      a0, 0x80000001          # system_suspend to the disk
+        la      a1, begin
+        li      a6, 0
+        li      a7, 0x53555350          # SUSP
+        ecall
+        j       .
+        .balign 8
+count:  .dword  0
