@@ -1,6 +1,6 @@
 """Sessions of GDB itself over sbigdb, where GDB is one for x86-64 and tools/gdb-adapter stands between, for tools/trials/try-sbigdb.
 
-Beside each command of GDB stand the packets by which a reader of its own (gdb_talk.py) asks the same of a second sbigdb. Behind each
+Beside each command of GDB stand the packets by which a reader of its own (gdb_talk.py) asks the same of a second sbigdb. After each
 command GDB must show the thread and the pc that this reader has then, and at the end the same script (`monitor script`) and what sbibench
 shows at the end of that. No transcript may hold a word of GDB's about a packet that it did not take.
 """

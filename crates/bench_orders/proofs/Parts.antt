@@ -88,7 +88,7 @@ part_made said made rest new n so_far takes =
     subst Q (sym (append_assoc made new (drop n rest)))
     (order_twice said (made ++ (take n rest ++ drop n rest)) (made ++ (new ++ drop n rest)) (subst P (sym (take-append-drop n rest)) so_far) (takes made (drop n rest)))
 
--- all that is left behind so many lines
+-- all that is left after so many lines
 pub left_behind : (rest : List Line) (n : ℕ) → take (length rest - n) (drop n rest) ≡ drop n rest
 left_behind rest n = ap (λ k. take k (drop n rest)) (sym (length-drop n rest)) ∙ take-length (drop n rest)
 

@@ -24,7 +24,7 @@ fn open_row(made: &Vec<Line>, hart: HartId, count: u32) -> Option<u32>
     }
 }
 
-/// Adds turns of a hart behind the lines: to the last of them, where that is of the same hart and may name so many
+/// Adds turns of a hart after the lines: to the last of them, where that is of the same hart and may name so many
 /// more, and else in a line of their own.
 #[tactic(auto, using(crate::proofs::Deals::named_push, crate::proofs::Deals::turns_push, crate::proofs::Deals::named_grown, crate::proofs::Deals::turns_grown))]
 fn add_turns(made: &mut Vec<Line>, hart: HartId, count: u32) -> Result<(), AllocError>

@@ -5,7 +5,7 @@ ghost use Rattle.script_lang.specs.declared.line.Line.{Line};
 ghost use Rattle.bench_orders.specs.Orders.{IsTurn, named, other_count, AreOrderOf};
 
 /// Where lines of turns take the place of others, and each hart has as many turns in them, the lines are an order of
-/// the others: whatever stands before and behind.
+/// the others: whatever stands before and after them.
 #[tactic(auto, using(crate::proofs::SeenRows::order_of_rows))]
 pub fn rows_may_change()
     ensures { (front old new back : List Line) → All IsTurn old → All IsTurn new

@@ -1,4 +1,4 @@
-//! Orders whose stretches begin with turns that were chosen. Behind them stand the script's own lines, less those turns.
+//! Orders whose stretches begin with turns that were chosen. After them stand the script's own lines, less those turns.
 
 ghost use Rattle.std.specs.Prelude.{◌≡◌, ◌+◌, ◌++◌, ◌≤◌, ◌<◌, List, length, take, All, IfOk, OnOk};
 ghost use Rattle.script_lang.specs.declared.line.Line.{Line as Said};
@@ -125,7 +125,7 @@ fn add_led(
 }
 
 /// The schedule of a script's lines whose stretches begin with these slices, whatever they are. A slice ends early where its
-/// hart has no more turns in the stretch, and one of more than 1,000,000 turns behind these. Behind the slices of a stretch
+/// hart has no more turns in the stretch, and one of more than 1,000,000 turns after these. After the slices of a stretch
 /// stand its own lines, less the turns of the slices.
 ///
 /// Refused only where memory is.

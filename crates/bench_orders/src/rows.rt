@@ -24,7 +24,7 @@ pub fn is_turn(line: &Line) -> bool
     }
 }
 
-/// How many first lines make turns. The line behind them, where there is one, makes none.
+/// How many first lines make turns. The line after them, where there is one, makes none.
 pub fn row_length(lines: &[Line]) -> usize
     ensures few { result ≤ length lines.now }
     ensures turns { All IsTurn (take result lines.now) }

@@ -77,7 +77,7 @@ by_start size payloads BadShape a why = refl
 by_start size payloads Memory a why = refl
 by_start size payloads e a why = absurd why
 
--- ---- behind the open
+-- ---- after the open
 board_of : (c : Content) (size : Size) (s : DurableState) → StandsFor c size s → IsBoard size c
 unfolding StandsFor
 board_of c size s stands = (stands.2.board, stands.2.enough)

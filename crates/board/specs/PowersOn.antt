@@ -91,7 +91,7 @@ pub record GivesDisk (old : Facts) (m : FaultState) (e : Refusal) (new : Facts) 
   pub no_fewer : old.failures ≤ new.failures
 
 -- How many calls of the disk a power-on made that left the board off, of a disk that has sectors: those of the
--- open, which tells no state where it was refused itself, and behind one that succeeded those of the boot. So a
+-- open, which tells no state where it was refused itself, and after one that succeeded those of the boot. So a
 -- board that is refused memory has read nothing of its image.
 abbrev pub OffCalls : Content → Option Durable → Refusal → ℕ → ℕ → Type 0
 OffCalls c None e old new = OpenCalls c e old new

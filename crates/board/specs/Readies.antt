@@ -52,7 +52,7 @@ pub record IsUnissued (mode : BootMode) (old : StoreView) (e : Refusal) (new : S
   pub cause : CausedRefusal old.fault_state e new.fault_state
   pub counts : CountsRefusal old.disk.failures e new.disk.failures
 
--- How many calls of the disk a boot by the mode makes behind the open: two for each page of an image that is
+-- How many calls of the disk a boot by the mode makes after the open: two for each page of an image that is
 -- resumed, and four for each command.
 abbrev pub boot_calls : BootMode → Size → DurableState → ℕ
 boot_calls modes.Resume size s = 2 * size.pages + 4

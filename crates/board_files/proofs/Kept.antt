@@ -328,7 +328,7 @@ pushes_as m m' c c' result o n marks content pushed =
     subst (λ (x : List Bool). Goes o n (Pushes x c' result)) marks
     (subst (λ (x : Content). Goes o n (Pushes m x result)) content pushed)
 
--- a sync, behind which none is marked
+-- a sync, after which none is marked
 pub marks_cleared : (m marks : List Bool) (many from n : ℕ) (old new : Facts) (r s : List (ℕ × ℕ)) → m ≡ replicate many false
     → many ≡ length marks → AreMarks marks from n old r → new.content ≡ old.content → new.lent ≡ old.lent → AreMarks m from n new s
 marks_cleared m marks many from n old new r s none long are content lent = rw none (record {

@@ -5,7 +5,7 @@ use std::fs::File;
 use std::io;
 use std::os::unix::fs::FileExt;
 
-/// A file that holds a disk's sectors, one behind the other.
+/// A file that holds a disk's sectors, one after the other.
 ///
 /// What is known of it is said as of a disk: what a read gives, and what a crash leaves. Of a file of the system
 /// nothing is known; whoever knows more of his own says so here, and then what a [`FileDisk`](crate::FileDisk)

@@ -58,7 +58,7 @@ pub enum Refusal {
 /// each refusal its name and the line that a help has for it. Such a macro goes from row to row, and puts into the
 /// list the row's line, the program's own line for that refusal, or none where the program never answers it; where no
 /// row is left it makes the text of the list. So a program's help says of the refusals only what is its own. What is given
-/// behind the macro's name stands before all that.
+/// after the macro's name stands before all that.
 #[macro_export]
 macro_rules! refusal_lines {
     ($help:ident $($given:tt)*) => {

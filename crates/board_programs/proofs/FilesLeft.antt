@@ -58,7 +58,7 @@ through : (bytes : Option (List ℕ)) (held : List ℕ) (size : ℕ) → held �
 through None held size h s = rw s refl
 through (Some bytes) held size h s = rw (h, s) refl
 
--- a reader with an empty buffer gives what the reader behind it does
+-- a reader with an empty buffer gives what the reader below it does
 pub read_through : {R A : Type 0} (remaining : R → Option (List ℕ)) (input : R) (r : BufReader R A) → reader_inner r ≡ input
     → reader_buffer r ≡ [] → reader_capacity r ≡ 8192 → reader_remaining remaining r ≡ remaining input
 read_through remaining input r i h s =

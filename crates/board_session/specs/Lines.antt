@@ -42,7 +42,7 @@ is_line line_ends.EndOfInput kept = not (length kept == 0)
 is_line line_ends.Failure kept = not (length kept == 0)
 
 -- ---- what a line says
--- the words behind the first one, where a space stands at that place among them: one space parts two words
+-- the words after the first one, where a space stands at that place among them: one space parts two words
 abbrev pub words_at : Option ℕ → List ℕ → List (List ℕ)
 words_at None words = words ∷ []
 words_at (Some at) words = take at words ∷ drop (at + 1) words ∷ []

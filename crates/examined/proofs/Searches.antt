@@ -83,7 +83,7 @@ AreBelow (bound ∷ bounds) (n ∷ ns) = (n < bound) × AreBelow bounds ns
 AreBelow [] (n ∷ ns) = ⊥
 AreBelow (bound ∷ bounds) [] = ⊥
 
--- such numbers are so behind that one
+-- such numbers are so after that one
 abbrev Follow : List ℕ → (List ℕ → Type 0) → ℕ → Type 0
 Follow bounds P n = (ns : List ℕ) × AreBelow bounds ns × P (n ∷ ns)
 

@@ -125,7 +125,7 @@ fn output_of(text: &str) -> Option<Room> {
     Some(Room { bytes, ..ALL })
 }
 
-/// Whether only the end of an output is told, by what stands behind its name.
+/// Whether only the end of an output is told, by what stands after its name.
 fn end_of(text: &str) -> Option<bool> {
     if text.is_empty() {
         return Some(false);
@@ -133,7 +133,7 @@ fn end_of(text: &str) -> Option<bool> {
     if text == " ends" { Some(true) } else { None }
 }
 
-/// The words, the status and the streams of a run, a line each, and what is behind them.
+/// The words, the status and the streams of a run, a line each, and what comes after them.
 fn lines_of(text: &str) -> Option<(&str, &str, &str, &str)> {
     let (words, text) = text.split_once('\n')?;
     let (status, text) = text.split_once('\n')?;
@@ -141,8 +141,8 @@ fn lines_of(text: &str) -> Option<(&str, &str, &str, &str)> {
     Some((words, status, streams, text))
 }
 
-/// What is said of a run up to the input is passed over. The input, the output and the faults come each behind a line of
-/// its name; what stands in that line behind the output's name comes before the output.
+/// What is said of a run up to the input is passed over. The input, the output and the faults come each after a line of
+/// its name; what stands in that line after the output's name comes before the output.
 fn texts_of(text: &str) -> Option<(&str, &str, &str, &str)> {
     let (_said, text) = text.split_once("--- input\n")?;
     let (input, text) = text.split_once("--- output")?;

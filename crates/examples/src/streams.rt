@@ -12,7 +12,7 @@ pub struct Input<'a> {
 }
 
 impl<'a> Input<'a> {
-    /// An input that ends behind the bytes, or fails there.
+    /// An input that ends after the bytes, or fails there.
     pub fn new(bytes: &'a [u8], fails: bool) -> Input<'a> {
         Input { left: bytes, fails }
     }

@@ -2,7 +2,7 @@
 use Rattle.std.proofs.Common.{◌≡◌, ◌∙◌, ◌<◌, ◌+◌, ◌∷◌, ◌++◌, ℕ, List, length, get_or, drop, ap, sym, add-one, append_assoc, drop-cons}
 use Rattle.std.specs.List.{flat_map}
 
--- the byte in front of those that are left behind it
+-- the byte before those that are left after it
 pub front_here : (xs : List ℕ) (i : ℕ) → i < length xs → get_or xs i 0 ∷ drop (i + 1) xs ≡ drop i xs
 front_here xs i within = rw add-one (sym (drop-cons xs i 0 within))
 

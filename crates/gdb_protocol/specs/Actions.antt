@@ -10,7 +10,7 @@ abbrev pub within : Option (ℕ × ℕ) → Option ResumeAction
 within None = None
 within (Some range) = Some (StepWithin range.0 range.1)
 
--- s, S and c, C, of which the capital ones have a signal behind them, which no hart takes
+-- s, S and c, C: after a capital one stands a signal, which no hart takes
 abbrev pub lettered : ℕ → List ℕ → Option ResumeAction
 lettered letter rest =
     if letter == 115 then Some Step else

@@ -12,7 +12,7 @@ use Rattle.gdb_protocol.specs.declared.requests.GdbRequest.{GdbRequest}
 use Rattle.gdb_protocol.specs.declared.requests.GdbRequest.TheVariants as asks
 use lib.Chars.{codes}
 
--- what has nothing behind it
+-- what has nothing after it
 abbrev pub alone : GdbRequest → List ℕ → GdbRequest
 alone asked [] = asked
 alone asked (b ∷ more) = asks.Look looks.Unknown
@@ -26,7 +26,7 @@ abbrev pub by_numbers : (ℕ → ℕ → GdbRequest) → Option (ℕ × ℕ) →
 by_numbers asked None = asks.Look looks.Malformed
 by_numbers asked (Some n) = asked n.0 n.1
 
--- what stands behind a prefix, or else that other request
+-- what stands after a prefix, or else that other request
 abbrev pub or_other : (List ℕ → GdbRequest) → GdbRequest → Option (List ℕ) → GdbRequest
 or_other asked other None = other
 or_other asked other (Some rest) = asked rest

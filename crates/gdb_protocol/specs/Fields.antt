@@ -20,7 +20,7 @@ with_digits n (c ∷ more) = with_digits (with_digit n c) more
 abbrev pub number_of : List ℕ → Option ℕ
 number_of word = if length word == 0 then None else with_digits (Some 0) word
 
--- what stands before the first such byte and behind it
+-- what stands before the first such byte and after it
 abbrev pub parted_behind : List ℕ → Option (List ℕ × List ℕ) → Option (List ℕ × List ℕ)
 parted_behind front None = None
 parted_behind front (Some parts) = Some (front ++ parts.0, parts.1)
@@ -42,7 +42,7 @@ numbers_in (Some parts) = both (number_of parts.0) (number_of parts.1)
 abbrev pub two_numbers : List ℕ → Option (ℕ × ℕ)
 two_numbers word = numbers_in (parted_at 44 word)
 
--- what stands behind a prefix
+-- what stands after a prefix
 abbrev pub behind_prefix : List ℕ → List ℕ → Option (List ℕ)
 behind_prefix prefix word =
     if bytes_eq (take (length prefix) word) prefix then Some (drop (length prefix) word) else None

@@ -41,7 +41,7 @@ abbrev pub behind : List ℕ → Option (List ℕ) → Option (List ℕ)
 behind front None = None
 behind front (Some payload) = Some (front ++ payload)
 
--- the payload that a body spells, behind an escape or not: none where it ends with an escape
+-- the payload that a body spells, after an escape or not: none where it ends with an escape
 abbrev pub spelled_by : Bool → List ℕ → Option (List ℕ)
 spelled_by true [] = None
 spelled_by false [] = Some []

@@ -25,12 +25,12 @@ register_text n None = if n == 32 then replicate 16 48 else replicate 16 120
 abbrev pub registers_text : ℕ → (ℕ → Option ℕ) → List ℕ
 registers_text count value_of = flat_map (λ n. register_text n (value_of n)) (range_with_len 0 count)
 
--- a part of an object, behind the sign that there is more, or that there is none
+-- a part of an object, after the sign that there is more, or that there is none
 abbrev pub part_text : List ℕ → ℕ → ℕ → List ℕ
 part_text object offset count =
     if nat_lt (offset + count) (length object) then 109 ∷ take count (drop offset object) else 108 ∷ drop offset object
 
--- the threads of so many harts, each one more than its hart, behind commas but the first
+-- the threads of so many harts, each one more than its hart, with a comma before each but the first
 abbrev pub others_text : ℕ → List ℕ
 others_text harts = flat_map (λ h. 44 ∷ digit_of (h + 1) ∷ []) (range_with_len 0 harts)
 

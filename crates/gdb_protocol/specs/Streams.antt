@@ -48,7 +48,7 @@ EndsPacket (Some payload) (heards.Packet packet) = packet.items ≡ payload
 EndsPacket (Some payload) heard = ⊥
 EndsPacket None heard = heard ≡ heards.Damaged
 
--- What a byte completes: all that a reader hears, and where. Behind # it is a packet with the sum that the two digits say.
+-- What a byte completes: all that a reader hears, and where. After # it is a packet with the sum that the two digits say.
 abbrev pub Completes : PacketPlace → List ℕ → ℕ → PacketEvent → Type 0
 Completes Between body b heard = heard ≡ sign_of b
 Completes Body body b heard =

@@ -26,7 +26,7 @@ pub fn parts(alloc: Global, word: &[u8]) -> Result<Vec<&[u8]>, AllocError>
     word.split(|b| *b == b';').collect(alloc)
 }
 
-/// A step within the addresses that stand behind `r`.
+/// A step within the addresses that stand after `r`.
 fn within(range: &[u8]) -> Option<ResumeAction>
     ensures { result ≡ within (two_numbers range.now) }
 {
@@ -36,7 +36,7 @@ fn within(range: &[u8]) -> Option<ResumeAction>
     }
 }
 
-/// The action of a letter and what stands behind it.
+/// The action of a letter and what stands after it.
 fn lettered(letter: u8, rest: &[u8]) -> Option<ResumeAction>
     ensures { result ≡ lettered letter rest.now }
 {

@@ -6,7 +6,7 @@ ghost use Rattle.gdb_protocol.specs.Asked.{alone, backward, by_letter, by_number
 use crate::fields::{behind, is_text, number, two_numbers};
 use crate::requests::{GdbLook, GdbRequest, Move, Object, Watching};
 
-/// What has nothing behind it.
+/// What has nothing after it.
 fn alone(asked: GdbRequest, rest: &[u8]) -> GdbRequest
     ensures { result ≡ alone asked rest.now }
 {

@@ -15,7 +15,7 @@ pub(crate) fn put_pair(out: &mut Vec<u8>, byte: u8) -> Result<(), AllocError>
     Ok(())
 }
 
-/// A text behind a sign.
+/// A text after a sign.
 pub(crate) fn behind_sign(alloc: Global, sign: u8, text: &[u8]) -> Result<Vec<u8>, AllocError>
     ensures { IfOk result (λ v. v.items ≡ sign ∷ text.now) }
 {

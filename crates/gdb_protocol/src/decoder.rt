@@ -62,7 +62,7 @@ impl Decoder {
         sign(byte)
     }
 
-    /// A byte behind `$`. One more `$` begins anew.
+    /// A byte after `$`. One more `$` begins anew.
     fn inside(&mut self, byte: u8) -> Result<PacketEvent, AllocError>
         requires { self.old.place ≡ places.Body }
         ensures standing { IfOk result (λ _. self.new ≡ standing_after places.Body self.old.body byte) }

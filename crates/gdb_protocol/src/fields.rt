@@ -7,7 +7,7 @@ ghost use Rattle.gdb_protocol.specs.Fields.{behind_prefix, number_of, parted_at,
 
 use crate::digits::value;
 
-/// A number with the digit behind it.
+/// A number with the digit after it.
 fn with_digit(number: u64, digit: u8) -> Option<u64>
     ensures { result ≡ shifted number (value_of digit) }
 {
@@ -35,7 +35,7 @@ pub fn number(word: &[u8]) -> Option<u64>
     Some(number)
 }
 
-/// What stands before the first such byte and behind it.
+/// What stands before the first such byte and after it.
 pub fn parted(word: &[u8], byte: u8) -> Option<(&[u8], &[u8])>
     ensures { option_map (λ parts. (parts.0.now, parts.1.now)) result ≡ parted_at byte word.now }
 {
@@ -67,7 +67,7 @@ pub(crate) fn is_text(word: &[u8], text: &[u8]) -> bool
     word == text
 }
 
-/// What stands behind a prefix.
+/// What stands after a prefix.
 pub fn behind<'a>(word: &'a [u8], prefix: &[u8]) -> Option<&'a [u8]>
     ensures { option_map (λ rest. rest.now) result ≡ behind_prefix prefix.now word.now }
 {

@@ -16,7 +16,7 @@ fn is_special(byte: u8) -> bool
     byte == b'#' || byte == b'$' || byte == b'}' || byte == b'*'
 }
 
-/// The byte behind an escape, and the byte that it stands for.
+/// The byte after an escape, and the byte that it stands for.
 fn toggled(byte: u8) -> u8
     ensures { result ≡ toggled byte }
 {
@@ -86,7 +86,7 @@ pub fn framed(alloc: Global, payload: &[u8]) -> Result<Vec<u8>, AllocError>
     Ok(out)
 }
 
-/// Reads a byte of a body, behind an escape or not: whether the next one stands behind one.
+/// Reads a byte of a body, after an escape or not: whether the next one stands after one.
 #[tactic(auto, using(crate::proofs::Spelled::behind_both))]
 fn spell(byte: u8, after_escape: bool, out: &mut Vec<u8>) -> Result<bool, AllocError>
     ensures { IfOk result (λ next. (more : List ℕ) → behind out.new.items (spelled_by next more)
@@ -119,7 +119,7 @@ fn unescaped(alloc: Global, body: &[u8]) -> Result<Option<Vec<u8>>, AllocError>
     }
 }
 
-/// The payload of a packet, by what stands between `$` and `#` and the two digits behind it: none where these
+/// The payload of a packet, by what stands between `$` and `#` and the two digits after it: none where these
 /// are no digits, or not those of its sum, or the body ends with an escape.
 pub fn payload_of(
     alloc: Global,

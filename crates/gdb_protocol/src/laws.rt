@@ -13,7 +13,7 @@ pub fn frames_are_read_back()
         (digit_of (sum_of (body_of payload) % 16)) ≡ Some payload }
 {}
 
-/// A reader between packets hears a packet that was framed as that packet, and stands between packets behind it.
+/// A reader between packets hears a packet that was framed as that packet, and stands between packets after it.
 #[tactic(auto, using(crate::proofs::StreamHeard::frame_heard))]
 pub fn packets_are_heard()
     ensures { (payload before more : List ℕ) → length (body_of payload) ≤ 65536

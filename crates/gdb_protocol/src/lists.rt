@@ -8,7 +8,7 @@ use crate::bytes::behind_sign;
 use crate::digits::digit;
 use std::alloc::{AllocError, Global};
 
-/// Writes the thread of a hart behind a comma.
+/// Writes the thread of a hart after a comma.
 fn put_thread(out: &mut Vec<u8>, hart: u32) -> Result<(), AllocError>
     requires { hart < 8 }
     ensures { OnOk result (out.new.items ≡ out.old.items ++ 44 ∷ digit_of (hart + 1) ∷ []) }
@@ -18,7 +18,7 @@ fn put_thread(out: &mut Vec<u8>, hart: u32) -> Result<(), AllocError>
     Ok(())
 }
 
-/// The threads of so many harts, each behind a comma.
+/// The threads of so many harts, each after a comma.
 fn others(alloc: Global, harts: u32) -> Result<Vec<u8>, AllocError>
     requires { harts ≤ 8 }
     ensures { IfOk result (λ v. v.items ≡ others_text harts) }

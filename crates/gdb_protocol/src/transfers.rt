@@ -6,7 +6,7 @@ ghost use Rattle.gdb_protocol.specs.Replies.{part_text};
 use crate::bytes::behind_sign;
 use std::alloc::{AllocError, Global};
 
-/// From an offset on so many bytes of an object, behind `m` where there are more and `l` where there are none.
+/// From an offset on so many bytes of an object, after `m` where there are more and `l` where there are none.
 pub fn part(alloc: Global, object: &[u8], offset: u64, count: u64) -> Result<Vec<u8>, AllocError>
     ensures { IfOk result (λ v. v.items ≡ part_text object.now offset count) }
 {

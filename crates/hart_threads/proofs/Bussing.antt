@@ -101,7 +101,7 @@ module _ {D L : Type 0} {g : Ghosts D L} {l : Lanes L} where
   pub saved_still : (d : PartView BusTurn) (old new : Store D L g l) (command : Command) (r : Result ℕ Refusal) → AreSaved (life_of old) d → Asked Applied old (change_of command) r new → AreSaved (life_of new) d
   saved_still d old new command r saved asked = ∥∥₁_map saved (λ (by : SavedBy (life_of old) d). let still : SavedBy (life_of new) d = (by.0, by.1, asked_carried (WasTold d.told) old new command r by.2 asked) in still)
 
-  -- once a durable call was made, directly behind which it looked
+  -- once a durable call was made, directly after which it looked
   pub saved_held : (harts : ℕ) (call : Call) (s t : ArchState) (k k' : Known) (bus bus' : Bus) (old new : Store D L g l) (word : Word) (n : ℕ) (d d' : PartView BusTurn)
       → d' ≡ told_after n (bus_turn bus' bus') d → AreSaved (life_of old) d → bus'.ram ≡ bus.ram → MakesHeld harts call s t k k' bus bus' old new word → AreSaved (life_of new) d'
   saved_held harts call s t k k' bus bus' old new word n d d' is saved same made =

@@ -63,7 +63,7 @@ module _ {A : Type 0} where
       let rest = push_same xs ys x y (omega (arith, long)) (ap tail_of same) in
       ((λ i. ap (head_or z) same i ∷ rest.0 i), rest.1)
 
-  -- nothing is left behind as many
+  -- nothing is left after as many
   pub none_behind : (xs ys zs : List A) → xs ++ ys ≡ zs → length xs ≡ length zs → xs ≡ zs
   none_behind xs [] zs same long = sym (append-nil xs) ∙ same
   none_behind xs (y ∷ ys) zs same long = absurd (omega (arith, long, length-append xs (y ∷ ys), ap length same))

@@ -150,7 +150,7 @@ impl<J: Threaded> HaltPolls<J> {
 }
 
 /// The locks of a hart, one look of which found the halt unset: with it the hart may ask for its next turn. Only
-/// `Closing::look` gives one, for the locks that the turn before gave back. So behind each look there is one turn at most.
+/// `Closing::look` gives one, for the locks that the turn before gave back. So after each look there is one turn at most.
 #[derive(Drop)]
 pub(crate) struct Unhalted<'l, D: Disk + Drop, J: Threaded> {
     locks: Locks<'l, D, J>,

@@ -54,7 +54,7 @@ impl<J: Journal> Journal for OfDoubts<J> {
 /// The commands in doubt of the life J, under the lock of its store. The part of its console goes with what the console
 /// heard; that of the harts stays here, since a hart keeps no receipt of a call that was refused.
 ///
-/// A contract sees the commands: none, or one, since a store takes none behind it.
+/// A contract sees the commands: none, or one, since a store takes none after it.
 #[derive(Drop)]
 pub(crate) struct Doubts<J: Journal> {
     book: Book<OfDoubts<J>, Entry>,

@@ -30,7 +30,7 @@ use susp::Doze;
 use turns::turn_by_bus;
 
 /// The right to make one turn of a hart, with the locks that it may take. Only a gate that was asked for that turn gives it,
-/// behind a look that found the halt unset.
+/// after a look that found the halt unset.
 #[derive(Drop)]
 pub(crate) struct Allowed<'a, D: Disk + Drop, J: Threaded> {
     hart: HartId,
@@ -62,7 +62,7 @@ impl<'a, D: Disk + Drop, J: Threaded> Model for TurnMade<'a, D, J> {
     ghost invariant = { λ m. m.locks ≡ no_locks };
 }
 
-/// Asks the gate of the hart's turn of that number, with no lock held, behind a look that found the halt unset: whether it lets
+/// Asks the gate of the hart's turn of that number, with no lock held, after a look that found the halt unset: whether it lets
 /// it begin.
 pub(crate) fn ask<'a, G: Gate, D: Disk + Drop, J: Threaded>(
     gate: &G,

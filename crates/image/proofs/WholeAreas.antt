@@ -150,7 +150,7 @@ module _ (area : Content) (k : ℕ) (size : Size) where
       let rest = once_in_all (lane + 1) counts i p j q fi fj (ip ∙ ap (λ (m : ℕ). page m p) (sym (one_more lane i))) (iq ∙ ap (λ (m : ℕ). page m q) (sym (one_more lane j))) (omega (arith, here, few)) in
       (ap (λ (m : ℕ). suc m) rest.0, rest.1)
 
-  -- the page that is found is that behind its place
+  -- the page that is found is that after the header of its place
   first_is : (bytes : List ℕ) (places : List ℕ) → Each (λ place. k ≡ page_of (sector area place) → page_behind area place ≡ bytes) places → 0 < often area k places → page_in area places k ≡ bytes
   unfolding page_in pages_in times
   first_is bytes [] all some = absurd (omega (arith, some))

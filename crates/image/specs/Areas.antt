@@ -1,4 +1,4 @@
--- When an area holds a memory, in plain words: each page stands in one place in use, behind a header with the
+-- When an area holds a memory, in plain words: each page stands in one place in use, after a header with the
 -- image's serial. Source: docs/IMAGE.md, "Reading".
 use Rattle.std.specs.Prelude.{◌≡◌, ℕ, ◌+◌, ◌*◌, ◌<◌, List, length, slice_index}
 use Rattle.board_model.specs.Shapes.{Size, area_sectors_of}

@@ -8,7 +8,7 @@ ghost use Rattle.image.specs.Images.{memory_of, page_behind};
 
 /// An area reads as a memory, and not as none, exactly where each page of the board stands in one place in
 /// use and each place in use has a header of that serial; and then each page of the memory is the 8 sectors
-/// behind its header.
+/// after its header.
 pub fn reads_where_whole()
     ensures whole { (size : Size) (serial : ℕ) (counts : List ℕ) (area : Content) → IsSize size → serial < 2 ^ 64
         → AreCounts size counts → IsArea size area

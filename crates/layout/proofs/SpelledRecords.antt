@@ -13,7 +13,7 @@ use Rattle.layout.specs.declared.records.Version.TheVariants.{Two}
 use Rattle.board_model.specs.declared.durable.Trial.{Trial}
 use Rattle.layout.proofs.Spellings.{number_at-field}
 
--- what stands behind the beginning of a record
+-- what stands after the beginning of a record
 abbrev rest : Record → List Field
 rest r = image_fields r.image ++ trial_fields r.trial
 
@@ -52,7 +52,7 @@ module _ (size : Size) (r : Record) (sector : List ℕ) (is : IsRecord size r se
   pub next_in : number_at 8 16 sector ≡ r.next
   next_in = ap (number_at 8 16) is.1 ∙ number_at-field [] ((4, version_number r.version) ∷ (4, r.slot) ∷ (4, reason_number r.reason) ∷ (4, presence_of r.image) ∷ []) (rest r) 8 r.next 16 refl is.0.fit.1.1.1.1.0
 
--- what a sector keeps of an image, behind the beginning of its record
+-- what a sector keeps of an image, after the beginning of its record
 module _ (r : Record) (s : Saved) (sector : List ℕ) (behind : List Field) (spelled : sector ≡ sector_of (fields_bytes (head_fields r ++ (saved_fields s ++ behind)))) (fit : FitAll (saved_fields s)) where
   pub saved_stands : StandsIn sector s
   saved_stands =
@@ -128,7 +128,7 @@ wide : (r : Record) (i : Option Saved) → width_of (head_fields r ++ image_fiel
 wide r None = refl
 wide r (Some s) = refl
 
--- a field behind them, and behind these
+-- a field after them, and after these
 trial_field : (r : Record) (i : Option Saved) (front back : List Field) (n x : ℕ) → x < 256 ^ n
     → number_at n (72 + width_of front) (sector_of (fields_bytes (head_fields r ++ (image_fields i ++ (front ++ (n, x) ∷ back))))) ≡ x
 trial_field r i front back n x fits =

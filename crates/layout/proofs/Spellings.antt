@@ -21,7 +21,7 @@ fields_bytes-append [] back = refl
 fields_bytes-append (field ∷ front) back =
     ap (λ (bytes : List ℕ). number_bytes field.0 field.1 ++ bytes) (fields_bytes-append front back) ∙ sym (append_assoc (number_bytes field.0 field.1) (fields_bytes front) (fields_bytes back))
 
--- a number that was written, behind these bytes
+-- a number that was written, after these bytes
 pub number_at-bytes : (lead rest : List ℕ) (n x place : ℕ) → length lead ≡ place → x < 256 ^ n → number_at n place (lead ++ (number_bytes n x ++ rest)) ≡ x
 unfolding number_at number_bytes
 number_at-bytes lead rest n x place is fits =
@@ -29,7 +29,7 @@ number_at-bytes lead rest n x place is fits =
     ∙ ap (little_number n) (drop-append_seam lead (number_bytes n x ++ rest))
     ∙ little_number-reads_back n x rest fits
 
--- a field of a sector, behind these bytes and fields
+-- a field of a sector, after these bytes and fields
 pub number_at-field : (lead : List ℕ) (before after : List Field) (n x place : ℕ) → length lead + width_of before ≡ place → x < 256 ^ n
     → number_at n place (sector_of (lead ++ fields_bytes (before ++ (n, x) ∷ after))) ≡ x
 unfolding sector_of fields_bytes

@@ -1,4 +1,4 @@
--- Sectors as fields in a row, each a number in little-endian order, with zeros behind them.
+-- Sectors as fields in a row, each a number in little-endian order, with zeros after them.
 -- Source: docs/STORE.md, "Sectors".
 use Rattle.std.specs.Prelude.{ℕ, ◌+◌, ◌-◌, ◌^◌, ◌<◌, ⊤, List, [], ◌∷◌, ◌++◌, length, drop, replicate}
 use Rattle.byteorder.specs.Endian.{little_bytes, little_number}

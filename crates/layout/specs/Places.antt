@@ -1,4 +1,4 @@
--- The places of an area: a header, and the page's bytes behind it.
+-- The places of an area: a header, and the page's bytes after it.
 -- Source: docs/STORE.md, "Areas".
 use Rattle.std.specs.Prelude.{◌≡◌, ℕ, ◌<◌, List, [], ◌∷◌}
 use Rattle.board_model.specs.Shapes.{Size}

@@ -15,6 +15,6 @@ area_start size area = 8 + area * area_sectors_of size
 abbrev pub lane_start : Size → ℕ → ℕ → ℕ
 lane_start size area lane = area_start size area + lane * lane_sectors size
 
--- where the header of a place of a lane stands, from the lane's first sector on; the page stands behind it
+-- where the header of a place of a lane stands, from the lane's first sector on; the page stands after it
 abbrev pub place_start : ℕ → ℕ
 place_start place = 9 * place

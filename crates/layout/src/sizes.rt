@@ -26,7 +26,7 @@ pub fn lane_start(shape: &Shape, area: Side, lane: usize) -> usize
 }
 
 /// Where the header of a place stands, from its lane's first sector on; the 8 sectors of the page stand
-/// behind it, and a lane has all nine of each place of its board.
+/// after it, and a lane has all nine of each place of its board.
 pub fn place_start(place: usize) -> usize
     requires { place < 256 }
     ensures value { result ≡ place_start place }

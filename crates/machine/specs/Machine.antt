@@ -56,7 +56,7 @@ resting size first =
       table = record { states = only_first size.harts first; pairs = none_pending size.harts };
     }
 
--- What a boot of a payload leaves: RAM is the payload and zeros behind it, hart 0 stands at the start of RAM
+-- What a boot of a payload leaves: RAM is the payload and zeros after it, hart 0 stands at the start of RAM
 -- with its number in a0 and the reset reason in a1, all else of it is 0, no other hart ever ran, and no
 -- interrupt is pending.
 abbrev pub machine_begun : List ℕ → Reason → Size → Machine

@@ -33,7 +33,7 @@ pub write_stays : (map : Map) (g h : ℕ) (p : Bool) (s t : ArchState) (m n : Li
 write_stays map g h p s t m n k ne x may j at =
     unless (same_number (slice_index n j) (slice_index m j)) (λ d. alone_changes map h p s t m n j x d (λ reads writes. writes g ne (subst (λ (i : ℕ). IsTrue (map.writes g i)) (sym at) may)))
 
--- a step that keeps the map behind a local one of another hart keeps it before
+-- a step that keeps the map after a local one of another hart keeps it before
 step_before : (map : Map) (g h : ℕ) (size : Size) (p q : Bool) (s u t : ArchState) (m n : List ℕ) → g ≢ h → StepsAlone map h q u m t n → StepKeeps map g size p s n → StepKeeps map g size p s m
 step_before map g h size p q s u t m n ne alone keeps =
     let long = step_long q u t m n Next alone.step in

@@ -23,7 +23,7 @@ abbrev pub filling_calls : ℕ → List LaneCall
 filling_calls zero = []
 filling_calls (suc n) = filling_calls n ++ place_calls n
 
--- The last call failed: the write of that place's header, or of its data behind it.
+-- The last call failed: the write of that place's header, or of its data after it.
 abbrev pub StopsAt : ℕ → List LaneCall → List LaneCall → Type 0
 StopsAt place old new =
     (new ≡ old ++ header_call place false ∷ [])

@@ -48,7 +48,7 @@ impl SbiError {
     }
 }
 
-/// Answers the call at which a hart stands: the error goes to a0, the value to a1, the pc moves on behind the
+/// Answers the call at which a hart stands: the error goes to a0, the value to a1, the pc moves on past the
 /// ECALL, and nothing else changes.
 pub fn put(hart: &mut Hart, answer: SbiRet)
     ensures { hart.new ≡ answered hart.old (error_of answer) (value_of answer) }

@@ -19,7 +19,7 @@ pub enum Request {
     Stop,
     /// The state of the hart.
     Status(HartId),
-    /// That the calling hart be suspended, and go on behind its call when it wakes.
+    /// That the calling hart be suspended, and go on after its call when it wakes.
     Suspend,
     /// That the calling hart be suspended, and wake as one that starts at the address with the opaque value.
     SuspendAfresh(Addr, u64),

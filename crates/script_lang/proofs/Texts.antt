@@ -8,7 +8,7 @@ use Rattle.script_lang.specs.Lines.{text_of}
 use Rattle.script_lang.specs.Spellings.{board_text, lines_text, script_text}
 use Rattle.script_lang.specs.declared.line.Line.{Line}
 
--- parts that are joined, with a line feed behind the last
+-- parts that are joined, with a line feed after the last
 joined : (first : List ℕ) (those : List Line) → join_with_byte 10 (first ∷ map text_of those) ++ 10 ∷ [] ≡ first ++ 10 ∷ lines_text those
 joined first [] = refl
 joined first (line ∷ more) =

@@ -42,7 +42,7 @@ fn words(alloc: Global, line: &[u8]) -> Result<Vec<&[u8]>, AllocError>
 }
 
 /// The parts of a script between its line feeds, as far as they can tell anything: line 65,537 is a fault,
-/// whatever stands after it, and the last part may be the empty one behind a last line feed.
+/// whatever stands after it, and the last part may be the empty one after a last line feed.
 fn first_parts(alloc: Global, script: &[u8]) -> Result<Vec<&[u8]>, AllocError>
     ensures { IfOk result (λ v. map (λ w. w.now) v.items ≡ take 65538 (slice_split (λ b. b == 10) script.now)) }
 {

@@ -34,7 +34,7 @@ StandsByEach k bytes old new =
 abbrev pub misses : ℕ → Piece → Bool
 misses k piece = nat_lt k piece.0 || nat_le (length piece.1) (k - piece.0)
 
--- what the piece has before the k-th sector, and what behind it
+-- what the piece has before the k-th sector, and what after it
 abbrev pub part_before : ℕ → Piece → Piece
 part_before k piece = (piece.0, take (k - piece.0) piece.1)
 

@@ -52,7 +52,7 @@ lent_of loan = record { first = loan.first; lanes = loan.lanes; each = loan.each
 abbrev pub Noted : List (ℕ × ℕ) → ℕ → ℕ × ℕ → Type 0
 Noted rs i r = (i < length rs) × (range_at rs i ≡ r)
 
--- that range is at that place, and each later one ends before it or begins behind it
+-- that range is at that place, and each later one ends before it or begins after it
 pub record IsLatest (rs : List (ℕ × ℕ)) (i : ℕ) (r : ℕ × ℕ) : Type 0 where
   pub noted : Noted rs i r
   pub apart : (j : ℕ) → i < j → j < length rs → r.0 < (range_at rs j).0 + (range_at rs j).1

@@ -120,7 +120,7 @@ some_calls c = by (version_at (live_sector c) == 1)
 more_calls : (old new k : ℕ) → 4 ≤ k → new ≤ counted old 4 → new ≤ counted old k
 more_calls old new k more few = omega (arith, more, few)
 
--- a commit behind what was read
+-- a commit after what was read
 pub calls_on : (start old new k : ℕ) → old ≡ counted start 4 → new ≡ counted old 4 → k ≡ 8 → new ≡ counted start k
 calls_on start old new k read wrote is = omega (arith, read, wrote, is)
 

@@ -102,7 +102,7 @@ refused_by old e new a b reaches (inr (inr (inr (inr table)))) counts =
 pub unconsumed : (old new : StoreView) (e : Refusal) → Reaches old.life Consume → Answered Applied old Consume (Err e) new → ((e ≡ Device) ⊎ (e ≡ Down)) × Failed old.disk.failures new.disk.failures
 unconsumed old new e reaches did = refused_by old.life e new.life old.disk.failures new.disk.failures reaches did.life did.counts
 
--- ---- the refusals of a load are none of a Consume behind it
+-- ---- the refusals of a load are none of a Consume after it
 abbrev pub IsOfStore : Refusal → Type 0
 IsOfStore e = (e ≡ BadShape → ⊥) × (e ≡ NoImage → ⊥) × (e ≡ BadImage → ⊥)
 

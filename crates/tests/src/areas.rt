@@ -62,7 +62,7 @@ static FAILURES: [(ArmedFault, [u64; 4]); 4] = [
     (ArmedFault::FailLane(2, 2), [4, 4, 2, 0]),
 ];
 
-/// The page whose write failed stands in no place, and the lanes behind take the pages that are left.
+/// The page whose write failed stands in no place, and the lanes after its own take the pages that are left.
 #[test]
 fn a_lane_ends_at_its_failure_and_the_others_go_on(rt: HostRuntime) {
     for &(fault, calls) in &FAILURES {

@@ -57,7 +57,7 @@ impl Gate for UntilWoken {
     }
 }
 
-/// A suspend to RAM by `system_suspend`, to go on behind its ECALL with 9: AUIPC x11, 0; ADDI x11, x11, 32; ADDI x10, x0, 0;
+/// A suspend to RAM by `system_suspend`, to go on past its ECALL with 9: AUIPC x11, 0; ADDI x11, x11, 32; ADDI x10, x0, 0;
 /// ADDI x12, x0, 9; ADDI x16, x0, 0; LUI x17, 0x53555; ADDI x17, x17, 0x350; ECALL, the eighth instruction, and a jump to
 /// itself.
 const SLEEPER: [u8; 36] = [

@@ -21,7 +21,7 @@ const SLEEPER: [u8; 32] = [
 ];
 
 /// The slot that is found on that disk, the serial of its image, and the next; and whether the image's memory is that
-/// code, and zeros behind it.
+/// code, and zeros after it.
 type Found = (u32, Option<u64>, u64, bool);
 
 fn found_on(rt: &impl Abort, alloc: Global, disk: SimDisk, shape: Shape, code: &[u8]) -> Found

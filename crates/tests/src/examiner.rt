@@ -13,7 +13,7 @@ const LINES: Run = Run {
     ..PLAIN
 };
 
-/// The memory of its image is written, which has its payload and zeros behind it.
+/// The memory of its image is written, which has its payload and zeros after it.
 const RECALLED: Run = Run {
     words: &["sbidisk", "--memory", "D"],
     room: 1_048_576,

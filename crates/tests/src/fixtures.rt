@@ -21,7 +21,7 @@ pub fn same<T: PartialEq + Drop>(rt: &impl Abort, found: T, wanted: T) {
     assert!(rt; found == wanted);
 }
 
-/// How many zeros stand behind that start of the bytes; none where they are anything else.
+/// How many zeros stand after that start of the bytes; none where they are anything else.
 pub fn zeros_behind(bytes: &[u8], start: &[u8]) -> Option<usize> {
     let rest = bytes.strip_prefix(start)?;
     rest.iter().all(|byte| *byte == 0).then_some(rest.len())

@@ -11,7 +11,7 @@ const BASE: u64 = 0x8000_0000;
 /// The first eight pages.
 const EIGHT: &[u64] = &[0, 1, 2, 3, 4, 5, 6, 7];
 
-/// The eight behind the first one.
+/// The eight after the first one.
 const NEXT: &[u64] = &[1, 2, 3, 4, 5, 6, 7, 8];
 
 /// Of these pages, and of no other of the first ten, a word is kept decoded.
@@ -116,7 +116,7 @@ fn each_memory_keeps_its_pages(rt: HostRuntime) {
     }
 }
 
-/// Behind a boot no page stands before another, and there is room for eight: a page that was kept before it, and is
+/// After a boot no page stands before another, and there is room for eight: a page that was kept before it, and is
 /// asked for first, is not the one that goes.
 #[test]
 fn a_boot_forgets_the_order(rt: HostRuntime) {

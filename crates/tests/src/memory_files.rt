@@ -28,7 +28,7 @@ pub enum Broken {
     Keep,
 }
 
-/// Four payload files, `p0` to `p3`, in hexadecimal digits, and the file of a disk. In each payload file so many zeros stand behind
+/// Four payload files, `p0` to `p3`, in hexadecimal digits, and the file of a disk. In each payload file so many zeros stand after
 /// its first instruction.
 #[derive(Drop)]
 pub struct MemoryFiles {
@@ -74,7 +74,7 @@ fn decoded(alloc: Global, digits: &[u8]) -> io::Result<Vec<u8>> {
     }
 }
 
-/// Those bytes with so many zeros behind the first four.
+/// Those bytes with so many zeros after the first four.
 fn with_gap(alloc: Global, bytes: Vec<u8>, gap: usize) -> Result<Vec<u8>, AllocError> {
     let Some((first, rest)) = bytes.split_at_checked(4) else {
         return Ok(bytes);

@@ -203,7 +203,7 @@ fn a_file_holds_the_disk_either_way(rt: HostRuntime) -> Result<(), Fail> {
     Ok(())
 }
 
-/// What stands behind a disk in its file stays, but for a new disk.
+/// What stands after a disk in its file stays, but for a new disk.
 #[test]
 fn what_stands_behind_a_disk_stays(rt: HostRuntime) -> Result<(), Fail> {
     let mut longer = all_left(&rt, rt.alloc(), b"", &WRITES)?;

@@ -21,9 +21,9 @@ pub enum Program {
     Disk,
 }
 
-/// A run: the program and its words, the payload files `p0` to `p3` in hexadecimal digits with so many zeros behind the first
+/// A run: the program and its words, the payload files `p0` to `p3` in hexadecimal digits with so many zeros after the first
 /// instruction of each, what fails of the files, the lines of the console and the room of the output; and the status, the output and
-/// the faults that have to come of it. Behind what is told the output has so many zeros.
+/// the faults that have to come of it. After what is told the output has so many zeros.
 pub struct Run {
     pub program: Program,
     pub words: &'static [&'static str],

@@ -3,7 +3,7 @@
 use crate::scripts::{ScriptRow, each_is_read_as};
 use board_model::Refusal;
 
-// What the malformed lines stand behind.
+// What the malformed lines stand after.
 const BOARD: &[u8] = b"board 2 4 3\n";
 
 // Lines, between bars, of which a number is out of its range.
@@ -218,7 +218,7 @@ board 2 4 3\nformat\npc 1\n\n\n|\
 \n\nboard 2 4 3\n# caf\xc3\xa9\nformat\n\npc 1\n|\
 #\r\nboard 2 4 3\nformat\npc 0x0001\n#\r\n";
 
-/// Lines behind a board line, and whole scripts.
+/// Lines after a board line, and whole scripts.
 static ROWS: [ScriptRow; 11] = [
     (BOARD, b"", 0, PAST_A_RANGE, Err(Refusal::BadScript(2))),
     (BOARD, b"", 0, WORD_COUNTS, Err(Refusal::BadScript(2))),

@@ -9,7 +9,7 @@ use layout::{
 };
 use std::process::Abort;
 
-/// The sector has these bytes, and zeros behind them.
+/// The sector has these bytes, and zeros after them.
 fn is_of(sector: &[u8; 512], bytes: &[u8]) -> bool {
     zeros_behind(sector, bytes).is_some()
 }

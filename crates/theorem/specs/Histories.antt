@@ -15,7 +15,7 @@ abbrev pub AreBeforeAnswer : List Event → Type 0
 AreBeforeAnswer [] = ⊤
 AreBeforeAnswer (e ∷ events) = IsBeforeAnswer e × AreBeforeAnswer events
 
--- The events before the answer to the hart of the image with serial n: in this life, behind a Consume that was
+-- The events before the answer to the hart of the image with serial n: in this life, after a Consume that was
 -- acknowledged while that image stood, no hart was answered yet.
 pub record AnswersOnce (events : List Event) (n : ℕ) : Type 0 where
   pub before : List Event

@@ -58,7 +58,7 @@ pub fn commands_are_such_events()
 {}
 
 /// A wake from an image is two events: its Consume was acknowledged, which drops the image, and then its hart is resumed. So
-/// no board is resumed but behind an acknowledged Consume of its own image.
+/// no board is resumed but after an acknowledged Consume of its own image.
 pub fn wakes_are_such_events()
     ensures { (w : World) (old new : Life) (n : ℕ) (memory : List ℕ) (hart : HartState) → IsLived w old
         → old.doubt ≡ None → IsWoken (now_of old) memory hart → Applied old Consume (Ok n) new

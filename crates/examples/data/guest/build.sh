@@ -68,7 +68,7 @@ done
 "$objcopy" -O binary -j .text "$name.elf" "$name.bin"
 echo "$name.bin: $(wc -c <"$name.bin") bytes for $pages pages and $harts harts, by $("$CC" --version | head -1)"
 
-# The words shown, and of each hart the lines that it said, where it says any: each of 64 bytes, one behind the other.
+# The words shown, and of each hart the lines that it said, where it says any: each of 64 bytes, one after the other.
 look() {
     echo 'mem 0x80000040 64'
     "$nm" -S "$name.elf" | while read -r address size _ symbol; do

@@ -1,4 +1,4 @@
-/* A payload: code and the data that it reads, from the start of RAM on; behind it .bss, which is zero at power-on and takes no bytes of
+/* A payload: code and the data that it reads, from the start of RAM on; after it .bss, which is zero at power-on and takes no bytes of
    the payload; and at the end of RAM a stack for each hart, hart 0's last. build.sh gives PAGES, HARTS and STACK, for which it was built. */
 SECTIONS
 {

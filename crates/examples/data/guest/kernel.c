@@ -16,7 +16,7 @@ static void set_up(void)
     set_trap(trap_entry);
 }
 
-/* Goes on behind the instruction that trapped. */
+/* Goes on past the instruction that trapped. */
 struct frame *trap(struct frame *frame)
 {
     shown[SHOWN_TRAPS] = ++traps;

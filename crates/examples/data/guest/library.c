@@ -1,4 +1,4 @@
-/* What compilers call by themselves: RV64I neither multiplies nor divides, and a large copy is a call. build.sh links this behind each
+/* What compilers call by themselves: RV64I neither multiplies nor divides, and a large copy is a call. build.sh links this after each
    kernel, and the linker drops what is not called. The names are those of libgcc and of C. */
 #include "sbi.h"
 

@@ -56,7 +56,7 @@ typedef unsigned int u32;
 #define SBI_START_PENDING SBI_NUMBER(2)
 #define SBI_SUSPENDED SBI_NUMBER(4)
 
-/* Types of a hart's own suspend: it goes on behind its call, or at an address as after a start. */
+/* Types of a hart's own suspend: it goes on after its call, or at an address as after a start. */
 #define SBI_SUSPEND_RETENTIVE SBI_NUMBER(0)
 #define SBI_SUSPEND_NON_RETENTIVE SBI_NUMBER(0x80000000)
 

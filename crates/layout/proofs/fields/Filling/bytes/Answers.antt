@@ -5,7 +5,7 @@ use borrow.Rule.Slice.PartMut.{mid_of, put_mid}
 use Rattle.layout.proofs.fields.Filling.bytes.Goals as goal
 
 module _ (filled count : ℕ) (sector new : List ℕ) (whole : length sector ≡ 512) (fits : filled + count ≤ 512) (same : length new ≡ count) where
-  -- the zeros behind what was filled
+  -- the zeros after what was filled
   zeros_left : drop filled sector ≡ replicate (512 - filled) 0 → drop (filled + count) (put_mid filled (filled + count - filled) sector new) ≡ replicate (512 - (filled + count)) 0
   zeros_left zeros =
       drop-put_mid filled (filled + count - filled) sector new (filled + count) (omega arith) (omega arith) (omega arith)
