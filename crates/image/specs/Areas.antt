@@ -1,5 +1,5 @@
 -- When an area holds a memory, in plain words: each page stands in one place in use, after a header with the
--- image's serial. Source: docs/IMAGE.md, "Reading".
+-- image's serial. Source: docs/STORE.md, "Reading an area".
 use Rattle.std.specs.Prelude.{◌≡◌, ℕ, ◌+◌, ◌*◌, ◌<◌, List, length, slice_index}
 use Rattle.board_model.specs.Shapes.{Size, area_sectors_of}
 use Rattle.disk.specs.Facts.{Content, sector}

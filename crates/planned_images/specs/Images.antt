@@ -1,5 +1,5 @@
 -- What a load by its plan makes of a disk and a memory: each clause of `Store::load_image` of the crate `store`, but that it is
--- refused 6 where a command is in doubt. Source: docs/STORE.md, "A life"; docs/IMAGE.md, "Reading".
+-- refused 6 where a command is in doubt. Source: docs/STORE.md, "A life" and "Reading an area".
 use Rattle.std.specs.Prelude.{◌≡◌, ◌*◌, ℕ, true, false, List, length, Result, Err, OnOk, IfErr}
 use Rattle.board_model.specs.declared.refusal.Refusal.{Refusal}
 use Rattle.board_model.specs.declared.refusal.Refusal.TheVariants.{BadImage, Device, Down}

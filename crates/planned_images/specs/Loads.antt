@@ -1,4 +1,4 @@
--- The calls of a load, one after another. Source: docs/IMAGE.md, "Reading".
+-- The calls of a load, one after another. Source: docs/STORE.md, "Reading an area".
 use Rattle.std.specs.Prelude.{◌≡◌, ◌+◌, ◌*◌, ◌-◌, ◌<◌, ℕ, Bool, true, false, nat_lt, if◌then◌else◌, List, slice_index, map, take, replicate, slice_set, Result, Ok, Err, Some, None}
 use Rattle.board_model.specs.Shapes.{Size}
 use Rattle.board_model.specs.declared.refusal.Refusal.{Refusal}

@@ -1,4 +1,4 @@
--- The calls of a suspension up to its commit, one after another. Source: docs/IMAGE.md, "Writing".
+-- The calls of a suspension up to its commit, one after another. Source: docs/STORE.md, "Writing an area".
 use Rattle.std.specs.Prelude.{◌≡◌, ◌⊎◌, ◌+◌, ◌*◌, ◌-◌, ◌^◌, ◌<◌, ℕ, true, false, nat_lt, if◌then◌else◌, min, List, [], ◌∷◌, Option, Some, None, Ok, Err}
 use Rattle.board_model.specs.Shapes.{Size, places_of, IsValidAddress}
 use Rattle.board_model.specs.declared.refusal.Refusal.{Refusal}

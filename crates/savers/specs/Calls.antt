@@ -1,4 +1,4 @@
--- The calls of a lane that its saver makes, in their order. Source: docs/IMAGE.md, "Writing".
+-- The calls of a lane that its saver makes, in their order. Source: docs/STORE.md, "Writing an area".
 use Rattle.std.specs.Prelude.{◌≡◌, ◌⊎◌, ℕ, zero, suc, ◌+◌, ◌≤◌, Bool, true, false, List, [], ◌∷◌, ◌++◌, Result, OnOk, OnErr}
 use Rattle.board_model.specs.Shapes.{Size, places_of}
 use Rattle.disk.specs.Facts.{LaneFacts}

@@ -1,4 +1,4 @@
--- The rule of a ticket: one word, which counts the draws. Source: docs/IMAGE.md, "The ticket".
+-- The rule of a ticket: one word, which counts the draws. Source: docs/STORE.md, "The ticket".
 use Rattle.std.specs.Prelude.{◌≡◌, ℕ, ◌+◌, ◌-◌, List, [], ◌∷◌, ◌++◌, length, slice_index, nat_lt, if◌then◌else◌}
 use Rattle.atomic_table.specs.Table.{State, Me, Step}
 pub use Rattle.crew.specs.Orders.{times}

@@ -1,4 +1,4 @@
--- Which pages a saver draws, and which places of its lane it fills. Source: docs/IMAGE.md, "The ticket".
+-- Which pages a saver draws, and which places of its lane it fills. Source: docs/STORE.md, "The ticket".
 use Rattle.std.specs.Prelude.{◌≡◌, ◌⊎◌, ℕ, ◌+◌, ◌<◌, ◌≤◌, List, [], length, slice_index, slice_index_or}
 use Rattle.std.specs.List.{concat}
 use Rattle.board_model.specs.Shapes.{Size, places_of}

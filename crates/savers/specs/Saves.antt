@@ -1,4 +1,4 @@
--- What a save is given, and what it makes of its lanes. Source: docs/IMAGE.md, "Writing".
+-- What a save is given, and what it makes of its lanes. Source: docs/STORE.md, "Writing an area".
 use Rattle.std.specs.Prelude.{◌≡◌, ℕ, ◌<◌, ◌++◌, List, length, slice_index}
 use Rattle.board_model.specs.Shapes.{Size}
 use Rattle.board_model.specs.declared.refusal.Refusal.{Refusal}

@@ -37,7 +37,7 @@ pub struct SavedPages {
 /// places of each lane are in use; each page stands in one of them, under its serial. The first call of a lane
 /// that fails is its last, and the others go on; then `Device` is refused, and any bytes may stand in the lanes.
 /// `Memory` is refused where none was had for the ticket or for the list of savers; then no job began, and no
-/// lane was called (docs/IMAGE.md, "The ticket").
+/// lane was called (docs/STORE.md, "The ticket").
 pub fn save<C: Crew, L: Lane + Send + Drop>(
     alloc: Global,
     crew: &C,

@@ -1,4 +1,4 @@
-//! Areas written (docs/IMAGE.md): through one to four lanes in turn, and a lane that fails.
+//! Areas written (docs/STORE.md, "Images"): through one to four lanes in turn, and a lane that fails.
 ghost use Rattle.std.specs.Prelude.{◌≤◌};
 
 use crate::fixtures::{NEVER, in_order, same};
