@@ -3,7 +3,7 @@
 # docs/HART.md: the comment of each case says them. The program ends at its ECALL. tools/hart-programs assembles it.
 #
 # The handler keeps four numbers of each trap: scause, stval - s7, sepc - s6 and sstatus. Then it returns to s5, or
-# behind the instruction where s5 is 0.
+# past the instruction where s5 is 0.
 
     .option norvc
     .option norelax
