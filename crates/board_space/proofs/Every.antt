@@ -1,15 +1,15 @@
 -- A search that is closed speaks of every list of events.
-use Rattle.std.proofs.Common.{◌≡◌, ℕ, zero, suc, ◌<◌, List, [], refl}
+use Rattle.std.proofs.Common.{◌≡◌, ℕ, zero, suc, ◌<◌, Bool, List, [], refl}
 use Rattle.model_board.specs.Boards.{Board}
 use Rattle.model_board.specs.Events.{Event, Turn, IsEnd, GoesOn}
 use Rattle.model_board.specs.Maps.{Map}
 use Rattle.state_space.specs.declared.graph.Graph.{Graph}
 use Rattle.state_space.specs.Orders.{Runs, Leads, Only, Chain, IsClosed, Meets, CanEnd}
 use Rattle.state_space.specs.Systems.{Moves}
-use Rattle.state_space.specs.Graphs.{count_of, expanded_of, IsSearched, IsFound}
-use Rattle.state_space.specs.Deads.{ReachesEnd}
+use Rattle.state_space.specs.Graphs.{count_of, expanded_of, row_at, IsSearched, IsFound}
+use Rattle.state_space.specs.Deads.{IsMarked, Reaches}
 use Rattle.state_space.proofs.AllOrders.{leads_by, leads_lifted, all_orders, can_end}
-use Rattle.state_space.proofs.Tells.{found_covered, end_reached, closed_by_cover}
+use Rattle.state_space.proofs.Tells.{found_covered, kind_reached, closed_by_cover}
 use Rattle.board_space.specs.Space.{Asked, Happens, number_of, KeepsEach, IsLocalTurn, GoesBy, board_rules, start_of}
 use Rattle.board_space.specs.Moving.{Moving}
 use Rattle.board_space.proofs.Reduced.{reduced}
@@ -30,8 +30,8 @@ move_goes moving asked map n b c move =
     (move.0 step.0 step.2.0 step.1, step.2)
     (chain_goes moving asked map move.1.2.0 move.1.0 c move.1.2.1)
 
-pub rules_end : Moving → (asked : Asked) (map : Map) (b : Board) → CanEnd (Moves (board_rules asked map)) (GoesBy asked) IsEnd b → CanEnd (Happens asked) GoesOn IsEnd b
-rules_end moving asked map b can = (
+pub rules_end : Moving → (asked : Asked) (map : Map) (Is : Board → Type 0) (b : Board) → CanEnd (Moves (board_rules asked map)) (GoesBy asked) Is b → CanEnd (Happens asked) GoesOn Is b
+rules_end moving asked map Is b can = (
   can.0,
   leads_lifted (Only GoesOn (Happens asked)) (Only (GoesBy asked) (Moves (board_rules asked map))) (move_goes moving asked map) can.1.0 b can.0 can.1.1,
   can.2,
@@ -52,8 +52,8 @@ module _ (moving : Moving) (asked : Asked) (map : Map) (stands : List ℕ → Bo
       all_orders (Happens asked) Turn IsEnd (KeepsEach asked map) (IsLocalTurn asked.size map) (reduced moving asked map) GoesOn (λ h. tt) (IsFound stands graph) closed
       first.1.0 (start_of asked) first.0 last events first.1.1 (0, searched.some, first.2) run
 
-  pub no_dead_end : ((k : ℕ) → k < count_of graph → ReachesEnd (GoesBy asked) graph k) → (events : List Event) (last : Board) → Runs (Happens asked) events (start_of asked) last → CanEnd (Happens asked) GoesOn IsEnd last
-  no_dead_end reach events last run =
+  pub no_dead_end : (goals : List Bool) → ((k : ℕ) → IsMarked goals k → (b : Board) → stands (row_at graph k) b → IsEnd b) → ((k : ℕ) → k < count_of graph → Reaches (GoesBy asked) graph goals k) → (events : List Event) (last : Board) → Runs (Happens asked) events (start_of asked) last → CanEnd (Happens asked) GoesOn IsEnd last
+  no_dead_end goals ends reach events last run =
       can_end (Happens asked) GoesOn IsEnd (KeepsEach asked map) (IsFound stands graph)
-      (λ b found. rules_end moving asked map b (end_reached (board_rules asked map) stands graph searched found.0 b (reach found.0 found.1) found.2))
+      (λ b found. rules_end moving asked map IsEnd b (kind_reached (board_rules asked map) stands graph searched (IsMarked goals) IsEnd (λ k c marked has. ends k marked c has) found.0 b (reach found.0 found.1) found.2))
       last (meets events last run)

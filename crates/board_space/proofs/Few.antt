@@ -7,13 +7,13 @@ use Rattle.model_board.specs.Events.{Event, Turn, Refused, Wake, Cut, PowerOn, T
 use Rattle.model_board.specs.Maps.{Map, Local}
 use Rattle.state_space.specs.declared.graph.Graph.{Graph}
 use Rattle.state_space.specs.Bounded.{Budget, Turns, Waits, IsFreeBy, PaysBy, Within, Switching, IsClosedWithin, MeetsWithin}
-use Rattle.state_space.specs.Deads.{ReachesEnd}
-use Rattle.state_space.specs.Graphs.{count_of, expanded_of, IsSearched, IsFound, IsCovered}
+use Rattle.state_space.specs.Deads.{IsMarked, Reaches}
+use Rattle.state_space.specs.Graphs.{count_of, expanded_of, row_at, IsSearched, IsFound, IsCovered}
 use Rattle.state_space.specs.Orders.{Only, Runs, CanEnd}
 use Rattle.state_space.specs.Switched.{Switched, StandsWithin}
 use Rattle.state_space.specs.Systems.{Moves}
 use Rattle.state_space.proofs.Bounded.{bounded_orders, can_end_within}
-use Rattle.state_space.proofs.Tells.{found_covered, end_reached}
+use Rattle.state_space.proofs.Tells.{found_covered, kind_reached}
 use Rattle.board_space.specs.Few.{hart_of, hart_of_number, turn_number, MOST_WAITED, WaitsAt, few_rules, begins_with, RunsFew}
 use Rattle.board_space.specs.Searches.{StandsFew}
 use Rattle.board_space.specs.Space.{Asked, IsSmall, Happens, Steps, number_of, KeepsEach, IsLocalTurn, GoesBy, board_rules, start_of}
@@ -127,12 +127,12 @@ module _ (moving : Moving) (asked : Asked) (map : Map) (switches : ℕ) (stands 
   moves_on [] b c is = ap (λ (s : Switched Board). s.state) is
   moves_on (n ∷ w) b c run = (run.0.state, (run.1.0, inner_move asked map switches n b run.0 run.1.1), moves_on w run.0 c run.2)
 
-  seen_end : ((k : ℕ) → k < count_of graph → ReachesEnd (GoesBy asked) graph k) → (x : Board) (u : Budget) → Seen x u → CanEnd (Happens asked) GoesOn IsEnd x
-  seen_end reach x u seen =
+  seen_end : (goals : List Bool) → ((k : ℕ) → IsMarked goals k → (b : Board) → StandsFew stands (row_at graph k) b → IsEnd b) → ((k : ℕ) → k < count_of graph → Reaches (GoesBy asked) graph goals k) → (x : Board) (u : Budget) → Seen x u → CanEnd (Happens asked) GoesOn IsEnd x
+  seen_end goals ends reach x u seen =
       let s : Switched Board = record { state = x; budget = u } in
-      let can = end_reached (few_rules asked map switches) (StandsWithin stands) graph searched seen.0 s (reach seen.0 seen.1) seen.2 in
-      rules_end moving asked map x (can.0.state, (can.1.0, moves_on can.1.0 s can.0 can.1.1), can.2)
+      let can = kind_reached (few_rules asked map switches) (StandsWithin stands) graph searched (IsMarked goals) (λ c. IsEnd c.state) (λ k c marked has. ends k marked c.state (c.budget, has)) seen.0 s (reach seen.0 seen.1) seen.2 in
+      rules_end moving asked map IsEnd x (can.0.state, (can.1.0, moves_on can.1.0 s can.0 can.1.1), can.2)
 
-  pub few_no_dead_end : ((k : ℕ) → k < count_of graph → ReachesEnd (GoesBy asked) graph k) → (events : List Event) (last : Board) → RunsFew asked switches events last → CanEnd (Happens asked) GoesOn IsEnd last
-  few_no_dead_end reach events last run =
-      can_end_within (Happens asked) Turn hart_of MOST_WAITED GoesOn IsEnd (KeepsEach asked map) Seen (seen_end reach) last run.0 (met events last run.0 run.1)
+  pub few_no_dead_end : (goals : List Bool) → ((k : ℕ) → IsMarked goals k → (b : Board) → StandsFew stands (row_at graph k) b → IsEnd b) → ((k : ℕ) → k < count_of graph → Reaches (GoesBy asked) graph goals k) → (events : List Event) (last : Board) → RunsFew asked switches events last → CanEnd (Happens asked) GoesOn IsEnd last
+  few_no_dead_end goals ends reach events last run =
+      can_end_within (Happens asked) Turn hart_of MOST_WAITED GoesOn IsEnd (KeepsEach asked map) Seen (seen_end goals ends reach) last run.0 (met events last run.0 run.1)

@@ -20,6 +20,7 @@ pub mod Stuck
 pub mod ByOrders
 pub mod Answered
 pub mod Few
+pub mod ByLives
 pub mod Waiting
 pub mod Carried
 pub mod Seen

@@ -1,5 +1,5 @@
--- What both kinds of searches have in common.
-use Rattle.std.proofs.Common.{◌≡◌, ⊎_elim, ℕ, ◌+◌, ◌<◌, Bool, true, false, List, [], ◌∷◌, ◌++◌, length, drop, Option, Some, None, refl, ap, sym, subst, ◌∙◌, arith}
+-- What all kinds of searches have in common.
+use Rattle.std.proofs.Common.{◌≡◌, ⊎_elim, ℕ, ◌+◌, ◌<◌, Bool, true, false, List, [], ◌∷◌, ◌++◌, length, drop, refl, ap, sym, subst, ◌∙◌, arith}
 use Rattle.std.proofs.lemmas.Bool.{cases_lt}
 use Rattle.model_board.specs.Boards.{Board}
 use Rattle.model_board.specs.Maps.{Map}
@@ -9,13 +9,17 @@ use Rattle.state_space.specs.Graphs.{IsSearched}
 use Rattle.state_space.specs.Orders.{Runs}
 use Rattle.state_space.specs.Switched.{Switched, StandsWithin}
 use Rattle.state_space.specs.Systems.{Moves}
+use Rattle.state_space.specs.Counted.{Counted, StandsCounted}
+use Rattle.state_space.proofs.AllOrders.{runs_along}
 use Rattle.state_space.proofs.Growth.{earlier_one, last_one}
-use Rattle.board_space.specs.Few.{few_rules}
+use Rattle.board_space.specs.Few.{few_rules, life_rules}
 use Rattle.board_space.specs.Searches.{StandsBy, board_part, IsSearch}
 use Rattle.board_space.specs.Space.{Asked, board_rules}
+use Rattle.board_space.specs.declared.bounds.Bound.{Bound}
+use Rattle.board_space.specs.declared.bounds.Bound.TheVariants.{Unbounded, Preemptions, PowerOns}
 
 -- ---- of every order
-pub search_all : (asked : Asked) (map : Map) (stands : List ℕ → Board → Type 0) (graph : Graph) → IsSearched (board_rules asked map) stands graph → IsSearch asked map None stands graph
+pub search_all : (asked : Asked) (map : Map) (stands : List ℕ → Board → Type 0) (graph : Graph) → IsSearched (board_rules asked map) stands graph → IsSearch asked map Unbounded stands graph
 search_all asked map stands graph searched = record {
   by = searched;
   whole = searched.whole;
@@ -25,7 +29,7 @@ search_all asked map stands graph searched = record {
 }
 
 -- ---- of few
-pub search_few : (asked : Asked) (map : Map) (switches : ℕ) (stands : List ℕ → Board → Type 0) (graph : Graph) → IsSearched (few_rules asked map switches) (StandsWithin stands) graph → IsSearch asked map (Some switches) stands graph
+pub search_few : (asked : Asked) (map : Map) (switches : ℕ) (stands : List ℕ → Board → Type 0) (graph : Graph) → IsSearched (few_rules asked map switches) (StandsWithin stands) graph → IsSearch asked map (Preemptions switches) stands graph
 search_few asked map switches stands graph searched = record {
   by = searched;
   whole = searched.whole;
@@ -43,11 +47,30 @@ inner_run asked map switches [] b c is = ap (λ (s : Switched Board). s.state) i
 inner_run asked map switches (n ∷ w) b c run =
     (run.0.state, inner_move asked map switches n b run.0 run.1, inner_run asked map switches w run.0 c run.2)
 
+-- ---- with few power-ons
+pub search_lives : (asked : Asked) (map : Map) (most : ℕ) (stands : List ℕ → Board → Type 0) (graph : Graph) → IsSearched (life_rules asked map most) (StandsCounted stands) graph → IsSearch asked map (PowerOns most) stands graph
+search_lives asked map most stands graph searched = record {
+  by = searched;
+  whole = searched.whole;
+  most = searched.most;
+  known = λ k lt. let known = searched.known k lt in (known.0.state, (known.0.left, known.1));
+  ends = λ k b lt has. searched.ends k (record { state = b; left = has.0 }) lt has.1;
+}
+
+pub life_move : (asked : Asked) (map : Map) (most n : ℕ) (b c : Counted Board) → Moves (life_rules asked map most) n b c → Moves (board_rules asked map) n b.state c.state
+life_move asked map most n b c move = (move.0.state, move.1.0, move.2.0)
+
+pub life_run : (asked : Asked) (map : Map) (most : ℕ) (w : List ℕ) (b c : Counted Board) → Runs (Moves (life_rules asked map most)) w b c → Runs (Moves (board_rules asked map)) w b.state c.state
+life_run asked map most w b c run =
+    runs_along (Moves (life_rules asked map most)) (Moves (board_rules asked map)) (λ (s : Counted Board). s.state) (λ n x y move. life_move asked map most n x y move) w b c run
+
 -- ---- the numbers of a row that are the board's
-pub part_stands : (switches : Option ℕ) (stands : List ℕ → Board → Type 0) (row : List ℕ) (b : Board) → StandsBy switches stands row b → stands (board_part switches row) b
-part_stands None stands row b has = has
-part_stands (Some switches) stands row b has =
+pub part_stands : (bound : Bound) (stands : List ℕ → Board → Type 0) (row : List ℕ) (b : Board) → StandsBy bound stands row b → stands (board_part bound row) b
+part_stands Unbounded stands row b has = has
+part_stands (Preemptions switches) stands row b has =
     subst (λ (r : List ℕ). stands r b) (sym (ap (λ (r : List ℕ). drop 2 r) has.1.1)) has.1.2
+part_stands (PowerOns most) stands row b has =
+    subst (λ (r : List ℕ). stands r b) (sym (ap (λ (r : List ℕ). drop 1 r) has.1.1)) has.1.2
 
 -- ---- one number more
 pub each_below : (P : ℕ → Type 0) (n : ℕ) → ((h : ℕ) → h < n → P h) → P n → (h : ℕ) → h < n + 1 → P h

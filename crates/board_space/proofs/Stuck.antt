@@ -1,6 +1,6 @@
 -- Boards that moves lead to are boards that some events lead to; and a set of boards from which no event by which one goes on leads out, none
 -- of which is at an end, comes to none where nothing fails.
-use Rattle.std.proofs.Common.{◌≡◌, ⊎_elim, ℕ, zero, ◌<◌, ◌≤◌, List, refl, sym, subst, inl, inr}
+use Rattle.std.proofs.Common.{⊎_elim, ℕ, zero, ◌≤◌, List, refl, sym, subst, inl, inr}
 use Rattle.model_board.specs.Boards.{Board}
 use Rattle.model_board.specs.Events.{Event, Turn, IsEnd, GoesOn}
 use Rattle.model_board.specs.Maps.{Map}

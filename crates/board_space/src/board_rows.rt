@@ -6,6 +6,7 @@ ghost use Rattle.model_board.specs.Boards.{Board as AnyBoard};
 ghost use Rattle.model_board.specs.Plain.{with_machine};
 ghost use Rattle.ram.specs.Memory.{value};
 ghost use Rattle.state_space.specs.Numbered.{word_count, words_of};
+ghost use Rattle.board_space.specs.Few.{IsAway};
 ghost use Rattle.board_space.specs.Layouts.{IsBased, size_of, tracked_of, base_of};
 ghost use Rattle.board_space.specs.Tracked.{IsTracked, AreWithin, segment_count};
 ghost use Rattle.board_space.specs.Records.{IsAt, Stays};
@@ -322,6 +323,21 @@ impl BoardRows {
         match rest.doze {
             Some(_) => false,
             None => true,
+        }
+    }
+
+    /// Whether the board of a row is off.
+    #[inline]
+    pub fn is_off(&self, row: &[u32]) -> bool
+        requires known { (b : AnyBoard) × Stands self.now row.now b }
+        ensures off { result ≡ true → (b : AnyBoard) → Stands self.now row.now b → IsAway b }
+        ensures other { result ≡ false → (b : AnyBoard) → Stands self.now row.now b → IsAway b → ⊥ }
+    {
+        let rest = self.rests.get(row[0]);
+        match rest.power {
+            Power::On => false,
+            Power::Off(_) => true,
+            Power::Ended => false,
         }
     }
 

@@ -1,18 +1,20 @@
 //! What a program asks of a kernel: all boards that its boot may lead to, and what they say of every order.
 //! A law runs nothing, and tells the prover a fact: `every_order`.
 
-ghost use Rattle.std.specs.Prelude.{◌≡◌, ◌≤◌, ◌<◌, ℕ, List, IfOk, IfSome, IfNone, OnOk, Ok, Some, true, false, length};
+ghost use Rattle.std.specs.Prelude.{◌≡◌, ◌≤◌, ◌<◌, ℕ, List, IfOk, IfSome, IfNone, OnOk, Ok, true, false, length};
 ghost use Rattle.board_model.specs.Shapes.{ram_bytes_of};
 ghost use Rattle.model_board.specs.Boards.{Board as AnyBoard};
 ghost use Rattle.model_board.specs.Events.{Event, GoesOn, IsEnd};
 ghost use Rattle.state_space.specs.Orders.{Leads, CanEnd};
-ghost use Rattle.board_space.specs.Few.{AskedOrders, RunsAsked};
+ghost use Rattle.board_space.specs.Few.{AskedOrders, GoesOnToLast, RunsAsked};
 ghost use Rattle.board_space.specs.Happenings.{event_of};
 ghost use Rattle.board_space.specs.Searches.{IsSearchOf};
 ghost use Rattle.board_space.specs.Settings.{asked_of};
 ghost use Rattle.board_space.specs.Space.{Happens, IsOne, number_of, start_of};
+ghost use Rattle.board_space.specs.declared.bounds.Bound.TheVariants.{Unbounded, Preemptions, PowerOns};
 
-use crate::followed::open_rows;
+use crate::bounds::Bound;
+use crate::followed::{last_rows, open_rows};
 use crate::guesses::Guess;
 use crate::happenings::Happening;
 use crate::orders::{StandsFor, every_order};
@@ -24,7 +26,7 @@ use crate::space::{BoardSpace, Failures};
 use board_model::{HartId, Reason, Shape};
 use model_board::{Board, TouchMap};
 use state_space::{
-    Graph, Limits, Refused, Switching, Verdict, at_end, explore_by, first_dead, way_to,
+    Counting, Graph, Limits, Refused, Switching, Verdict, explore_by, first_dead, way_to,
 };
 use std::alloc::Global;
 use std::marker::Model;
@@ -41,9 +43,8 @@ pub struct Question<'a> {
     pub reason: Reason,
     /// Which failures may come.
     pub failures: Failures,
-    /// How many harts may be preempted in an order, if it is bounded: another hart's turn follows a hart's that does not wait. A hart waits
-    /// where at most 100 turns of its own lead back to the same board.
-    pub switches: Option<u32>,
+    /// How the orders are bounded that are followed.
+    pub bound: Bound,
     /// Where the search is given up.
     pub limits: Limits,
     /// How many threads search. What is found is the same by any number of them; each has tables of its own, which count to no limit.
@@ -59,7 +60,7 @@ pub struct Explored {
     alloc: Global,
     graph: Graph,
     space: BoardSpace,
-    switches: Option<u32>,
+    bound: Bound,
     verdict: Verdict,
 }
 
@@ -70,9 +71,9 @@ impl Model for Explored {
 
     ghost Value = { AskedOrders };
 
-    ghost view = { λ e. record { asked = asked_of e.space; switches = e.switches } };
+    ghost view = { λ e. record { asked = asked_of e.space; bound = e.bound } };
 
-    ghost invariant = { λ e. IsSearchOf e.space e.switches e.graph };
+    ghost invariant = { λ e. IsSearchOf e.space e.bound e.graph };
 }
 
 impl StandsFor for BoardSpace {
@@ -100,7 +101,7 @@ fn search_all<R: Threads + Sync>(
     limits: Limits,
 ) -> Searched
     ensures asked { asked_of result.space ≡ asked_of space }
-    ensures search { IfOk result.found (λ found. IsSearchOf result.space None found.0) }
+    ensures search { IfOk result.found (λ found. IsSearchOf result.space Unbounded found.0) }
 {
     let mut space = space;
     let found = explore_by(rt, alloc, threads, &mut space, limits);
@@ -117,12 +118,32 @@ fn search_few<R: Threads + Sync>(
     limits: Limits,
 ) -> Searched
     ensures asked { asked_of result.space ≡ asked_of space }
-    ensures search { IfOk result.found (λ found. IsSearchOf result.space (Some switches) found.0) }
+    ensures search { IfOk result.found (λ found. IsSearchOf result.space (Preemptions switches) found.0) }
 {
     let mut switching = Switching::new(alloc, space, switches);
     let found = explore_by(rt, alloc, threads, &mut switching, limits);
     Searched {
         space: switching.into_system(),
+        found,
+    }
+}
+
+/// Searches the orders in which there are at most so many power-ons.
+fn search_lives<R: Threads + Sync>(
+    rt: &R,
+    alloc: Global,
+    threads: usize,
+    space: BoardSpace,
+    most: u32,
+    limits: Limits,
+) -> Searched
+    ensures asked { asked_of result.space ≡ asked_of space }
+    ensures search { IfOk result.found (λ found. IsSearchOf result.space (PowerOns most) found.0) }
+{
+    let mut counting = Counting::new(alloc, space, most);
+    let found = explore_by(rt, alloc, threads, &mut counting, limits);
+    Searched {
+        space: counting.into_system(),
         found,
     }
 }
@@ -135,13 +156,20 @@ fn search<R: Threads + Sync>(
     space: BoardSpace,
 ) -> Searched
     ensures asked { asked_of result.space ≡ asked_of space }
-    ensures search { IfOk result.found (λ found. IsSearchOf result.space question.now.switches found.0) }
+    ensures search { IfOk result.found (λ found. IsSearchOf result.space question.now.bound found.0) }
 {
     let threads = question.threads;
-    match question.switches {
-        None => search_all(rt, alloc, threads, space, question.limits),
-        Some(switches) => search_few(rt, alloc, threads, space, switches, question.limits),
+    let limits = question.limits;
+    match question.bound {
+        Bound::Unbounded => search_all(rt, alloc, threads, space, limits),
+        Bound::Preemptions(switches) => search_few(rt, alloc, threads, space, switches, limits),
+        Bound::PowerOns(most) => search_lives(rt, alloc, threads, space, most, limits),
     }
+}
+
+/// Whether registers are left out of rows: where preemptions are bounded it is asked whether a hart waits, which all of them tell.
+fn leaves_out(bound: Bound) -> bool {
+    !matches!(bound, Bound::Preemptions(_))
 }
 
 /// Explores a kernel. Refused where there is no room, and where more than 10,000 guesses were tried.
@@ -159,7 +187,7 @@ pub fn explore_board<R: Threads + Sync>(
         cuts = question.now.failures.cuts;
         refusals = question.now.failures.refusals;
       };
-      switches = question.now.switches;
+      bound = question.now.bound;
     }) }
 {
     let mut guess = Guess::new(alloc, &question.shape)?;
@@ -172,7 +200,7 @@ pub fn explore_board<R: Threads + Sync>(
             question.reason,
             question.failures,
             guess,
-            question.switches.is_none(),
+            leaves_out(question.bound),
         )?;
         let Searched { space, found } = search(rt, alloc, question, space);
         let Some(broke) = space.broke() else {
@@ -181,7 +209,7 @@ pub fn explore_board<R: Threads + Sync>(
                 alloc,
                 graph,
                 space,
-                switches: question.switches,
+                bound: question.bound,
                 verdict,
             });
         };
@@ -199,14 +227,15 @@ impl Explored {
 
     /// What each order that is asked for shows at its end: `Some` only where the search is closed, each row that was found reaches an end by
     /// events that are no failures, and all ends that were found show the same in the bytes `from..to` of RAM. It speaks of orders of any
-    /// length: each end shows it, and from each board that they lead to, some events that are no failures lead to an end.
+    /// length: each end shows it, and from each board that they lead to, some events that are no failures lead to an end. Where power-ons
+    /// are bounded they lead to an end, or to where the board is off and the next power-on is due.
     pub fn outcome(&mut self, from: usize, to: usize) -> Result<Option<Outcome>, Refused>
         requires order { from ≤ to }
         requires within { to ≤ ram_bytes_of self.old.asked.size }
         ensures ends { IfOk result (λ found. IfSome found (λ outcome. (events : List Event) (last : AnyBoard)
             → RunsAsked self.old events last → IsEnd last → Shows from to outcome last)) }
         ensures no_dead_end { IfOk result (λ found. IfSome found (λ outcome. (events : List Event) (last : AnyBoard)
-            → RunsAsked self.old events last → CanEnd (Happens self.old.asked) GoesOn IsEnd last)) }
+            → RunsAsked self.old events last → GoesOnToLast self.old last)) }
         ensures same { self.new ≡ self.old }
     {
         every_order::<BoardSpace>();
@@ -214,18 +243,18 @@ impl Explored {
         if self.graph.expanded() != self.graph.count() {
             return Ok(None);
         }
-        let ends = at_end(self.alloc, &self.graph)?;
-        if first_dead(self.alloc, &self.space, &self.graph, &ends)?.is_some() {
+        let lasts = last_rows(self.alloc, &self.space, self.bound, &self.graph)?;
+        if first_dead(self.alloc, &self.space, &self.graph, &lasts)?.is_some() {
             return Ok(None);
         }
-        shown_by_all(&mut self.space, self.switches, &self.graph, from, to)
+        shown_by_all(&mut self.space, self.bound, &self.graph, from, to)
     }
 
-    /// How many harts may be preempted in an order, if it is bounded.
-    pub fn switches(&self) -> Option<u32>
-        ensures { result ≡ self.now.switches }
+    /// How the orders are bounded.
+    pub fn bound(&self) -> Bound
+        ensures { result ≡ self.now.bound }
     {
-        self.switches
+        self.bound
     }
 
     /// How the search ended.
@@ -233,7 +262,7 @@ impl Explored {
         self.verdict
     }
 
-    /// How many boards were found: with different numbers of switches left one is counted as often.
+    /// How many boards were found: with different numbers of switches or power-ons left one is counted as often.
     pub fn count(&self) -> usize {
         self.graph.count()
     }
@@ -260,13 +289,14 @@ impl Explored {
     }
 
     /// The first row whose board comes to no end by events that are no failures, as far as the search went: all that follows it is known, and
-    /// no switch was left out for want of one. So some events lead to a board from which no such events lead to an end.
+    /// no switch and no power-on was left out for want of one. So some events lead to a board from which no such events lead to an end.
     pub fn first_dead(&self) -> Result<Option<usize>, Refused>
         ensures { IfOk result (λ found. IfSome found (λ _. (b : AnyBoard) × Leads (Happens self.now.asked) (start_of self.now.asked) b
             × (CanEnd (Happens self.now.asked) GoesOn IsEnd b → ⊥))) }
     {
         every_order::<BoardSpace>();
-        let open = open_rows(self.alloc, &self.graph, self.space.harts())?;
+        let _few = self.space.harts();
+        let open = open_rows(self.alloc, &self.space, self.bound, &self.graph)?;
         first_dead(self.alloc, &self.space, &self.graph, &open)
     }
 
@@ -287,8 +317,7 @@ impl Explored {
         if self.graph.count() <= row {
             return false;
         }
-        self.space
-            .show(board_part(self.graph.row(row), self.switches));
+        self.space.show(board_part(self.graph.row(row), self.bound));
         true
     }
 
@@ -308,13 +337,7 @@ impl Explored {
         if !self.graph.is_end(row) {
             return Ok(None);
         }
-        shown_at(
-            &mut self.space,
-            self.switches,
-            self.graph.row(row),
-            from,
-            to,
-        )
+        shown_at(&mut self.space, self.bound, self.graph.row(row), from, to)
     }
 
     /// The bytes of RAM of the boards.

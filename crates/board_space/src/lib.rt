@@ -3,7 +3,9 @@
 #![tactic(auto)]
 
 mod board_rows;
+mod bounds;
 mod carrying;
+mod counted;
 mod differs;
 mod expanding;
 mod explored;
@@ -28,6 +30,7 @@ mod showing;
 mod space;
 
 pub use board_rows::BoardRows;
+pub use bounds::Bound;
 pub use explored::{Explored, Question, explore_board};
 pub use guesses::{Broke, Guess};
 pub use happenings::Happening;

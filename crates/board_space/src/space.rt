@@ -103,6 +103,7 @@ impl BoardSpace {
     ghost use Rattle.board_space.specs.Expanding.{IsTeller, AreTold};
     ghost use Rattle.board_space.specs.Shown.{Shows};
     ghost use Rattle.board_space.specs.Settings.{Setting, setting_of, asked_of, RowsStay};
+    ghost use Rattle.board_space.specs.Few.{IsAway};
 
     /// Of a board of that shape whose boot slot holds the payload, whose first boot finds that reason, with those failures, by a guess. Whether
     /// registers are left out that are not read again: a row then stands for each board that holds something else in them.
@@ -257,6 +258,15 @@ impl BoardSpace {
                 Ok(Some(Outcome::Ends(rest.reason)))
             }
         }
+    }
+
+    /// Whether the board of a row is off.
+    pub(crate) fn is_off(&self, row: &[u32]) -> bool
+        requires known { (b : AnyBoard) × Stands self.now.rows row.now b }
+        ensures off { result ≡ true → (b : AnyBoard) → StandsAll self.now.leaves self.now.rows row.now b → IsAway b }
+        ensures other { result ≡ false → (b : AnyBoard) → StandsAll self.now.leaves self.now.rows row.now b → IsAway b → ⊥ }
+    {
+        self.rows.is_off(row)
     }
 
     /// Whether a happening is asked for.

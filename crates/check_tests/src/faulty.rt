@@ -5,7 +5,7 @@ use kernel_check::{CheckFault, KernelFault, check_bytes, options_of};
 use std::test::Fail;
 
 /// Words after the kernel's that are no command line.
-static FAULTY: [[&str; 2]; 45] = [
+static FAULTY: [[&str; 2]; 48] = [
     ["--harts", "0"],
     ["--harts", "9"],
     ["--pages", "0"],
@@ -28,6 +28,9 @@ static FAULTY: [[&str; 2]; 45] = [
     ["--memory", "8T"],
     ["--memory", "18446744073709551615K"],
     ["--preemptions", "1001"],
+    ["--lives", "0"],
+    ["--lives", "1001"],
+    ["--lives", "-1"],
     ["--show", "endless"],
     ["--harts", "x"],
     ["--harts", "-1"],
@@ -54,7 +57,7 @@ static FAULTY: [[&str; 2]; 45] = [
 ];
 
 /// Options that can be given once.
-static ONCE: [[&str; 2]; 8] = [
+static ONCE: [[&str; 2]; 9] = [
     ["--harts", "1"],
     ["--pages", "1"],
     ["--lanes", "1"],
@@ -62,6 +65,7 @@ static ONCE: [[&str; 2]; 8] = [
     ["--boards", "1"],
     ["--memory", "1"],
     ["--preemptions", "1"],
+    ["--lives", "1"],
     ["--show", "stuck"],
 ];
 
@@ -78,6 +82,8 @@ fn faulty_words_are_refused(rt: HostRuntime) -> Result<(), Fail> {
         let once = ["sbicheck", "kernel", words[0], words[1]];
         assert!(rt; options_of(rt.alloc(), once.as_slice()).is_ok());
     }
+    let both = ["sbicheck", "kernel", "--preemptions", "1", "--lives", "1"];
+    assert!(rt; options_of(rt.alloc(), both.as_slice()).is_err());
     assert!(rt; options_of(rt.alloc(), ["sbicheck"].as_slice()).is_err());
     assert!(rt; options_of(rt.alloc(), ["sbicheck", ""].as_slice()).is_err());
     Ok(())

@@ -44,7 +44,7 @@ struct Case {
     told: &'static str,
 }
 
-static CASES: [Case; 8] = [
+static CASES: [Case; 9] = [
     Case {
         kernel: &RESTS,
         words: &["sbicheck", "rests", "--look", "0x80000000:4"],
@@ -171,10 +171,29 @@ open: nothing was found until the search stopped at so many boards as --boards s
         verdict: Verdict::Within(1),
         told: r#"{"bytes":4,"cuts":true,"harts":1,"lanes":1,"line":"kernel","name":"rests","pages":1,"reason":0,"refusals":true}
 {"harts":null,"line":"own","looks":[{"bytes":"6f000000","name":"0x80000000"}],"reboots":0,"shutdown":null,"sleeps":0,"turns":0}
-{"boards":4,"counting":[],"ends":2,"images":0,"line":"search","preemptions":1,"shared":[],"stopped":null}
+{"boards":4,"counting":[],"ends":2,"images":0,"line":"search","lives":null,"preemptions":1,"shared":[],"stopped":null}
 {"ends":2,"expected":true,"line":"end","looks":[{"bytes":"6f000000","name":"0x80000000"}],"own":true,"shutdown":null}
-{"line":"verdict","preemptions":1,"status":4,"verdict":"within"}
+{"line":"verdict","lives":null,"preemptions":1,"status":4,"verdict":"within"}
 "#,
+    },
+    Case {
+        kernel: &RESTS,
+        words: &[
+            "sbicheck",
+            "rests",
+            "--expect",
+            "0x80000000=6f000000",
+            "--lives",
+            "2",
+        ],
+        verdict: Verdict::Lives(2),
+        told: "\
+rests: 4 bytes at 0x80000000, 1 hart, 1 page
+own order: ends after 0 turns: 0x80000000 6f000000
+at most 2 power-ons: 5 boards, 0 shared words, 0 images, 2 ends
+ok up to 2 power-ons: in every order of its harts with at most 2 power-ons, and wherever power fails, it ends with this, \
+or the next power-on is due
+",
     },
 ];
 

@@ -12,11 +12,11 @@ use Rattle.board_space.specs.Space.{Asked, Happens, start_of}
 use Rattle.board_space.specs.declared.outcomes.Outcome.{Outcome}
 use Rattle.state_space.specs.Orders.{Leads}
 use Rattle.board_space.specs.declared.outcomes.Outcome.TheVariants.{Rests, Ends}
-use Rattle.kernel_check.specs.Failures.{AreOthers, Comes, Differ, EndsWith}
+use Rattle.kernel_check.specs.Failures.{AreOthers, AreSame, Differ}
 use Rattle.kernel_check.specs.declared.facts.EndShown.{EndShown}
 use Rattle.board_model.specs.declared.refusal.Refusal.{Refusal}
 use Rattle.kernel_check.specs.Shown.{AreIn, IsIn, looked}
-use Rattle.kernel_check.specs.Tells.{ShownBy}
+use Rattle.kernel_check.specs.Tells.{Comes, EndsWith, ShownBy}
 use Rattle.kernel_check.specs.declared.facts.EndShown.TheVariants as shown
 use Rattle.kernel_check.specs.declared.looks.Look.{Look}
 
@@ -71,6 +71,20 @@ ends_so looks ram why (Ended s) shows = shows
 pub ends_with : (asked : Asked) (looks : List Look) (ram : ℕ) (why : Reason) → Comes asked (λ b. IsEnd b × Shows 0 ram (Ends why) b)
     → EndsWith asked looks (shown.Shutdown why)
 ends_with asked looks ram why comes = (comes.0, comes.1, (comes.2.0, ends_so looks ram why comes.0 comes.2.1))
+
+-- an end that shows the same as another thing
+shown_as : (looks : List Look) (b : Board) (one other : EndShown) → AreSame one other → ShownBy looks b one → ShownBy looks b other
+shown_as looks (On l) (shown.On bytes) (shown.On others) same shows = shows ∙ same
+shown_as looks (Off s) (shown.On bytes) (shown.On others) same shows = tt
+shown_as looks (Ended s) (shown.On bytes) (shown.On others) same shows = shows
+shown_as looks (On l) (shown.Shutdown why) (shown.Shutdown other) same shows = shows
+shown_as looks (Off s) (shown.Shutdown why) (shown.Shutdown other) same shows = tt
+shown_as looks (Ended s) (shown.Shutdown why) (shown.Shutdown other) same shows = shows ∙ same
+shown_as looks b (shown.On bytes) (shown.Shutdown why) same shows = absurd same
+shown_as looks b (shown.Shutdown why) (shown.On bytes) same shows = absurd same
+
+pub same_end : (asked : Asked) (looks : List Look) (one other : EndShown) → AreSame one other → EndsWith asked looks one → EndsWith asked looks other
+same_end asked looks one other same ends = (ends.0, ends.1, (ends.2.0, shown_as looks ends.0 one other same ends.2.1))
 
 -- an end, and another one that shows not the same
 pub differ_by : (asked a : Asked) (looks : List Look) (found : Option EndShown) (one : EndShown) (r : Result Bool Refusal)

@@ -1,5 +1,5 @@
 -- The states of harts, by the copy of their table.
-use Rattle.std.proofs.Common.{◌≡◌, ◌∙◌, ◌<◌, ◌≤◌, ℕ, List, Option, Some, false, length, take, get_or, ap, arith, refl, subst, sym}
+use Rattle.std.proofs.Common.{◌≡◌, ◌∙◌, ◌<◌, ◌≤◌, ℕ, Option, Some, false, length, take, get_or, ap, arith, refl, subst, sym}
 use Rattle.std.proofs.lemmas.List.{get_or-map, get_or-take, get_or_read, length-take, length-take-le}
 use Rattle.hart.specs.Csrs.{csr_number, csr_read}
 use Rattle.hart.specs.State.{ArchState}

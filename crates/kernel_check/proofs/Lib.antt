@@ -5,3 +5,4 @@ pub mod Naming
 pub mod Leading
 pub mod HartStates
 pub mod Ending
+pub mod Bounding

@@ -4,6 +4,8 @@ use Rattle.std.proofs.lemmas.List.Elements.{All-head}
 use Rattle.model_board.specs.Boards.{Board, On, Off, Ended}
 use Rattle.board_space.specs.Few.{AskedOrders}
 use Rattle.board_space.specs.Space.{Asked}
+use Rattle.board_space.specs.declared.bounds.Bound.{Bound}
+use Rattle.board_space.specs.declared.bounds.Bound.TheVariants.{Unbounded, Preemptions, PowerOns}
 use Rattle.kernel_check.specs.Failures.{CanFail}
 use Rattle.kernel_check.specs.Says.{Says, SaysAs}
 use Rattle.kernel_check.specs.Tells.{EveryOrder, Holds, HoldsAs, IsOnWith}
@@ -32,27 +34,31 @@ both_told orders P Q R f p q = record {
 }
 
 -- ---- what a verdict says
-fine_says : (switches : Option ℕ) (asked : Asked) (looks : List Look) (kinds : List EndKind) → HoldsAs (record { asked = asked; switches = switches }) looks kinds → SaysAs (fine_by switches) asked looks kinds
-fine_says None asked looks kinds holds = holds
-fine_says (Some k) asked looks kinds holds = holds
+fine_says : (bound : Bound) (asked : Asked) (looks : List Look) (kinds : List EndKind) → HoldsAs (record { asked = asked; bound = bound }) looks kinds → SaysAs (fine_by bound) asked looks kinds
+fine_says Unbounded asked looks kinds holds = holds
+fine_says (Preemptions k) asked looks kinds holds = holds
+fine_says (PowerOns n) asked looks kinds holds = holds
 
 -- what is said where failures are told, each of which can come, or none
 pub verdict_says : (failures : List Failure) (n : ℕ) (stop : Option Stop) (shows told : Bool) (orders : AskedOrders) (looks : List Look) (kinds : List EndKind)
     → n ≡ length failures → All (λ f. CanFail f.kind orders.asked looks) failures → (told ≡ true → HoldsAs orders looks kinds)
-    → SaysAs (verdict_of n stop shows told orders.switches) orders.asked looks kinds
+    → SaysAs (verdict_of n stop shows told orders.bound) orders.asked looks kinds
 verdict_says [] (suc n) stop shows told orders looks kinds e come holds = absurd (omega (arith, e))
 verdict_says (f ∷ fs) (suc n) stop shows told orders looks kinds e come holds = (f.kind, All-head (λ (g : Failure). CanFail g.kind orders.asked looks) f fs come)
 verdict_says failures zero (Some stop) shows told orders looks kinds e come holds = tt
 verdict_says failures zero None false told orders looks kinds e come holds = tt
-verdict_says failures zero None true true orders looks kinds e come holds = fine_says orders.switches orders.asked looks kinds (holds refl)
+verdict_says failures zero None true true orders looks kinds e come holds = fine_says orders.bound orders.asked looks kinds (holds refl)
 verdict_says failures zero None true false orders looks kinds e come holds = tt
 
 -- where it says that nothing is wrong
-pub says_fine : (switches : Option ℕ) (verdict : Verdict) (asked : Asked) (looks : List Look) → verdict ≡ fine_by switches → Says verdict asked looks → (end : EndShown) × Holds (record { asked = asked; switches = switches }) looks end
-says_fine None verdict asked looks is says =
+pub says_fine : (bound : Bound) (verdict : Verdict) (asked : Asked) (looks : List Look) → verdict ≡ fine_by bound → Says verdict asked looks → (end : EndShown) × Holds (record { asked = asked; bound = bound }) looks end
+says_fine Unbounded verdict asked looks is says =
     let told = subst (λ (v : Verdict). SaysAs v asked looks says.0) is says.1 in
     (told.0.shown, told.2)
-says_fine (Some k) verdict asked looks is says =
+says_fine (Preemptions k) verdict asked looks is says =
+    let told = subst (λ (v : Verdict). SaysAs v asked looks says.0) is says.1 in
+    (told.0.shown, told.2)
+says_fine (PowerOns n) verdict asked looks is says =
     let told = subst (λ (v : Verdict). SaysAs v asked looks says.0) is says.1 in
     (told.0.shown, told.2)
 

@@ -1,7 +1,9 @@
 -- What a command line asks of a kernel, and what the verdict says of it. Source: docs/CHECKING.md.
-use Rattle.std.specs.Prelude.{◌≡◌, ◌≤◌, ℕ, List, Option, None, Some, IfSome, length}
+use Rattle.std.specs.Prelude.{◌≡◌, ◌≤◌, ℕ, List, Option, IfSome, length}
 use Rattle.board_model.specs.Shapes.{Size, IsSize, ram_bytes_of}
 use Rattle.board_space.specs.Space.{Asked}
+use Rattle.board_space.specs.declared.bounds.Bound.{Bound}
+use Rattle.board_space.specs.declared.bounds.Bound.TheVariants.{Unbounded, Preemptions, PowerOns}
 use Rattle.elf_image.specs.declared.kernel_file.Elf.{Elf}
 use Rattle.kernel_check.specs.Failures.{CanFail}
 use Rattle.kernel_check.specs.Kernels.{IsKernelFile}
@@ -44,17 +46,21 @@ pub record IsChecked (options : CheckOptions) (bytes : List ℕ) (Told : Asked �
   pub told : Told (asked_in options size payload) looks
 
 -- It is right by what is asked: each list of the events that are asked for that comes to an end shows one and the same in what is looked
--- at, as it is expected; and none comes to a board from which no end is reached. That is of every order of the events, or of those in
--- which at most so many harts are preempted.
-abbrev pub IsRightBy : Option ℕ → CheckOptions → List ℕ → Type 0
-IsRightBy switches options bytes =
-    IsChecked options bytes (λ asked looks. (end : EndShown) × Holds (record { asked = asked; switches = switches }) looks end)
+-- at, as it is expected; and none comes to a board from which no end is reached. That is of every order of the events, of those in
+-- which at most so many harts are preempted, or of those with at most so many power-ons.
+abbrev pub IsRightBy : Bound → CheckOptions → List ℕ → Type 0
+IsRightBy bound options bytes =
+    IsChecked options bytes (λ asked looks. (end : EndShown) × Holds (record { asked = asked; bound = bound }) looks end)
 
 abbrev pub IsRight : CheckOptions → List ℕ → Type 0
-IsRight = IsRightBy None
+IsRight = IsRightBy Unbounded
 
 abbrev pub IsRightWithin : ℕ → CheckOptions → List ℕ → Type 0
-IsRightWithin k = IsRightBy (Some k)
+IsRightWithin k = IsRightBy (Preemptions k)
+
+-- none of these comes to a board from which neither an end is reached, nor a board that is off and on which the next power-on is due
+abbrev pub IsRightForLives : ℕ → CheckOptions → List ℕ → Type 0
+IsRightForLives n = IsRightBy (PowerOns n)
 
 -- It is wrong by what is asked: some list of the events that are asked for leads to a board that shows a failure.
 abbrev pub IsWrong : CheckOptions → List ℕ → Type 0

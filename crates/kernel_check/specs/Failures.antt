@@ -6,20 +6,16 @@ use Rattle.hsm.specs.States.{started, stopped, suspended}
 use Rattle.machine.specs.Machine.{Machine, hart_at, state_at}
 use Rattle.model_board.specs.Boards.{Board, On, Off, Ended}
 use Rattle.model_board.specs.Events.{GoesOn, IsEnd}
-use Rattle.state_space.specs.Orders.{CanEnd, Leads}
+use Rattle.state_space.specs.Orders.{CanEnd}
 use Rattle.turns.specs.Turns.{has_pending}
-use Rattle.board_space.specs.Space.{Asked, Happens, start_of}
+use Rattle.board_space.specs.Space.{Asked, Happens}
 use Rattle.kernel_check.specs.Shown.{IsAsExpected}
-use Rattle.kernel_check.specs.Tells.{EndsBy, ShownBy}
+use Rattle.kernel_check.specs.Tells.{Comes, EndsBy, EndsWith}
 use Rattle.kernel_check.specs.declared.facts.EndShown.{EndShown}
 use Rattle.kernel_check.specs.declared.facts.EndShown.TheVariants as shown
 use Rattle.kernel_check.specs.declared.given.FailureKind.{FailureKind}
 use Rattle.kernel_check.specs.declared.given.FailureKind.TheVariants as failures
 use Rattle.kernel_check.specs.declared.looks.Look.{Look}
-
--- the events that are asked for lead from a board that was never on to one that is so
-abbrev pub Comes : Asked → (Board → Type 0) → Type 0
-Comes asked Is = (b : Board) × Leads (Happens asked) (start_of asked) b × Is b
 
 -- it is on, and its machine is so
 abbrev pub IsOnAs : (Machine → Type 0) → Board → Type 0
@@ -56,9 +52,12 @@ pub record IsWaiting (m : Machine) : Type 0 where
   pub awake : m.doze ≡ None
 
 -- ---- ends that differ
--- some board is at an end, and shows this
-abbrev pub EndsWith : Asked → List Look → EndShown → Type 0
-EndsWith asked looks end = Comes asked (λ b. IsEnd b × ShownBy looks b end)
+-- the same is shown
+abbrev pub AreSame : EndShown → EndShown → Type 0
+AreSame (shown.On bytes) (shown.On others) = bytes.items ≡ others.items
+AreSame (shown.Shutdown why) (shown.Shutdown other) = why ≡ other
+AreSame (shown.On bytes) (shown.Shutdown why) = ⊥
+AreSame (shown.Shutdown why) (shown.On bytes) = ⊥
 
 -- not the same is shown
 abbrev pub AreOthers : EndShown → EndShown → Type 0

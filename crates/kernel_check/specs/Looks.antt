@@ -1,5 +1,5 @@
 -- What the words of looks name in a kernel's memory. Source: docs/CHECKING.md, "What is asked".
-use Rattle.std.specs.Prelude.{◌≡◌, ◌⊎◌, ◌==◌, ◌&&◌, ◌+◌, ◌<◌, ◌≤◌, ℕ, Bool, true, false, List, [], ◌∷◌, ◌++◌, Option, None, Some, Ok, IfSome, if◌then◌else◌, length, nat_le, string_bytes}
+use Rattle.std.specs.Prelude.{◌≡◌, ◌⊎◌, ◌==◌, ◌&&◌, ◌+◌, ◌≤◌, ℕ, Bool, true, false, List, [], ◌∷◌, ◌++◌, Option, None, Some, Ok, if◌then◌else◌, length, nat_le, string_bytes}
 use Rattle.std.specs.Option.{option_map, unwrap_or}
 use Rattle.hex.specs.Hex.{decode_of}
 use Rattle.script_lang.specs.Words.{number_of}

@@ -1,8 +1,10 @@
 -- What a command line asks for, by the values that its parser finds. Source: docs/CHECKING.md, "What is asked".
-use Rattle.std.specs.Prelude.{◌≡◌, ◌++◌, ◌&&◌, ℕ, Bool, true, false, not, List, [], ◌∷◌, Option, None, Some, IfSome, IsSome, if◌then◌else◌, bytes_eq, nat_le, string_bytes}
+use Rattle.std.specs.Prelude.{◌≡◌, ◌++◌, ◌&&◌, ℕ, Bool, not, List, [], ◌∷◌, Option, None, Some, IsSome, if◌then◌else◌, bytes_eq, nat_le, string_bytes}
 use Rattle.std.specs.List.{list_any}
 use Rattle.board_model.specs.declared.durable.Reason.{Reason}
 use Rattle.board_model.specs.declared.durable.Reason.TheVariants.{NoReason, SystemFailure}
+use Rattle.board_space.specs.declared.bounds.Bound.{Bound}
+use Rattle.board_space.specs.declared.bounds.Bound.TheVariants.{Unbounded, Preemptions, PowerOns}
 use Rattle.clap.specs.Words.{Text, first_value, matched_of, raw_values}
 use Rattle.clap.specs.declared.parser.matches.Found.{Found}
 use Rattle.clap.specs.declared.parser.matches.MatchedArg.{MatchedArg}
@@ -31,6 +33,20 @@ number_in least most (Some word) = within least most (number_of word)
 abbrev pub IsGiven : ℕ → ℕ → Option (List ℕ) → Option ℕ → Type 0
 IsGiven least most None n = n ≡ None
 IsGiven least most (Some word) n = IsSome n × (n ≡ number_in least most (Some word))
+
+-- how the orders are bounded, by how many preemptions and how many power-ons are given: not by both
+abbrev pub IsBoundBy : Option ℕ → Option ℕ → Bound → Type 0
+IsBoundBy None None bound = bound ≡ Unbounded
+IsBoundBy (Some k) None bound = bound ≡ Preemptions k
+IsBoundBy None (Some n) bound = bound ≡ PowerOns n
+IsBoundBy (Some k) (Some n) bound = ⊥
+
+pub record IsBounded (f : Found) (bound : Bound) : Type 0 where
+  pub preemptions : Option ℕ
+  pub lives : Option ℕ
+  pub few : IsGiven 0 1000 (first_value f (codes "preemptions")) preemptions
+  pub powered : IsGiven 1 1000 (first_value f (codes "lives")) lives
+  pub by : IsBoundBy preemptions lives bound
 
 -- all values of an option that may be given several times
 abbrev pub values_in : Option MatchedArg → List (List ℕ)
@@ -85,7 +101,7 @@ pub record AreOptions (f : Found) (options : CheckOptions) : Type 0 where
   pub kernel : Some (string_bytes options.kernel) ≡ path_named (first_value f (codes "KERNEL"))
   pub harts : number_in 1 8 (first_value f (codes "harts")) ≡ Some options.harts
   pub pages : IsGiven 1 256 (first_value f (codes "pages")) options.pages
-  pub preemptions : IsGiven 0 1000 (first_value f (codes "preemptions")) options.preemptions
+  pub bounded : IsBounded f options.bound
   pub lanes : number_in 1 4 (first_value f (codes "lanes")) ≡ Some options.lanes
   pub boards : number_in 1 4000000000 (first_value f (codes "boards")) ≡ Some options.boards
   pub memory : memory_of (first_value f (codes "memory")) ≡ Some options.memory

@@ -1,5 +1,5 @@
 -- What looks show of a memory, and what is expected of them. Source: docs/CHECKING.md, "What is asked".
-use Rattle.std.specs.Prelude.{◌≡◌, ℕ, ◌+◌, ◌≤◌, List, [], ◌∷◌, ◌++◌, take, drop, slice_range, All, IfSome, Option, None}
+use Rattle.std.specs.Prelude.{◌≡◌, ℕ, ◌+◌, ◌≤◌, List, [], ◌∷◌, ◌++◌, take, drop, slice_range, All, IfSome, None}
 use Rattle.kernel_check.specs.declared.facts.EndShown.{EndShown}
 use Rattle.kernel_check.specs.declared.facts.EndShown.TheVariants as shown
 use Rattle.kernel_check.specs.declared.looks.Look.{Look}

@@ -35,7 +35,7 @@ with_looks app = with_rule (with_rule app (several_rule (codes "look"))) (severa
 -- those that bound the search
 abbrev pub with_bounds : App → App
 with_bounds app =
-    with_rule (with_rule (with_rule (with_rule (with_rule app (several_rule (codes "without"))) (value_rule (codes "preemptions") (Unsigned 0 1000))) (number_rule (codes "boards") 4000000000 (codes "10000000"))) memory_rule)
+    with_rule (with_rule (with_rule (with_rule (with_rule (with_rule app (several_rule (codes "without"))) (value_rule (codes "preemptions") (Unsigned 0 1000))) (value_rule (codes "lives") (Unsigned 1 1000))) (number_rule (codes "boards") 4000000000 (codes "10000000"))) memory_rule)
     (value_rule (codes "jobs") (Unsigned 1 64))
 
 -- those that say how the verdict is written

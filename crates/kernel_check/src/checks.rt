@@ -2,7 +2,7 @@
 
 ghost use Rattle.std.specs.Prelude.{◌≡◌, ◌≤◌, ℕ, vec_len, IfOk, [], ◌∷◌};
 ghost use Rattle.board_model.specs.Shapes.{ram_bytes_of};
-ghost use Rattle.kernel_check.specs.Asks.{IsBoard, IsRight, IsRightWithin, IsWrong, asked_in};
+ghost use Rattle.kernel_check.specs.Asks.{IsBoard, IsRight, IsRightForLives, IsRightWithin, IsWrong, asked_in};
 ghost use Rattle.kernel_check.specs.Looks.{AreLooks, AreLooksOf, IsLookOf};
 ghost use Rattle.kernel_check.specs.Shown.{AreIn, IsIn};
 ghost use Rattle.kernel_check.specs.Says.{Says, SaysAs};
@@ -18,7 +18,7 @@ use crate::own::own_order;
 use crate::tells::{tell_judged, tell_kernel, tell_own, tell_script, tell_search, tell_stop};
 use crate::walks::Setting;
 use board_model::{Refusal, Shape, unwritten};
-use board_space::{Explored, Failures, Question, explore_board};
+use board_space::{Bound, Explored, Failures, Question, explore_board};
 use model_board::Board;
 use state_space::{Limits, Refused};
 use std::alloc::{AllocError, Global};
@@ -142,16 +142,12 @@ fn own_of(task: Task<'_>) -> Result<OwnOrder, Refusal>
     Ok(own)
 }
 
-/// The search of the orders that are asked for: of every one, or of those with at most so many preemptions.
-fn searched<R: Threads + Sync>(
-    rt: &R,
-    task: Task<'_>,
-    switches: Option<u32>,
-) -> Result<Explored, Refused>
+/// The search of the orders of a bound.
+fn searched<R: Threads + Sync>(rt: &R, task: Task<'_>, bound: Bound) -> Result<Explored, Refused>
     requires { vec_len task.kernel.now.payload ≤ ram_bytes_of task.shape.now }
     ensures { IfOk result (λ e. e ≡ record {
       asked = asked_in task.entry.options.now task.entry.shape.now task.entry.kernel.now.payload.items;
-      switches = switches;
+      bound = bound;
     }) }
 {
     let question = Question {
@@ -162,7 +158,7 @@ fn searched<R: Threads + Sync>(
             cuts: task.options.asked.cuts,
             refusals: task.options.asked.refusals,
         },
-        switches,
+        bound,
         limits: Limits {
             rows: task.options.boards as usize,
             bytes: task.options.memory,
@@ -177,7 +173,7 @@ fn judged<R: Threads + Sync>(
     rt: &R,
     task: Task<'_>,
     own: &OwnOrder,
-    switches: Option<u32>,
+    bound: Bound,
 ) -> Result<Judged, Refusal>
     requires fits { vec_len task.kernel.now.payload ≤ ram_bytes_of task.shape.now }
     requires looks { AreIn (ram_bytes_of task.shape.now) task.looks.now }
@@ -186,7 +182,7 @@ fn judged<R: Threads + Sync>(
         (asked_in task.entry.options.now task.entry.shape.now task.entry.kernel.now.payload.items)
         task.entry.looks.now judged.kinds.items) }
 {
-    let Ok(mut explored) = searched(rt, task, switches) else {
+    let Ok(mut explored) = searched(rt, task, bound) else {
         return Err(Refusal::Memory);
     };
     judge(task.setting(), &mut explored, own, task.looks)
@@ -200,12 +196,12 @@ fn is_given_up(verdict: Verdict) -> bool {
     )
 }
 
-/// Follows a kernel's orders with at most so many preemptions, and tells of the search, unless a script is asked for.
+/// Follows a kernel's orders of a bound, and tells of the search, unless a script is asked for.
 fn followed<R: Threads + Sync, W: Write>(
     rt: &R,
     task: Task<'_>,
     own: &OwnOrder,
-    switches: Option<u32>,
+    bound: Bound,
     out: &mut W,
 ) -> Result<Judged, Refusal>
     requires fits { vec_len task.kernel.now.payload ≤ ram_bytes_of task.shape.now }
@@ -214,7 +210,7 @@ fn followed<R: Threads + Sync, W: Write>(
         (asked_in task.entry.options.now task.entry.shape.now task.entry.kernel.now.payload.items)
         task.entry.looks.now judged.kinds.items) }
 {
-    let judged = judged(rt, task, own, switches)?;
+    let judged = judged(rt, task, own, bound)?;
     if task.options.tells_all() {
         tell_search(task.alloc, out, task.options, &judged.search)?;
         out.flush().map_err(|error| unwritten(error))?;
@@ -241,7 +237,7 @@ fn followed_few<R: Threads + Sync, W: Write>(
 {
     let mut best = before;
     for switches in 0..=MOST_PREEMPTIONS as u32 {
-        let judged = followed(rt, task, own, Some(switches), out)?;
+        let judged = followed(rt, task, own, Bound::Preemptions(switches), out)?;
         match judged.verdict {
             Verdict::Within(_) => best = judged,
             Verdict::Open(Stop::Switches) => {}
@@ -265,8 +261,8 @@ fn followed_all<R: Threads + Sync, W: Write>(
         (asked_in task.entry.options.now task.entry.shape.now task.entry.kernel.now.payload.items)
         task.entry.looks.now judged.kinds.items) }
 {
-    let judged = followed(rt, task, own, task.options.preemptions, out)?;
-    if task.options.preemptions.is_some() || !is_given_up(judged.verdict) {
+    let judged = followed(rt, task, own, task.options.bound, out)?;
+    if task.options.bound != Bound::Unbounded || !is_given_up(judged.verdict) {
         return Ok(judged);
     }
     tell_stop(out, task.options, &judged.search)?;
@@ -334,7 +330,9 @@ fn threads_of<R: Threads>(rt: &R, asked: Option<u32>) -> usize {
 /// It is `Holds` only where the kernel is right by what is asked: whatever turns of its harts, refusals, wakes, power cuts and power-ons
 /// come, of those that are asked for, in whatever order and number, each end shows one and the same in what is looked at, as it is
 /// expected; and from each board that they lead to, an end is reached. It is `Within` of a number only where that is so of the orders in
-/// which at most so many harts are preempted. It is `Found` only where some list of these events leads to a board that shows a failure.
+/// which at most so many harts are preempted. It is `Lives` of a number only where it is so of the orders with at most so many power-ons,
+/// but that from their boards an end is reached, or where the next power-on is due. In each of these some list of the events leads to such
+/// an end. It is `Found` only where some list of them leads to a board that shows a failure.
 #[tactic(auto, using(crate::proofs::Telling::says_fine, crate::proofs::Telling::says_found))]
 pub fn check_bytes<R: Threads + Sync, W: Write>(
     rt: &R,
@@ -345,6 +343,7 @@ pub fn check_bytes<R: Threads + Sync, W: Write>(
 ) -> Result<Verdict, CheckFault>
     ensures holds { IfOk result (λ verdict. verdict ≡ Verdict.Holds → IsRight options.now bytes.now) }
     ensures within { IfOk result (λ verdict. (k : ℕ) → verdict ≡ Verdict.Within k → IsRightWithin k options.now bytes.now) }
+    ensures lives { IfOk result (λ verdict. (n : ℕ) → verdict ≡ Verdict.Lives n → IsRightForLives n options.now bytes.now) }
     ensures found { IfOk result (λ verdict. verdict ≡ Verdict.Found → IsWrong options.now bytes.now) }
 {
     let kernel = kernel_of(alloc, bytes)?;

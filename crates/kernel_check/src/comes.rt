@@ -6,9 +6,9 @@ ghost use Rattle.board_model.specs.declared.durable.Reason.TheVariants.{SystemFa
 ghost use Rattle.model_board.specs.Events.{GoesOn, IsEnd};
 ghost use Rattle.state_space.specs.Orders.{CanEnd, Leads};
 ghost use Rattle.board_space.specs.Space.{Happens, start_of};
-ghost use Rattle.kernel_check.specs.Failures.{AreOthers, CanFail, Comes, Differ, EndsWith};
+ghost use Rattle.kernel_check.specs.Failures.{AreOthers, AreSame, CanFail, Differ};
 ghost use Rattle.kernel_check.specs.Shown.{AreIn};
-ghost use Rattle.kernel_check.specs.Tells.{EndsBy};
+ghost use Rattle.kernel_check.specs.Tells.{Comes, EndsBy, EndsWith};
 ghost use Rattle.kernel_check.specs.declared.facts.EndShown.{EndShown as AnyEnd};
 
 use crate::expected::is_as_expected;
@@ -24,7 +24,8 @@ use std::alloc::{AllocError, Global};
 
 /// Whether two ends show the same.
 pub fn shows_same(one: &EndShown, other: &EndShown) -> bool
-    ensures { result ≡ false → AreOthers one.now other.now }
+    ensures same { result ≡ true → AreSame one.now other.now }
+    ensures others { result ≡ false → AreOthers one.now other.now }
 {
     match (one, other) {
         (EndShown::On(bytes), EndShown::On(others)) => bytes.as_slice() == others.as_slice(),
@@ -71,6 +72,24 @@ fn end_of(
         }
         Ok(Some(Outcome::Ends(why))) => Ok(Some(EndShown::Shutdown(why))),
         Err(_) => Err(Refusal::Memory),
+    }
+}
+
+/// Whether an end of a kind comes: the first one that was found shows what the kind does.
+#[tactic(auto, using(crate::proofs::Ending::same_end))]
+pub fn has_end(
+    alloc: Global,
+    explored: &mut Explored,
+    looks: &[Look],
+    kind: &EndKind,
+) -> Result<bool, Refusal>
+    requires { AreIn (ram_bytes_of explored.old.asked.size) looks.now }
+    ensures comes { IfOk result (λ comes. comes ≡ true → EndsWith explored.old.asked looks.now kind.now.shown) }
+    ensures same { explored.new ≡ explored.old }
+{
+    match end_of(alloc, explored, looks, kind.row)? {
+        Some(end) => Ok(shows_same(&end, &kind.shown)),
+        None => Ok(false),
     }
 }
 

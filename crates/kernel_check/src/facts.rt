@@ -2,6 +2,7 @@
 
 use crate::given::FailureKind;
 use board_model::Reason;
+use board_space::Bound;
 
 /// What an end shows.
 #[derive(Drop)]
@@ -45,6 +46,8 @@ pub enum Stop {
     Map,
     /// With so few preemptions some order comes to no end, and more of them may lead to one.
     Switches,
+    /// With so few power-ons no order comes to an end, and more of them may lead to one.
+    Lives,
     /// It tells nothing of every order, although nothing was found. This does not happen.
     Untold,
 }
@@ -61,8 +64,8 @@ pub struct SharedWord {
 /// What a search found.
 #[derive(Drop)]
 pub struct SearchFacts {
-    /// How many harts could be preempted in an order, where that was bounded.
-    pub preemptions: Option<u32>,
+    /// How the orders were bounded.
+    pub bound: Bound,
     /// How many boards.
     pub boards: usize,
     /// Why it was not closed.
@@ -194,6 +197,8 @@ pub enum Verdict {
     Holds,
     /// Every order with at most so many preemptions was followed, and nothing was found.
     Within(u32),
+    /// Every order with at most so many power-ons was followed, and nothing was found.
+    Lives(u32),
     /// A failure was found.
     Found,
     /// Not every order was followed, and nothing was found.
@@ -213,7 +218,7 @@ impl Verdict {
         match self {
             Verdict::Holds => 0,
             Verdict::Found => 3,
-            Verdict::Within(_) | Verdict::Open(_) | Verdict::Blank => 4,
+            Verdict::Within(_) | Verdict::Lives(_) | Verdict::Open(_) | Verdict::Blank => 4,
         }
     }
 }

@@ -1,6 +1,7 @@
 //! What the words of a command line ask for.
 
 use board_model::Reason;
+use board_space::Bound;
 
 /// Bytes of memory, as a word names them.
 #[derive(Drop)]
@@ -52,8 +53,8 @@ pub struct CheckOptions {
     pub looks: Vec<LookWord>,
     /// What is done of each order.
     pub asked: Asked,
-    /// How many harts may be preempted in an order, if it is said: every order else.
-    pub preemptions: Option<u32>,
+    /// How the orders are bounded that are followed.
+    pub bound: Bound,
     /// At how many boards a search stops.
     pub boards: u32,
     /// At how many bytes of memory one stops.

@@ -43,14 +43,18 @@ these searches stops too. A preemption: a hart that does not wait makes a turn, 
 the next one is another hart's. A hart waits where some turns of its own, at most
 100, lead back to the same board.
 
+A kernel that counts its sleeps, its boots or power cuts has no last board. With
+--lives N the orders with at most N power-ons are followed, of any length: a boot,
+a resume and the power-on after a cut is one each.
+
 Status:
   0  every order was followed, and nothing was found
   1  standard error has 'sbicheck: refusal N', 'sbicheck: file' where a file could
      not be read, or what is wrong with the kernel
   2  a fault of the command line
   3  a failure was found
-  4  not every order was followed, but those with so many preemptions as it says,
-     or fewer; or nothing is looked at that the kernel writes
+  4  not every order was followed, but those with so many preemptions or power-ons
+     as it says, or fewer; or nothing is looked at that the kernel writes
 
 docs/CHECKING.md of the source says what the verdict means and what not, what
 blows up, and has the fields of --json; docs/REFUSALS.md the refusals.";
@@ -88,6 +92,9 @@ pub const REFUSALS: &str = "refusals";
 /// How many harts may be preempted.
 pub const PREEMPTIONS: &str = "preemptions";
 
+/// How many power-ons there may be.
+pub const LIVES: &str = "lives";
+
 /// At how many boards a search stops.
 pub const BOARDS: &str = "boards";
 
@@ -124,6 +131,9 @@ pub const MOST_LANES: u64 = 4;
 
 /// The most preemptions of an order.
 pub const MOST_PREEMPTIONS: u64 = 1000;
+
+/// The most power-ons of an order.
+pub const MOST_LIVES: u64 = 1000;
 
 /// The most boards at which a search stops.
 pub const MOST_BOARDS: u64 = 4_000_000_000;
@@ -167,6 +177,15 @@ fn preemptions<'a>(alloc: Global) -> Arg<'a>
 {
     let help = "Follows the orders with at most K preemptions, and no others";
     option(alloc, PREEMPTIONS, "K", help).value_parser(ValueParser::unsigned(0, MOST_PREEMPTIONS))
+}
+
+/// The option with the number of power-ons.
+fn lives<'a>(alloc: Global) -> Arg<'a>
+    ensures rule { rule_of result ≡ value_rule (codes "lives") (Unsigned 1 1000) }
+    ensures local { result.global ≡ false }
+{
+    let help = "Follows the orders with at most N power-ons, and no others; not with --preemptions";
+    option(alloc, LIVES, "N", help).value_parser(ValueParser::unsigned(1, MOST_LIVES))
 }
 
 /// The option with the reset reason.
@@ -236,6 +255,7 @@ fn with_bounds<'a>(alloc: Global, command: Command<'a>) -> Result<Command<'a>, A
     command
         .arg(several(alloc, WITHOUT, "WHAT", without))?
         .arg(preemptions(alloc))?
+        .arg(lives(alloc))?
         .arg(number(alloc, BOARDS, MOST_BOARDS, "10000000", boards))?
         .arg(memory(alloc))?
         .arg(jobs(alloc))

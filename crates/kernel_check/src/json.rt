@@ -8,6 +8,7 @@ use crate::given::Asked;
 use crate::looks::Look;
 use crate::texts::{Hex, failure_word, state_word};
 use board_model::Shape;
+use board_space::Bound;
 use serde_json::{Value, json};
 use std::alloc::{AllocError, Global};
 
@@ -102,6 +103,7 @@ fn stop_value(alloc: Global, stop: Option<Stop>) -> Result<Value, AllocError> {
         Some(Stop::Memory) => "memory",
         Some(Stop::Map) => "map",
         Some(Stop::Switches) => "preemptions",
+        Some(Stop::Lives) => "lives",
         Some(Stop::Untold) => "untold",
     };
     Ok(Value::from(word.to_string(alloc)?))
@@ -115,11 +117,19 @@ fn name_value(alloc: Global, name: &Option<String>) -> Result<Value, AllocError>
     }
 }
 
-/// A number, or null.
-fn number_value(number: Option<u32>) -> Value {
-    match number {
-        None => Value::Null,
-        Some(number) => Value::from(number),
+/// How many preemptions an order may have; null where that is not bounded.
+fn preemptions_value(bound: Bound) -> Value {
+    match bound {
+        Bound::Preemptions(most) => Value::from(most),
+        _ => Value::Null,
+    }
+}
+
+/// How many power-ons one may have; null where that is not bounded.
+fn lives_value(bound: Bound) -> Value {
+    match bound {
+        Bound::PowerOns(most) => Value::from(most),
+        _ => Value::Null,
     }
 }
 
@@ -138,7 +148,8 @@ pub fn search_value(alloc: Global, search: &SearchFacts) -> Result<Value, AllocE
     let stop = stop_value(alloc, search.stop)?;
     json!(in alloc; {
         "line": "search",
-        "preemptions": number_value(search.preemptions),
+        "preemptions": preemptions_value(search.bound),
+        "lives": lives_value(search.bound),
         "boards": search.boards,
         "stopped": stop,
         "counting": Value::Array(counting),
@@ -235,21 +246,18 @@ pub fn failure_value(alloc: Global, failure: &Failure) -> Result<Value, AllocErr
 }
 
 /// The verdict: the line "verdict".
-pub fn verdict_value(
-    alloc: Global,
-    verdict: Verdict,
-    preemptions: Option<u32>,
-) -> Result<Value, AllocError> {
+pub fn verdict_value(alloc: Global, verdict: Verdict, bound: Bound) -> Result<Value, AllocError> {
     let word = match verdict {
         Verdict::Holds => "ok",
-        Verdict::Within(_) => "within",
+        Verdict::Within(_) | Verdict::Lives(_) => "within",
         Verdict::Found => "found",
         Verdict::Open(_) | Verdict::Blank => "open",
     };
     json!(in alloc; {
         "line": "verdict",
         "verdict": word,
-        "preemptions": number_value(preemptions),
+        "preemptions": preemptions_value(bound),
+        "lives": lives_value(bound),
         "status": verdict.status()
     })
 }

@@ -21,7 +21,7 @@ use crate::standing::{is_any_trapped, is_waited_for_ever};
 use crate::told::holds;
 use crate::walks::{Setting, walk_to};
 use board_model::{RAM_BASE, Reason, Refusal};
-use board_space::Explored;
+use board_space::{Bound, Explored};
 use model_board::{Board, Power, Status};
 use std::alloc::{AllocError, Global};
 
@@ -303,14 +303,8 @@ fn shows_all(explored: &Explored, kinds: &[EndKind], looks: &[Look]) -> bool {
 }
 
 /// The verdict: what was found comes first, then whether the orders were followed, then whether each end shows something.
-fn verdict_of(
-    failures: usize,
-    stop: Option<Stop>,
-    shows: bool,
-    told: bool,
-    switches: Option<u32>,
-) -> Verdict
-    ensures { result ≡ verdict_of failures stop shows told switches }
+fn verdict_of(failures: usize, stop: Option<Stop>, shows: bool, told: bool, bound: Bound) -> Verdict
+    ensures { result ≡ verdict_of failures stop shows told bound }
 {
     if failures != 0 {
         return Verdict::Found;
@@ -321,11 +315,13 @@ fn verdict_of(
     if !shows {
         return Verdict::Blank;
     }
-    match (told, switches) {
-        (true, None) => Verdict::Holds,
-        (true, Some(switches)) => Verdict::Within(switches),
-        (false, None) => Verdict::Open(Stop::Untold),
-        (false, Some(_)) => Verdict::Open(Stop::Switches),
+    match (told, bound) {
+        (true, Bound::Unbounded) => Verdict::Holds,
+        (true, Bound::Preemptions(most)) => Verdict::Within(most),
+        (true, Bound::PowerOns(most)) => Verdict::Lives(most),
+        (false, Bound::Unbounded) => Verdict::Open(Stop::Untold),
+        (false, Bound::Preemptions(_)) => Verdict::Open(Stop::Switches),
+        (false, Bound::PowerOns(_)) => Verdict::Open(Stop::Lives),
     }
 }
 
@@ -407,13 +403,13 @@ pub fn judge(
     let rows = failing_rows(explored, &ends, scan.first_trap)?;
     let failures = failures_of(setting, explored, looks, ends.kinds.as_slice(), rows)?;
     let stop = stop_of(explored);
-    let preemptions = explored.switches();
+    let bound = explored.bound();
     let counting = match stop {
         Some(_) => counting(setting, explored)?,
         None => Vec::new(setting.alloc),
     };
     let search = SearchFacts {
-        preemptions,
+        bound,
         boards: explored.count(),
         stop,
         counting,
@@ -425,8 +421,8 @@ pub fn judge(
         failures.len(),
         stop,
         shows_all(explored, ends.kinds.as_slice(), looks),
-        holds(explored, looks, ends.kinds.as_slice())?,
-        preemptions,
+        holds(setting.alloc, explored, looks, ends.kinds.as_slice())?,
+        bound,
     );
     Ok(Judged {
         search,

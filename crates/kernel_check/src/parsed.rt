@@ -4,18 +4,19 @@ ghost use Rattle.std.specs.Prelude.{◌≡◌, ◌++◌, List, true, Some, codes
 ghost use Rattle.clap.specs.Words.{HasKind, fault_of, first_value, found_of};
 ghost use Rattle.command_line.specs.Parses.{AreParsed};
 ghost use Rattle.kernel_check.specs.Looks.{IsExpectWord, IsLookWord};
-ghost use Rattle.kernel_check.specs.Options.{AreForms, AreLooked, AreNamedBy, AreOptions, IsAsked, IsGiven, IsShown, is_among, memory_of, number_in, values_of};
+ghost use Rattle.kernel_check.specs.Options.{AreForms, AreLooked, AreNamedBy, AreOptions, IsAsked, IsBoundBy, IsBounded, IsGiven, IsShown, is_among, memory_of, number_in, values_of};
 ghost use Rattle.kernel_check.specs.Usage.{sbicheck};
 ghost use Rattle.kernel_check.specs.declared.given.LookWord.{LookWord};
 
 use crate::given::{Asked, CheckOptions, FailureKind, LookWord};
 use crate::help::{
-    BOARDS, CUTS, EXPECT, HARTS, JOBS, JSON, KERNEL, LANES, LOOK, MEMORY, MOST_BOARDS, MOST_HARTS,
-    MOST_JOBS, MOST_LANES, MOST_PAGES, MOST_PREEMPTIONS, PAGES, PREEMPTIONS, REASON, REFUSALS,
-    SHOW, TAP, WITHOUT, command,
+    BOARDS, CUTS, EXPECT, HARTS, JOBS, JSON, KERNEL, LANES, LIVES, LOOK, MEMORY, MOST_BOARDS,
+    MOST_HARTS, MOST_JOBS, MOST_LANES, MOST_LIVES, MOST_PAGES, MOST_PREEMPTIONS, PAGES,
+    PREEMPTIONS, REASON, REFUSALS, SHOW, TAP, WITHOUT, command,
 };
 use crate::words::{expect_named, failure_named, look_named, size_named};
 use board_model::Reason;
+use board_space::Bound;
 use clap::{ArgMatches, Error};
 use command_line::{parse, path_given, release, value_fault};
 use script_lang::number as number_in;
@@ -27,6 +28,18 @@ const FORMS: &str =
     "--look is NAME, NAME:BYTES or ADDRESS:BYTES, --expect NAME=HEX or ADDRESS=HEX, each of 1 to 4096 \
 bytes and from 0x80000000 on, --without cuts or refusals, --memory a number of bytes, with K, M or G after it, and --show \
 differs, stuck, traps or fails";
+
+/// What is said where two bounds are given.
+const BOUNDS: &str = "--lives comes without --preemptions: the orders of one bound are followed";
+
+/// What is said of words that the command's parser takes, where they are no options all the same.
+fn fault_text(matches: &ArgMatches<'_>) -> &'static str {
+    if matches.get_str(PREEMPTIONS).is_some() && matches.get_str(LIVES).is_some() {
+        BOUNDS
+    } else {
+        FORMS
+    }
+}
 
 /// A number that was given, `least` to `most`, in decimal digits.
 fn number(matches: &ArgMatches<'_>, id: &str, least: u64, most: u64) -> Option<u32>
@@ -154,6 +167,29 @@ fn number_given(matches: &ArgMatches<'_>, id: &str, least: u64, most: u64) -> Op
     }
 }
 
+/// The bound of the orders, where not two are given.
+fn bound_by(preemptions: Option<u32>, lives: Option<u32>) -> Option<Bound>
+    ensures { IfSome result (IsBoundBy preemptions lives) }
+{
+    match (preemptions, lives) {
+        (None, None) => Some(Bound::Unbounded),
+        (Some(most), None) => Some(Bound::Preemptions(most)),
+        (None, Some(most)) => Some(Bound::PowerOns(most)),
+        (Some(_), Some(_)) => None,
+    }
+}
+
+/// How the orders are bounded. None where two bounds are given, or one is out of its range.
+#[tactic(auto, using(crate::proofs::Bounding::bounded))]
+fn bound(matches: &ArgMatches<'_>) -> Option<Bound>
+    ensures { IfSome result (IsBounded (found_of matches.now)) }
+{
+    let preemptions = number_given(matches, PREEMPTIONS, 0, MOST_PREEMPTIONS)?;
+    let lives = number_given(matches, LIVES, 1, MOST_LIVES)?;
+    let bound = bound_by(preemptions, lives)?;
+    Some(bound)
+}
+
 /// The numbers of a command line: harts, lanes, boards, and bytes of memory.
 fn numbers(matches: &ArgMatches<'_>) -> Option<(u32, u32, u32, u64)>
     ensures harts { IfSome result (λ n. number_in 1 8 (first_value (found_of matches.now) (codes "harts")) ≡ Some n.0) }
@@ -172,10 +208,10 @@ fn numbers(matches: &ArgMatches<'_>) -> Option<(u32, u32, u32, u64)>
 fn options_in(alloc: Global, matches: &ArgMatches<'_>) -> Result<Option<CheckOptions>, AllocError>
     ensures { IfOk result (λ found. IfSome found (AreOptions (found_of matches.now))) }
 {
-    let (Some(numbers), Some(pages), Some(preemptions), Some(jobs)) = (
+    let (Some(numbers), Some(pages), Some(bound), Some(jobs)) = (
         numbers(matches),
         number_given(matches, PAGES, 1, MOST_PAGES),
-        number_given(matches, PREEMPTIONS, 0, MOST_PREEMPTIONS),
+        bound(matches),
         number_given(matches, JOBS, 1, MOST_JOBS),
     ) else {
         return Ok(None);
@@ -197,7 +233,7 @@ fn options_in(alloc: Global, matches: &ArgMatches<'_>) -> Result<Option<CheckOpt
         lanes,
         looks,
         asked,
-        preemptions,
+        bound,
         boards,
         memory,
         jobs,
@@ -223,12 +259,13 @@ pub fn options_of<'a, S: AsStr>(alloc: Global, words: &'a [S]) -> Result<CheckOp
     ensures { IfOk result (AreNamedBy (map S.text words.now)) }
 {
     let matches = parsed(alloc, words)?;
+    let text = fault_text(&matches);
     let found = options_in(alloc, &matches);
     release(matches);
     match found? {
         Some(options) => Ok(options),
         None => {
-            let fault = value_fault(command(alloc)?, FORMS)?;
+            let fault = value_fault(command(alloc)?, text)?;
             Err(fault)
         }
     }

@@ -2,7 +2,7 @@
 
 ghost use Rattle.std.specs.Prelude.{◌≡◌, List, ℕ, Result, Option, IfOk};
 ghost use Rattle.std.specs.Process.{exit_status};
-ghost use Rattle.kernel_check.specs.Asks.{IsRight, IsRightWithin};
+ghost use Rattle.kernel_check.specs.Asks.{IsRight, IsRightForLives, IsRightWithin};
 ghost use Rattle.kernel_check.specs.Verdicts.{status_after};
 ghost use Rattle.kernel_check.specs.declared.facts.Verdict.{Verdict as AnyVerdict};
 ghost use Rattle.kernel_check.specs.declared.faults.CheckFault.{CheckFault as AnyFault};
@@ -55,6 +55,7 @@ fn checked<R: Threads + Sync>(
     // Of the bytes that were read, whichever they are.
     ensures holds { IfOk result (λ verdict. verdict ≡ Verdict.Holds → (bytes : List ℕ) × IsRight options.now bytes) }
     ensures within { IfOk result (λ verdict. (k : ℕ) → verdict ≡ Verdict.Within k → (bytes : List ℕ) × IsRightWithin k options.now bytes) }
+    ensures lives { IfOk result (λ verdict. (n : ℕ) → verdict ≡ Verdict.Lives n → (bytes : List ℕ) × IsRightForLives n options.now bytes) }
 {
     let bytes = kernel_bytes(rt, &options.kernel)?;
     let Ok(mut out) = BufWriter::new(rt.alloc(), io::writer(rt)) else {

@@ -99,7 +99,7 @@ fn tell_values<W: Write>(
     write_value(
         alloc,
         out,
-        verdict_value(alloc, judged.verdict, judged.search.preemptions),
+        verdict_value(alloc, judged.verdict, judged.search.bound),
     )
 }
 
@@ -114,7 +114,10 @@ fn tell_words<W: Write>(
         let kinds = judged.kinds.as_slice();
         write_failure(out, failure, kinds, looks).map_err(|error| unwritten(error))?;
     }
-    if matches!(judged.verdict, Verdict::Holds | Verdict::Within(_)) {
+    if matches!(
+        judged.verdict,
+        Verdict::Holds | Verdict::Within(_) | Verdict::Lives(_)
+    ) {
         write_unseen(out, judged.kinds.as_slice(), looks).map_err(|error| unwritten(error))?;
     }
     let search = &judged.search;

@@ -7,6 +7,7 @@ use crate::facts::{
 use crate::given::FailureKind;
 use crate::looks::Look;
 use board_model::{Reason, Shape};
+use board_space::Bound;
 use std::fmt;
 use std::io::{self, Write};
 
@@ -172,11 +173,26 @@ impl fmt::Display for SharedText<'_> {
     }
 }
 
+/// How orders are bounded; nothing where they are not.
+#[derive(Drop)]
+pub struct BoundText(pub Bound);
+
+impl fmt::Display for BoundText {
+    fn fmt<W: fmt::Write>(&self, f: &mut fmt::Formatter<W>) -> fmt::Result {
+        let most = match self.0 {
+            Bound::Unbounded => return Ok(()),
+            Bound::Preemptions(most) => Count(u64::from(most), "preemption"),
+            Bound::PowerOns(most) => Count(u64::from(most), "power-on"),
+        };
+        write!(f, "at most {most}")
+    }
+}
+
 /// Writes how far a search went.
 pub fn write_search<W: Write>(out: &mut W, search: &SearchFacts) -> io::Result<()> {
-    if let Some(preemptions) = search.preemptions {
-        let preemptions = Count(u64::from(preemptions), "preemption");
-        write!(out, "at most {preemptions}: ")?;
+    if search.bound != Bound::Unbounded {
+        let bound = BoundText(search.bound);
+        write!(out, "{bound}: ")?;
     }
     let boards = Count(search.boards as u64, "board");
     let shared = Count(search.shared.len() as u64, "shared word");
@@ -202,6 +218,9 @@ fn write_counting<W: Write>(out: &mut W, search: &SearchFacts) -> io::Result<()>
     for name in &search.counting {
         write!(out, "{mark}{name}")?;
         mark = ", ";
+    }
+    if search.bound == Bound::Unbounded {
+        write!(out, "; --lives N bounds what counts sleeps or boots")?;
     }
     writeln!(out, "")
 }

@@ -5,11 +5,13 @@ ghost use Rattle.board_model.specs.Shapes.{ram_bytes_of};
 ghost use Rattle.kernel_check.specs.Shown.{AreIn, looked};
 ghost use Rattle.kernel_check.specs.Tells.{EndsBy, EveryOrder, HoldsAs, IsOnWith, Shows};
 
+use crate::comes::has_end;
 use crate::expected::{is_as_expected, shows_some};
 use crate::facts::{EndKind, EndShown};
 use crate::looks::Look;
 use board_model::{Reason, Refusal};
 use board_space::{Explored, Outcome};
+use std::alloc::Global;
 
 /// Whether every order that is asked for shows at its end that these bytes of RAM are so.
 fn is_rest(explored: &mut Explored, from: usize, to: usize, bytes: &[u8]) -> Result<bool, Refusal>
@@ -77,7 +79,12 @@ fn is_told(explored: &mut Explored, looks: &[Look], shown: &EndShown) -> Result<
 }
 
 /// Whether nothing is wrong, by what the search tells of every order: its ends are all of one kind, which is expected and shows something.
-pub fn holds(explored: &mut Explored, looks: &[Look], kinds: &[EndKind]) -> Result<bool, Refusal>
+pub fn holds(
+    alloc: Global,
+    explored: &mut Explored,
+    looks: &[Look],
+    kinds: &[EndKind],
+) -> Result<bool, Refusal>
     requires { AreIn (ram_bytes_of explored.old.asked.size) looks.now }
     ensures holds { IfOk result (λ holds. holds ≡ true → HoldsAs explored.old looks.now kinds.now) }
     ensures same { explored.new ≡ explored.old }
@@ -86,6 +93,9 @@ pub fn holds(explored: &mut Explored, looks: &[Look], kinds: &[EndKind]) -> Resu
         return Ok(false);
     };
     if !is_as_expected(looks, &kind.shown) || !shows_some(looks, &kind.shown) {
+        return Ok(false);
+    }
+    if !has_end(alloc, explored, looks, kind)? {
         return Ok(false);
     }
     is_told(explored, looks, &kind.shown)

@@ -2,13 +2,14 @@
 
 use crate::facts::{SearchFacts, Stop, Verdict};
 use crate::given::Asked;
-use crate::texts::Count;
+use crate::texts::{BoundText, Count};
+use board_space::Bound;
 use std::fmt;
 use std::io::{self, Write};
 
 /// The orders that were followed, and what does not happen in them.
 #[derive(Drop)]
-struct OrdersText(Asked, Option<u32>);
+struct OrdersText(Asked, Bound);
 
 /// What does not happen in orders.
 fn left_out(asked: Asked) -> &'static str {
@@ -22,11 +23,11 @@ fn left_out(asked: Asked) -> &'static str {
 
 impl fmt::Display for OrdersText {
     fn fmt<W: fmt::Write>(&self, f: &mut fmt::Formatter<W>) -> fmt::Result {
-        let OrdersText(asked, preemptions) = self;
+        let OrdersText(asked, bound) = self;
         f.write_str("in every order of its harts")?;
-        if let Some(preemptions) = preemptions {
-            let preemptions = Count(u64::from(*preemptions), "preemption");
-            write!(f, " with at most {preemptions}")?;
+        if *bound != Bound::Unbounded {
+            let bound = BoundText(*bound);
+            write!(f, " with {bound}")?;
         }
         f.write_str(left_out(*asked))
     }
@@ -39,6 +40,7 @@ fn stop_words(stop: Stop) -> &'static str {
         Stop::Memory => "so much memory as --memory says",
         Stop::Map => "a turn that broke the map of what harts touch",
         Stop::Switches => "its end, with orders that come to none",
+        Stop::Lives => "its end, with no order that comes to one",
         Stop::Untold => "its end, and it tells nothing of every order",
     }
 }
@@ -50,13 +52,15 @@ pub fn write_stop<W: Write>(out: &mut W, stop: Stop) -> io::Result<()> {
 }
 
 /// Writes that nothing was found, and why not every order was followed.
-fn write_open<W: Write>(out: &mut W, stop: Stop, preemptions: Option<u32>) -> io::Result<()> {
-    if let (Stop::Switches, Some(preemptions)) = (stop, preemptions) {
-        let preemptions = Count(u64::from(preemptions), "preemption");
-        return writeln!(
-            out,
-            "open: nothing was found, but with at most {preemptions} some orders come to no end"
-        );
+fn write_open<W: Write>(out: &mut W, stop: Stop, bound: Bound) -> io::Result<()> {
+    let orders = match stop {
+        Stop::Switches => "some orders come to no end",
+        Stop::Lives => "no order comes to an end",
+        _ => "",
+    };
+    if !orders.is_empty() {
+        let bound = BoundText(bound);
+        return writeln!(out, "open: nothing was found, but with {bound} {orders}");
     }
     let stop = stop_words(stop);
     writeln!(
@@ -72,10 +76,17 @@ pub fn write_verdict<W: Write>(
     search: &SearchFacts,
     asked: Asked,
 ) -> io::Result<()> {
-    let orders = OrdersText(asked, search.preemptions);
+    let orders = OrdersText(asked, search.bound);
     match (verdict, search.stop) {
         (Verdict::Holds, _) => writeln!(out, "ok: {orders}, it ends with this"),
         (Verdict::Within(most), _) => writeln!(out, "ok up to {most}: {orders}, it ends with this"),
+        (Verdict::Lives(most), _) => {
+            let most = Count(u64::from(most), "power-on");
+            writeln!(
+                out,
+                "ok up to {most}: {orders}, it ends with this, or the next power-on is due"
+            )
+        }
         (Verdict::Found, None) => {
             writeln!(out, "found: {orders}, there is no failure of another kind")
         }
@@ -86,7 +97,7 @@ pub fn write_verdict<W: Write>(
                 "found: there may be failures of other kinds, since the search stopped at {stop}"
             )
         }
-        (Verdict::Open(stop), _) => write_open(out, stop, search.preemptions),
+        (Verdict::Open(stop), _) => write_open(out, stop, search.bound),
         (Verdict::Blank, _) => {
             writeln!(
                 out,

@@ -1,5 +1,5 @@
 -- A set that is closed but for local turns speaks of each state that any events lead to.
-use Rattle.std.proofs.Common.{⊎_elim, ℕ, zero, suc, ◌+◌, ◌<◌, List, [], ◌∷◌, ◌++◌, length, refl, sym, subst, arith, length-append}
+use Rattle.std.proofs.Common.{⊎_elim, ℕ, zero, suc, ◌+◌, ◌<◌, List, [], ◌∷◌, ◌++◌, length, refl, sym, ap, subst, arith, length-append}
 use Rattle.state_space.specs.Orders.{Runs, Leads, Only, Chain, Reduction, IsClosed, Meets, CanEnd}
 
 pub runs_on : {State Event : Type 0} (does : Event → State → State → Type 0) (u v : List Event) (b c d : State) → Runs does u b c → Runs does v c d → Runs does (u ++ v) b d
@@ -18,6 +18,12 @@ pub leads_lifted : {State Event Step : Type 0} (does : Event → State → State
 leads_lifted does steps lift [] b c run = ([], run)
 leads_lifted does steps lift (s ∷ w) b c run =
     leads_on does b run.0 c (lift s b run.0 run.1) (leads_lifted does steps lift w run.0 c run.2)
+
+-- the same events, of what is looked at of each state
+pub runs_along : {A B Event : Type 0} (does : Event → A → A → Type 0) (seen : Event → B → B → Type 0) (look : A → B) → ((e : Event) (b c : A) → does e b c → seen e (look b) (look c)) → (w : List Event) (b c : A) → Runs does w b c → Runs seen w (look b) (look c)
+runs_along does seen look each [] b c is = ap look is
+runs_along does seen look each (e ∷ w) b c run =
+    (look run.0, each e b run.0 run.1, runs_along does seen look each w run.0 c run.2)
 
 module _ {State Event : Type 0} (does : Event → State → State → Type 0) (turn : ℕ → Event) (ends : State → Type 0) (keeps : Event → State → Type 0) (local : ℕ → State → State → Type 0) (reduction : Reduction does turn ends keeps local) where
   -- local turns are events

@@ -9,5 +9,7 @@ pub mod Growth
 pub mod Dead
 pub mod Walked
 pub mod Bounded
+pub mod Listing
 pub mod Priced
+pub mod Spending
 pub mod Carrying

@@ -1,11 +1,11 @@
 -- What a successor costs, and rows with what is left.
-use Rattle.std.proofs.Common.{◌≡◌, ◌⊎◌, ⊎_elim, inl, inr, ℕ, ◌+◌, ◌<◌, ◌≤◌, Bool, true, false, List, Option, Some, None, refl, sym, ap, ◌∙◌, subst, arith}
+use Rattle.std.proofs.Common.{◌≡◌, ◌⊎◌, ⊎_elim, inl, inr, ℕ, ◌+◌, ◌≤◌, Bool, true, false, List, Option, Some, None, refl, sym, ap, ◌∙◌, subst, arith}
 use Rattle.std.specs.Prelude.{◌-◌, drop, take, length}
 use Rattle.std.proofs.lemmas.List.{take_all}
-use Rattle.std.proofs.lemmas.Bool.{cases_eq, cases_lt}
+use Rattle.std.proofs.lemmas.Bool.{cases_eq}
 use Rattle.state_space.specs.Bounded.{Budget, IsFreeBy, PaysBy, Richer}
 use Rattle.state_space.specs.Successors.{found_count, found_event, found_row}
-use Rattle.state_space.specs.Switched.{within_rules, last_number, row_within, StandsWithin, IsPriced, IsSaid, IsListed, AreListed, IsTold}
+use Rattle.state_space.specs.Switched.{within_rules, last_number, row_within, StandsWithin, IsPriced, IsSaid, AreListed}
 use Rattle.state_space.specs.Systems.{Rules, IsExpanded, Stay, UnlessHalts}
 use Rattle.state_space.specs.declared.systems.Expansion.{Expansion}
 use Rattle.state_space.specs.declared.systems.Expansion.TheVariants.{Goes, Ends, Halts}
@@ -72,54 +72,6 @@ one_price free w (Some p) u v a b = same_budget v u (b.0 ∙ sym a.0) (⊎_elim
   where
     clash : (free ≡ true) ⊎ (w.last ≡ Some p) → free ≡ false → (w.last ≡ Some p → ⊥) → ⊥
     clash so was other = ⊎_elim (λ is. true_false free is was) other so
-
--- ---- successors one by one
-module _ (by : ℕ → Option ℕ) (free : Bool) (w : Budget) (inner : Successors) where
-  pub listed_none : (found : Successors) → found_count found ≡ 0 → AreListed by free w inner found 0
-  listed_none found none = record {
-    complete = λ i u lt priced. absurd (omega arith);
-    sound = λ k lt. absurd (omega (arith, none));
-  }
-
-  kept : (old new : Successors) (i k : ℕ) (u : Budget) → found_count old ≤ found_count new → ((j : ℕ) → j < found_count old → (found_event new j ≡ found_event old j) × (found_row new j ≡ found_row old j)) → IsListed inner old i u k → IsListed inner new i u k
-  kept old new i k u le grown is = record {
-    within = omega (arith, le, is.within);
-    event = (grown k is.within).0 ∙ is.event;
-    row = (grown k is.within).1 ∙ is.row;
-  }
-
-  pub listed_more : (old new : Successors) (n : ℕ) → AreListed by free w inner old n → IsTold by free w inner old new n → AreListed by free w inner new (n + 1)
-  listed_more old new n listed step = ⊎_elim one_more none_more step.told
-    where
-      one_more : (u : Budget) × IsPriced free w (by (found_event inner n)) u × ((v : Budget) → IsPriced free w (by (found_event inner n)) v → v ≡ u) × (found_count new ≡ found_count old + 1) × IsListed inner new n u (found_count old) → AreListed by free w inner new (n + 1)
-      one_more x = record {
-        complete = λ i v lt priced. ⊎_elim
-            (λ below. let was = listed.complete i v below priced in (was.0, kept old new i was.0 v (omega (arith, x.3)) step.grown was.1))
-            (λ last.
-            let is : i ≡ n = omega (arith, last, lt) in
-            let same : v ≡ x.0 = x.2 v (subst (λ (m : ℕ). IsPriced free w (by (found_event inner m)) v) is priced) in
-            (found_count old, subst (λ (m : ℕ). IsListed inner new m v (found_count old)) (sym is) (subst (λ (b : Budget). IsListed inner new n b (found_count old)) (sym same) x.4)))
-            (cases_lt i n);
-        sound = λ k lt. ⊎_elim
-            (λ below. let was = listed.sound k below in (was.0, was.1, omega (arith, was.2), was.3, kept old new was.0 k was.1 (omega (arith, x.3)) step.grown was.4))
-            (λ last.
-            let is : k ≡ found_count old = omega (arith, last, lt, x.3) in
-            (n, x.0, omega arith, x.1, subst (λ (m : ℕ). IsListed inner new n x.0 m) (sym is) x.4))
-            (cases_lt k (found_count old));
-      }
-
-      none_more : (found_count new ≡ found_count old) × ((v : Budget) → IsPriced free w (by (found_event inner n)) v → ⊥) → AreListed by free w inner new (n + 1)
-      none_more x = record {
-        complete = λ i v lt priced. ⊎_elim
-            (λ below. let was = listed.complete i v below priced in (was.0, kept old new i was.0 v (omega (arith, x.0)) step.grown was.1))
-            (λ last.
-            let is : i ≡ n = omega (arith, last, lt) in
-            absurd (x.1 v (subst (λ (m : ℕ). IsPriced free w (by (found_event inner m)) v) is priced)))
-            (cases_lt i n);
-        sound = λ k lt.
-            let was = listed.sound k (omega (arith, x.0, lt)) in
-            (was.0, was.1, omega (arith, was.2), was.3, kept old new was.0 k was.1 (omega (arith, x.0)) step.grown was.4);
-      }
 
 -- ---- all of them
 pub expanded_within : {State : Type 0} (rules : Rules State) (by : ℕ → Option ℕ) (waits : ℕ → State → Type 0) (switches : ℕ) (stands : List ℕ → State → Type 0) (free : Bool) (w : Budget) (b : State) (inner found : Successors)

@@ -67,17 +67,21 @@ module _ {State : Type 0} (rules : Rules State) (stands : List ℕ → State →
   pub row_reached : (k : ℕ) → k < count_of graph → IsReached k
   row_reached k within = reach_below (suc k) k (omega arith) within
 
-  -- where a row reaches an end, so does its state
-  pub end_reached : (k : ℕ) (b : State) → ReachesEnd rules.goes graph k → stands (row_at graph k) b → CanEnd (Moves rules) rules.goes rules.is_end b
-  end_reached k b reaches has = along reaches.1.0 k b reaches.0 reaches.1.1 reaches.2 has
+  -- where steps lead from a row to one of a kind, whose states are of another, moves lead from its state to such a state
+  pub kind_reached : (Row : ℕ → Type 0) (Is : State → Type 0) → ((m : ℕ) (c : State) → Row m → stands (row_at graph m) c → Is c) → (k : ℕ) (b : State) → CanEnd (StepOf graph) (λ i. rules.goes (event_of graph i)) Row k → stands (row_at graph k) b → CanEnd (Moves rules) rules.goes Is b
+  kind_reached Row Is each k b reaches has = along reaches.1.0 k b reaches.0 reaches.1.1 reaches.2 has
     where
-      along : (w : List ℕ) (k : ℕ) (b : State) (last : ℕ) → Runs (Only (λ i. rules.goes (event_of graph i)) (StepOf graph)) w k last → IsEnd graph last → stands (row_at graph k) b → CanEnd (Moves rules) rules.goes rules.is_end b
-      along [] k b last is end has =
-          (b, ([], refl), (searched.ends k b (subst (λ m. IsEnd graph m) is end).0 has).0 (subst (λ m. IsEnd graph m) is end))
+      along : (w : List ℕ) (k : ℕ) (b : State) (last : ℕ) → Runs (Only (λ i. rules.goes (event_of graph i)) (StepOf graph)) w k last → Row last → stands (row_at graph k) b → CanEnd (Moves rules) rules.goes Is b
+      along [] k b last is end has = (b, ([], refl), each k b (subst Row is end) has)
       along (i ∷ w) k b last run end has =
           let to = stepped i k run.0 b run.1.1 has in
           let on = along w run.0 to.0 last run.2 end to.2 in
           (on.0, leads_by (Only rules.goes (Moves rules)) (event_of graph i) b to.0 on.0 (run.1.0, to.1) on.1, on.2)
+
+  -- where a row reaches an end, so does its state
+  pub end_reached : (k : ℕ) (b : State) → ReachesEnd rules.goes graph k → stands (row_at graph k) b → CanEnd (Moves rules) rules.goes rules.is_end b
+  end_reached k b reaches has =
+      kind_reached (IsEnd graph) rules.is_end (λ m c end at. (searched.ends m c end.0 at).0 end) k b reaches has
 
   module _ (all : expanded_of graph ≡ count_of graph) where
     -- A set of rows from which each step of a kind leads back into it makes a set of states that is closed under such steps.

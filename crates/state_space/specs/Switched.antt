@@ -1,7 +1,7 @@
 -- A system within a number of switches: its states, each with what is left there.
-use Rattle.std.specs.Prelude.{◌≡◌, ◌⊎◌, ℕ, suc, ◌+◌, ◌<◌, Bool, true, false, List, ◌∷◌, Option, None, Some}
+use Rattle.std.specs.Prelude.{◌≡◌, ◌⊎◌, ℕ, suc, Bool, true, false, List, ◌∷◌, Option, None, Some}
 use Rattle.state_space.specs.Bounded.{Budget, IsFreeBy, PaysBy, Richer}
-use Rattle.state_space.specs.Successors.{found_count, found_event, found_row}
+use Rattle.state_space.specs.Listed.{ListsAll, ListsNext}
 use Rattle.state_space.specs.Systems.{Rules}
 use Rattle.state_space.specs.declared.found.Successors.{Successors}
 
@@ -46,21 +46,10 @@ IsPriced free w (Some p) u =
     × ((((free ≡ true) ⊎ (w.last ≡ Some p)) × (u.left ≡ w.left))
     ⊎ ((free ≡ false) × (w.last ≡ Some p → ⊥) × (w.left ≡ suc u.left)))
 
--- the successor of that number stands among these, with that budget
-pub record IsListed (inner found : Successors) (i : ℕ) (u : Budget) (k : ℕ) : Type 0 where
-  pub within : k < found_count found
-  pub event : found_event found k ≡ found_event inner i
-  pub row : found_row found k ≡ row_within u (found_row inner i)
-
 -- of the first so many successors, each that can be paid is listed, and no other
-pub record AreListed (by : ℕ → Option ℕ) (free : Bool) (w : Budget) (inner found : Successors) (n : ℕ) : Type 0 where
-  pub complete : (i : ℕ) (u : Budget) → i < n → IsPriced free w (by (found_event inner i)) u → (k : ℕ) × IsListed inner found i u k
-  pub sound : (k : ℕ) → k < found_count found → (i : ℕ) × (u : Budget) × (i < n) × IsPriced free w (by (found_event inner i)) u × IsListed inner found i u k
+abbrev pub AreListed : (ℕ → Option ℕ) → Bool → Budget → Successors → Successors → ℕ → Type 0
+AreListed by free w = ListsAll (λ event u. IsPriced free w (by event) u) row_within
 
 -- the next one was listed, or can't be paid
-pub record IsTold (by : ℕ → Option ℕ) (free : Bool) (w : Budget) (inner old new : Successors) (n : ℕ) : Type 0 where
-  pub grown : (k : ℕ) → k < found_count old → (found_event new k ≡ found_event old k) × (found_row new k ≡ found_row old k)
-  pub told :
-      ((u : Budget) × IsPriced free w (by (found_event inner n)) u × ((v : Budget) → IsPriced free w (by (found_event inner n)) v → v ≡ u)
-      × (found_count new ≡ found_count old + 1) × IsListed inner new n u (found_count old))
-      ⊎ ((found_count new ≡ found_count old) × ((v : Budget) → IsPriced free w (by (found_event inner n)) v → ⊥))
+abbrev pub IsTold : (ℕ → Option ℕ) → Bool → Budget → Successors → Successors → Successors → ℕ → Type 0
+IsTold by free w = ListsNext (λ event u. IsPriced free w (by event) u) row_within

@@ -2,6 +2,7 @@
 #![tactic(auto)]
 
 mod carries;
+mod counted;
 mod distinct;
 mod ends;
 mod explores;
@@ -26,6 +27,7 @@ mod word_pool;
 mod workers;
 
 pub use carries::Carries;
+pub use counted::{Counting, Counts};
 pub use distinct::Distinct;
 pub use ends::{at_end, first_dead, reaching};
 pub use explores::explore_by;

@@ -9,5 +9,5 @@ abbrev pub invariant-loop-row : goal.invariant-loop-row
 invariant-loop-row l = record {
   rows : l.space.rows ≡ l.fn.space.rows;
   setting : setting_of l.space ≡ setting_of l.fn.space;
-  all : AllShow l.from l.to (StandsBy l.switches (StandsAll l.fn.space.leaves l.fn.space.rows)) l.graph l.row l.all;
+  all : AllShow l.from l.to (StandsBy l.bound (StandsAll l.fn.space.leaves l.fn.space.rows)) l.graph l.row l.all;
 }

@@ -1,7 +1,7 @@
-use Rattle.std.proofs.Common.{ℕ, List, true, ◌≡◌, ◌∙◌, ◌<◌, IfOk, IfSome, sym, subst, arith}
+use Rattle.std.proofs.Common.{ℕ, List, ◌∙◌, ◌<◌, IfOk, IfSome, sym, subst, arith}
 use Rattle.model_board.specs.Boards.{Board}
 use Rattle.model_board.specs.Events.{IsEnd}
-use Rattle.state_space.specs.Graphs.{count_of, expanded_of, row_at}
+use Rattle.state_space.specs.Graphs.{count_of, expanded_of}
 use Rattle.state_space.specs.Orders.{Leads}
 use Rattle.board_space.specs.Covering.{StandsAll}
 use Rattle.board_space.specs.Few.{AskedOrders}
@@ -19,26 +19,26 @@ shown_at-requires-clause-known c =
     let graph = c.self.inside.graph in
     let low : c.args.row < count_of graph = omega (arith, c.if-expanded-row.false, c.expanded.ensures, c.self.invariant.most) in
     let known = c.self.invariant.known c.args.row low in
-    (known.0, subst (λ (l : List ℕ). StandsBy c.self.inside.switches (StandsAll space.leaves space.rows) l known.0) (sym c.row.ensures.row) known.1)
+    (known.0, subst (λ (l : List ℕ). StandsBy c.self.inside.bound (StandsAll space.leaves space.rows) l known.0) (sym c.row.ensures.row) known.1)
 
 pub returns-clause-ends : goal.returns-clause-ends
 returns-clause-ends c =
     let space = c.self.inside.space in
     let graph = c.self.inside.graph in
-    let switches = c.self.inside.switches in
+    let bound = c.self.inside.bound in
     let asked = asked_of space in
     let from = c.args.from in
     let to = c.args.to in
     let here : c.args.row < expanded_of graph = omega (arith, c.if-expanded-row.false, c.expanded.ensures) in
     let low : c.args.row < count_of graph = omega (arith, here, c.self.invariant.most) in
-    let led = c.every_order.ensures.reached asked (map_in space.map) switches space graph c.self.invariant.by c.args.row low in
+    let led = c.every_order.ensures.reached asked (map_in space.map) bound space graph c.self.invariant.by c.args.row low in
     let end : IsEnd led.0 = (c.self.invariant.ends c.args.row led.0 here led.1).0 (here, sym c.is_end.ensures ∙ c.if-not-is_end.false) in
     subst (λ (a : AskedOrders). IfOk c.shown_at.result (λ found. IfSome found (λ outcome. (b : Board) × Leads (Happens a.asked) (start_of a.asked) b × IsEnd b × Shows from to outcome b))) c.self.view_is
-    (ok_some c.shown_at.result (λ outcome. (b : Board) → StandsBy switches (StandsAll space.leaves space.rows) c.row.result.now b → Shows from to outcome b) (λ outcome. (b : Board) × Leads (Happens asked) (start_of asked) b × IsEnd b × Shows from to outcome b)
+    (ok_some c.shown_at.result (λ outcome. (b : Board) → StandsBy bound (StandsAll space.leaves space.rows) c.row.result.now b → Shows from to outcome b) (λ outcome. (b : Board) × Leads (Happens asked) (start_of asked) b × IsEnd b × Shows from to outcome b)
     (λ outcome shows. (
       led.0,
       led.2,
       end,
-      shows led.0 (subst (λ (l : List ℕ). StandsBy switches (StandsAll space.leaves space.rows) l led.0) (sym c.row.ensures.row) led.1),
+      shows led.0 (subst (λ (l : List ℕ). StandsBy bound (StandsAll space.leaves space.rows) l led.0) (sym c.row.ensures.row) led.1),
     ))
     c.shown_at.ensures.shows)

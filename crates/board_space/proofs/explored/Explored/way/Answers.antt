@@ -11,10 +11,10 @@ pub returns : goal.returns
 returns c =
     let space = c.self.inside.space in
     let graph = c.self.inside.graph in
-    let switches = c.self.inside.switches in
+    let bound = c.self.inside.bound in
     subst (λ (a : AskedOrders). IfOk c.way_to.result (λ found. IfSome found (λ way. IsWayOf a.asked way.items))) c.self.view_is
     (ok_some c.way_to.result (λ way. IsWay graph way.items c.args.row) (λ way. IsWayOf (asked_of space) way.items)
     (λ way is.
-    let led = c.every_order.ensures.ways (asked_of space) (map_in space.map) switches space graph c.self.invariant.by way.items c.args.row is in
+    let led = c.every_order.ensures.ways (asked_of space) (map_in space.map) bound space graph c.self.invariant.by way.items c.args.row is in
     (map_in space.map, led.0, led.1, led.2, led.3))
     c.way_to.ensures)

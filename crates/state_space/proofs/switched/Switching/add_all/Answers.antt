@@ -1,7 +1,7 @@
 use Rattle.std.proofs.Common.{◌≡◌, ◌∙◌, ℕ, subst, arith}
 use Rattle.state_space.specs.Successors.{found_count}
-use Rattle.state_space.specs.Switched.{AreListed}
-use Rattle.state_space.proofs.Priced.{listed_more}
+use Rattle.state_space.specs.Switched.{AreListed, IsPriced, row_within}
+use Rattle.state_space.proofs.Listing.{listed_more}
 use Rattle.state_space.proofs.switched.Switching.add_all.Goals as goal
 
 pub loop-index-preserved : goal.loop-index-preserved
@@ -12,7 +12,7 @@ loop-index-preserved g c =
       switches = until.switches;
       width = c.add.ensures.width ∙ until.width;
       listed = λ w last left.
-          listed_more g.S.Preempted.by c.args.is_free w c.args.successors.now c.loop-index.found c.add.new.found c.loop-index.index (until.listed w last left)
+          listed_more (λ event u. IsPriced c.args.is_free w (g.S.Preempted.by event) u) row_within c.args.successors.now c.loop-index.found c.add.new.found c.loop-index.index (until.listed w last left)
           (c.in_ok-add.ensures.told w last left);
     }
 
