@@ -1,6 +1,6 @@
 -- What was found by a system beside the one that is searched is carried over, and entered.
 use Rattle.std.proofs.Common.{◌≡◌, ⊎_elim, ℕ, ◌+◌, ◌<◌, ◌≤◌, Bool, true, false, if◌then◌else◌, List, [], ◌∷◌, ◌++◌, length, get_or, take, drop, refl, sym, ap, subst, ◌∙◌, arith, length-append}
-use Rattle.std.specs.Prelude.{All, ◌↔◌, ◌≢◌, IfSome, None, Option, Some, slice_index}
+use Rattle.std.specs.Prelude.{All, ◌↔◌, ◌≢◌, slice_index}
 use Rattle.std.proofs.lemmas.Bool.{cases_lt}
 use Rattle.std.proofs.lemmas.List.{take_at}
 use Rattle.std.proofs.lemmas.List.Elements.{All-push, All-same}
@@ -9,7 +9,8 @@ use Rattle.state_space.specs.declared.graph.Graph.{Graph}
 use Rattle.state_space.specs.declared.workers.Made.{Made}
 use Rattle.state_space.specs.Carried.{AreMade, AreTargets, IsCarried, IsLater, IsMade, IsPushed, IsTarget, NOWHERE}
 use Rattle.state_space.specs.Graphs.{count_of, expanded_of, row_at, IsAdded, IsSearched, IsWhole}
-use Rattle.state_space.specs.Successors.{found_count, found_event, found_row}
+use Rattle.state_space.specs.Numbered.{row_width}
+use Rattle.state_space.specs.Successors.{found_count, found_event, found_row, found_width}
 use Rattle.state_space.specs.Systems.{Rules, Moves, IsExpanded, Stay}
 use Rattle.state_space.proofs.Growth.{earlier_one, last_one}
 use Rattle.state_space.proofs.Grown.{expanded_moved, searched_grown}
@@ -23,28 +24,28 @@ pub pushed_each : {X : Type 0} (P : X → Type 0) (done : Bool) (before now : Li
 pushed_each P true before now x is each here = All-same P now (before ++ x ∷ []) is (All-push P before x each here)
 pushed_each P false before now x is each here = All-same P now before is each
 
--- what is known of an option's value
-pub some_too : {X : Type 0} (o : Option X) (P Q R : X → Type 0) → ((x : X) → P x → Q x → R x) → IfSome o P → IfSome o Q → IfSome o R
-some_too None P Q R so p q = p
-some_too (Some x) P Q R so p q = so x p q
+-- the tables grow, in whose numbers successors are
+expanded_stays : {State : Type 0} (rules : Rules State) (stands stands' : List ℕ → State → Type 0) (found : Successors) (b : State) → Stay stands stands' → IsExpanded rules stands (found_count found) (found_event found) (found_row found) b → IsExpanded rules stands' (found_count found) (found_event found) (found_row found) b
+expanded_stays rules stands stands' found b stays is =
+    expanded_moved rules stands stands' (found_count found) (found_count found) (found_event found) (found_event found) (found_row found) (found_row found) b
+    (λ r c here. (stays r c c here).0 here) refl (λ i less. refl) (λ i less. refl) is
 
 module _ {State : Type 0} (rules : Rules State) where
   -- each successor stands for something
-  pub made_known : (main own : List ℕ → State → Type 0) (graph : Graph) (made : Made) → ((k : ℕ) → k < count_of graph → (b : State) × main (row_at graph k) b) → IsMade rules main own graph made → (i : ℕ) → i < found_count made.found → (b : State) × own (found_row made.found i) b
-  made_known main own graph made each is i lt =
+  pub made_known : (main own : List ℕ → State → Type 0) (graph : Graph) (made : Made) → ((k : ℕ) → k < count_of graph → (b : State) × main (row_at graph k) b) → IsMade rules main own graph made → made.is_known ≡ false → (i : ℕ) → i < found_count made.found → (b : State) × own (found_row made.found i) b
+  made_known main own graph made each is not i lt =
       let known = each made.row is.within in
-      let to = (is.told known.0 known.1).sound i lt in
+      let to = (is.told not known.0 known.1).sound i lt in
       (to.0, to.2)
 
   -- ---- the other system's tables grow
   pub made_stays : (main own own' : List ℕ → State → Type 0) (graph : Graph) (made : Made) → ((k : ℕ) → k < count_of graph → (b : State) × main (row_at graph k) b) → Stay own own' → IsMade rules main own graph made → IsMade rules main own' graph made
   made_stays main own own' graph made each stays is = record {
     within = is.within;
-    told = λ b has. expanded_moved rules own own' (found_count made.found) (found_count made.found) (found_event made.found) (found_event made.found) (found_row made.found) (found_row made.found) b (λ r c here. (stays r c c here).0 here) refl (λ i less. refl) (λ i less. refl) (is.told b has);
-    targets = λ i lt within some.
-        let was = is.targets i lt within some in
-        let known = made_known main own graph made each is i lt in
-        (was.0, λ b has. was.1 b ((stays (found_row made.found i) known.0 b known.1).1 has));
+    told = λ not b has. expanded_stays rules own own' made.found b stays (is.told not b has);
+    known = is.known;
+    width = is.width;
+    targets = is.targets;
     ended = is.ended;
   }
 
@@ -55,13 +56,12 @@ module _ {State : Type 0} (rules : Rules State) where
   pub made_later : (main main' own : List ℕ → State → Type 0) (old new : Graph) (made : Made) → IsSearched rules main old → IsLater main main' old new → IsMade rules main own old made → IsMade rules main' own new made
   made_later main main' own old new made searched later is = record {
     within = omega (arith, is.within, later.grown);
-    told = λ b has. is.told b (back b has);
+    told = λ not b has. is.told not b (back b has);
+    known = λ here b has. expanded_stays rules main main' made.found b later.stays (is.known here b (back b has));
+    width = λ here. is.width here ∙ sym later.width;
     targets = λ i lt within some.
         let was = is.targets i lt within some in
-        let at = slice_index made.targets.items i in (
-          omega (arith, was.0, later.grown),
-          λ b has. subst (λ r. main' r b) (sym (later.rows at was.0)) ((later.stays (row_at old at) b b (was.1 b has)).0 (was.1 b has)),
-        );
+        (omega (arith, was.0, later.grown), later.rows (slice_index made.targets.items i) was.0 ∙ was.1);
     ended = λ b has. is.ended b (back b has);
   }
     where
@@ -83,12 +83,31 @@ module _ {State : Type 0} (rules : Rules State) where
         (was.0, subst (λ e. Moves rules e b was.0) (sym (carried.events i less)) was.1, carried.rows i was.0 less was.2);
   }
 
+  -- in the numbers of the system that is searched
+  pub made_carried : (main own : List ℕ → State → Type 0) (graph : Graph) (made now : Made) → IsMade rules main own graph made → made.is_known ≡ false → now.row ≡ made.row → now.is_known ≡ true → now.is_end ≡ made.is_end
+      → IsCarried own main made.found now.found (found_count made.found) → found_width now.found ≡ row_width graph.rows → AreTargets graph now.found now.targets.items
+      → IsMade rules main own graph now
+  made_carried main own graph made now is not row is_known end carried width targets = record {
+    within = subst (λ k. k < count_of graph) (sym row) is.within;
+    targets = targets;
+    told = λ own_is. absurd (cc (is_known, own_is));
+    known = λ known b has. expanded_carried own main made.found now.found b carried (is.told not b (subst (λ k. main (row_at graph k) b) row has));
+    width = λ known. width;
+    ended = λ b has. subst (λ e. (e ≡ true) ↔ rules.is_end b) (sym end) (is.ended b (subst (λ k. main (row_at graph k) b) row has));
+  }
+
   -- ---- what was made of the next row is entered
   module _ (main main' own : List ℕ → State → Type 0) (old new : Graph) (made : Made) (found : Successors) where
-    pub entered : Stay main main' → IsSearched rules main old → expanded_of old < count_of old → made.row ≡ expanded_of old → IsMade rules main own old made → IsCarried own main' made.found found (found_count made.found) → IsWhole new → IsAdded old new found made.is_end → IsSearched rules main' new
-    entered stays searched next is made_is carried whole added =
+    pub entered : Stay main main' → IsSearched rules main old → expanded_of old < count_of old → made.row ≡ expanded_of old → made.is_known ≡ false → IsMade rules main own old made → IsCarried own main' made.found found (found_count made.found) → IsWhole new → IsAdded old new found made.is_end → IsSearched rules main' new
+    entered stays searched next is not made_is carried whole added =
         searched_grown rules main main' old new found made.is_end stays searched whole added next
-        (λ b has. expanded_carried own main' made.found found b carried (made_is.told b (subst (λ k. main (row_at old k) b) (sym is) has)))
+        (λ b has. expanded_carried own main' made.found found b carried (made_is.told not b (subst (λ k. main (row_at old k) b) (sym is) has)))
+        (λ b has. made_is.ended b (subst (λ k. main (row_at old k) b) (sym is) has))
+
+    pub entered_known : IsSearched rules main old → expanded_of old < count_of old → made.row ≡ expanded_of old → made.is_known ≡ true → IsMade rules main own old made → IsWhole new → IsAdded old new made.found made.is_end → IsSearched rules main new
+    entered_known searched next is is_known made_is whole added =
+        searched_grown rules main main old new made.found made.is_end (stays_same main) searched whole added next
+        (λ b has. made_is.known is_known b (subst (λ k. main (row_at old k) b) (sym is) has))
         (λ b has. made_is.ended b (subst (λ k. main (row_at old k) b) (sym is) has))
 
     pub later_added : Stay main main' → IsAdded old new found made.is_end → IsLater main main' old new
@@ -97,7 +116,29 @@ module _ {State : Type 0} (rules : Rules State) where
       rows = added.rows;
       grown = added.grown;
       more = omega (arith, added.one);
+      width = added.width;
     }
+
+-- ---- one row more that is known, or not
+pub targets_none : (graph : Graph) (found : Successors) (targets : List ℕ) → targets ≡ [] → AreTargets graph found targets
+targets_none graph found targets none i lt within some = let long : length targets ≡ 0 = ap length none in absurd (omega (arith, long, within))
+
+pub targets_more : (graph : Graph) (found : Successors) (targets now : List ℕ) (n k : ℕ)
+    → now ≡ targets ++ k ∷ [] → length targets ≡ n → AreTargets graph found targets
+    → (k ≢ NOWHERE → IsTarget graph (found_row found n) k)
+    → AreTargets graph found now
+targets_more graph found targets now n k is long are one i lt within some =
+    let longer : length now ≡ length targets + 1 = ap length is ∙ length-append targets (k ∷ []) in
+    ⊎_elim
+    (λ below.
+    let e : slice_index now i ≡ slice_index targets i = earlier_one targets now k 0 i is below in
+    subst (λ m. IsTarget graph (found_row found i) m) (sym e) (are i lt below (λ z. some (e ∙ z))))
+    (λ last.
+    let p : i ≡ length targets = omega (arith, last, within, longer) in
+    let e : slice_index now i ≡ k = last_one targets now k 0 i is p in
+    subst (λ m. IsTarget graph (found_row found i) m) (sym e)
+    (subst (λ m. IsTarget graph (found_row found m) k) (sym (p ∙ long)) (one (λ z. some (e ∙ z)))))
+    (cases_lt i (length targets))
 
 module _ {State : Type 0} where
   pub carried_none : (own main : List ℕ → State → Type 0) (from to : Successors) → found_count to ≡ 0 → IsCarried own main from to 0
@@ -130,37 +171,6 @@ module _ {State : Type 0} where
         (cases_lt i n);
   }
 
-  -- ---- one row more that is known, or not
-  pub targets_none : (own main : List ℕ → State → Type 0) (graph : Graph) (found : Successors) (targets : List ℕ) → targets ≡ [] → AreTargets own main graph found targets
-  targets_none own main graph found targets none i lt within some = let long : length targets ≡ 0 = ap length none in absurd (omega (arith, long, within))
-
-  pub targets_more : (own main : List ℕ → State → Type 0) (graph : Graph) (found : Successors) (targets now : List ℕ) (n k : ℕ)
-      → now ≡ targets ++ k ∷ [] → length targets ≡ n → AreTargets own main graph found targets
-      → (k ≢ NOWHERE → IsTarget own main graph (found_row found n) k)
-      → AreTargets own main graph found now
-  targets_more own main graph found targets now n k is long are one i lt within some =
-      let longer : length now ≡ length targets + 1 = ap length is ∙ length-append targets (k ∷ []) in
-      ⊎_elim
-      (λ below.
-      let e : slice_index now i ≡ slice_index targets i = earlier_one targets now k 0 i is below in
-      subst (λ m. IsTarget own main graph (found_row found i) m) (sym e) (are i lt below (λ z. some (e ∙ z))))
-      (λ last.
-      let p : i ≡ length targets = omega (arith, last, within, longer) in
-      let e : slice_index now i ≡ k = last_one targets now k 0 i is p in
-      subst (λ m. IsTarget own main graph (found_row found i) m) (sym e)
-      (subst (λ m. IsTarget own main graph (found_row found m) k) (sym (p ∙ long)) (one (λ z. some (e ∙ z)))))
-      (cases_lt i (length targets))
-
-  -- the row of the graph to which a successor leads, where it is known
-  pub known_stands : (own main main' : List ℕ → State → Type 0) (graph : Graph) (found : Successors) (targets : List ℕ) (i : ℕ) (row : List ℕ)
-      → Stay main main' → i < found_count found → AreTargets own main graph found targets
-      → (i < length targets) × (slice_index targets i ≢ NOWHERE) × (row ≡ row_at graph (slice_index targets i))
-      → (b : State) → own (found_row found i) b → main' row b
-  known_stands own main main' graph found targets i row stays lt are at b has =
-      let target = are i lt at.0 at.1 in
-      let here = target.1 b has in
-      subst (λ r. main' r b) (sym at.2) ((stays (row_at graph (slice_index targets i)) b b here).0 here)
-
   -- ---- later and later
   pub later_same : (main : List ℕ → State → Type 0) (graph : Graph) → IsLater main main graph graph
   later_same main graph = record {
@@ -168,6 +178,7 @@ module _ {State : Type 0} where
     rows = λ k lt. refl;
     grown = omega arith;
     more = omega arith;
+    width = refl;
   }
 
   pub later_on : (a b c : List ℕ → State → Type 0) (first mid last : Graph) → IsLater a b first mid → IsLater b c mid last → IsLater a c first last
@@ -176,6 +187,7 @@ module _ {State : Type 0} where
     rows = λ k lt. two.rows k (omega (arith, lt, one.grown)) ∙ one.rows k lt;
     grown = omega (arith, one.grown, two.grown);
     more = omega (arith, one.more, two.more);
+    width = two.width ∙ one.width;
   }
 
 -- ---- all that a system made

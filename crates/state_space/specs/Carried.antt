@@ -1,30 +1,33 @@
 -- What was found of rows by a system beside the one that is searched, and what it is in the numbers of that one.
-use Rattle.std.specs.Prelude.{◌≡◌, ◌≢◌, ◌↔◌, ℕ, ◌+◌, ◌<◌, ◌≤◌, List, All, length, slice_index, true}
+use Rattle.std.specs.Prelude.{◌≡◌, ◌≢◌, ◌↔◌, ℕ, ◌+◌, ◌<◌, ◌≤◌, List, All, false, length, slice_index, true}
 use Rattle.state_space.specs.declared.found.Successors.{Successors}
 use Rattle.state_space.specs.declared.graph.Graph.{Graph}
 use Rattle.state_space.specs.declared.workers.Made.{Made}
 use Rattle.state_space.specs.Graphs.{count_of, expanded_of, row_at}
-use Rattle.state_space.specs.Successors.{found_count, found_event, found_row}
+use Rattle.state_space.specs.Numbered.{row_width}
+use Rattle.state_space.specs.Successors.{found_count, found_event, found_row, found_width}
 use Rattle.state_space.specs.Systems.{Rules, IsExpanded, Stay}
 
 -- the number of no row
 abbrev pub NOWHERE : ℕ
 NOWHERE = 4294967295
 
--- That row of the graph stands for each state for which a row of another system does.
-abbrev pub IsTarget : {State : Type 0} → (List ℕ → State → Type 0) → (List ℕ → State → Type 0) → Graph → List ℕ → ℕ → Type 0
-IsTarget {State} own main graph row target = (target < count_of graph) × ((b : State) → own row b → main (row_at graph target) b)
+-- the row has that number in the graph
+abbrev pub IsTarget : Graph → List ℕ → ℕ → Type 0
+IsTarget graph row target = (target < count_of graph) × (row_at graph target ≡ row)
 
--- the rows of the graph to which successors lead, as far as they are known
-abbrev pub AreTargets : {State : Type 0} → (List ℕ → State → Type 0) → (List ℕ → State → Type 0) → Graph → Successors → List ℕ → Type 0
-AreTargets own main graph found targets =
-    (i : ℕ) → i < found_count found → i < length targets → slice_index targets i ≢ NOWHERE → IsTarget own main graph (found_row found i) (slice_index targets i)
+-- the numbers of successors in a graph, as far as they are known
+abbrev pub AreTargets : Graph → Successors → List ℕ → Type 0
+AreTargets graph found targets =
+    (i : ℕ) → i < found_count found → i < length targets → slice_index targets i ≢ NOWHERE → IsTarget graph (found_row found i) (slice_index targets i)
 
--- These are the successors of a row of the graph, whose rows are those of `main`, by the tables of another system.
+-- These are the successors of a row of the graph, whose rows are those of `main`: in its numbers, or in those of another system.
 pub record IsMade {State : Type 0} (rules : Rules State) (main own : List ℕ → State → Type 0) (graph : Graph) (made : Made) : Type 0 where
   pub within : made.row < count_of graph
-  pub targets : AreTargets own main graph made.found made.targets.items
-  pub told : (b : State) → main (row_at graph made.row) b → IsExpanded rules own (found_count made.found) (found_event made.found) (found_row made.found) b
+  pub targets : AreTargets graph made.found made.targets.items
+  pub told : made.is_known ≡ false → (b : State) → main (row_at graph made.row) b → IsExpanded rules own (found_count made.found) (found_event made.found) (found_row made.found) b
+  pub known : made.is_known ≡ true → (b : State) → main (row_at graph made.row) b → IsExpanded rules main (found_count made.found) (found_event made.found) (found_row made.found) b
+  pub width : made.is_known ≡ true → found_width made.found ≡ row_width graph.rows
   pub ended : (b : State) → main (row_at graph made.row) b → (made.is_end ≡ true) ↔ rules.is_end b
 
 -- the first so many successors are carried over: each stands for what it stood for
@@ -47,6 +50,7 @@ pub record IsLater {State : Type 0} (before after : List ℕ → State → Type 
   pub rows : (k : ℕ) → k < count_of old → row_at new k ≡ row_at old k
   pub grown : count_of old ≤ count_of new
   pub more : expanded_of old ≤ expanded_of new
+  pub width : row_width new.rows ≡ row_width old.rows
 
 -- A system beside `main` is of the same setting, and these are what it found of rows of the graph.
 pub record AreMade {S State Setting : Type 0} (setting : S → Setting) (rules : Setting → Rules State) (stands : S → List ℕ → State → Type 0) (main : S) (graph : Graph) (system : S) (made : List Made) : Type 0 where

@@ -1,7 +1,8 @@
 //! The rows that a search found, with the steps between them.
 
-ghost use Rattle.std.specs.Prelude.{◌≡◌, ◌<◌, ◌+◌, ◌≤◌, ◌-◌, ℕ, length, IfOk, IfSome, OnOk, slice_index, slice_index_or, slice_range, true, false};
+ghost use Rattle.std.specs.Prelude.{◌≡◌, ◌≢◌, ◌<◌, ◌+◌, ◌≤◌, ◌-◌, ℕ, length, IfOk, IfSome, OnOk, slice_index, slice_index_or, slice_range, true, false};
 ghost use Rattle.std.specs.Vec.{vec_len};
+ghost use Rattle.state_space.specs.Carried.{NOWHERE};
 
 use crate::found::Successors;
 use crate::refusal::Refused;
@@ -24,11 +25,13 @@ pub struct Graph {
 /// The number of no row.
 pub(crate) const NO_ROW: u32 = u32::MAX;
 
-/// The guess of that place, if there is one.
+/// The number in that place, where there is one, else the number of no row.
 #[inline]
-fn guess_at(guesses: &[u32], place: usize) -> u32 {
-    if place < guesses.len() {
-        guesses[place]
+fn known_at(numbers: &[u32], place: usize) -> u32
+    ensures { result ≢ NOWHERE → (place < length numbers.now) × (slice_index numbers.now place ≡ result) }
+{
+    if place < numbers.len() {
+        numbers[place]
     } else {
         NO_ROW
     }
@@ -36,8 +39,10 @@ fn guess_at(guesses: &[u32], place: usize) -> u32 {
 
 impl Graph {
     ghost use Rattle.state_space.specs.Graphs.{count_of, expanded_of, row_at, first_step, end_step, target_of, event_of, IsWhole, IsAdded};
+    ghost use Rattle.state_space.specs.Carried.{AreTargets, IsTarget};
     ghost use Rattle.state_space.specs.Growing.{IsStepAdded, IsGrowing};
     ghost use Rattle.state_space.specs.Numbered.{row_width};
+    ghost use Rattle.state_space.specs.Pools.{IsPut, Stay};
     ghost use Rattle.state_space.specs.Successors.{found_count, found_width};
 
     /// The start alone.
@@ -161,46 +166,65 @@ impl Graph {
         self.events[step]
     }
 
-    /// Adds a step to a row, which may be new: a guess of its number is looked at first. At `Err` the graph is of no more use.
+    /// The number of a row, which is added where it is not known. At `Err` the graph is of no more use.
     #[inline]
-    fn add_step(&mut self, event: u8, row: &[u32], guess: u32) -> Result<(), Refused>
-        requires { length row.now ≡ row_width self.old.rows }
+    fn number_of(&mut self, row: &[u32], known: u32) -> Result<u32, Refused>
+        requires width { length row.now ≡ row_width self.old.rows }
+        requires known { known ≢ NOWHERE → IsTarget self.old row.now known }
+        ensures put { IfOk result (IsPut (row_at self.old) (count_of self.old) (row_at self.new) (count_of self.new) row.now) }
+        ensures stay { Stay (row_at self.old) (count_of self.old) (row_at self.new) }
+        ensures width { row_width self.new.rows ≡ row_width self.old.rows }
+        ensures steps { (self.new.targets.items ≡ self.old.targets.items) × (self.new.events.items ≡ self.old.events.items) }
+        ensures ends { (self.new.ends_at.items ≡ self.old.ends_at.items) × (self.new.is_end.items ≡ self.old.is_end.items) }
+    {
+        if known != NO_ROW {
+            return Ok(known);
+        }
+        Ok(self.rows.put(row)? as u32)
+    }
+
+    /// Adds a step to a row, which is new where its number is not known. At `Err` the graph is of no more use.
+    #[inline]
+    fn add_step(&mut self, event: u8, row: &[u32], known: u32) -> Result<(), Refused>
+        requires width { length row.now ≡ row_width self.old.rows }
+        requires known { known ≢ NOWHERE → IsTarget self.old row.now known }
         ensures { OnOk result (IsStepAdded self.old self.new event row.now) }
     {
-        let target = self.rows.put_near(guess, row)?;
-        self.targets.push(target as u32)?;
+        let target = self.number_of(row, known)?;
+        self.targets.push(target)?;
         self.events.push(event)?;
         Ok(())
     }
 
     #[tactic(auto, using(crate::proofs::Growth::growing_more, crate::proofs::Growth::growing_none))]
     /// Adds the next row's steps. At `Err` the graph is of no more use.
-    fn add_steps(&mut self, found: &Successors, guesses: &[u32]) -> Result<(), Refused>
-        requires { found_width found.now ≡ row_width self.old.rows }
+    fn add_steps(&mut self, found: &Successors, numbers: &[u32]) -> Result<(), Refused>
+        requires width { found_width found.now ≡ row_width self.old.rows }
+        requires numbers { AreTargets self.old found.now numbers.now }
         ensures { OnOk result (IsGrowing self.old self.new found.now (found_count found.now)) }
     {
         for number in 0..found.count() {
-            let guess = guess_at(guesses, number);
-            self.add_step(found.event(number), found.row(number), guess)?;
+            let known = known_at(numbers, number);
+            self.add_step(found.event(number), found.row(number), known)?;
         }
         Ok(())
     }
 
     #[tactic(auto, using(crate::proofs::Growth::added, crate::proofs::Growth::whole_added))]
-    /// Adds what the next row leads to. Guesses of the numbers of these rows are looked at first, as far as there are some. At `Err` the
-    /// graph is of no more use.
+    /// Adds what the next row leads to. The numbers are of these rows, as far as they are known. At `Err` the graph is of no more use.
     pub(crate) fn add(
         &mut self,
         found: &Successors,
-        guesses: &[u32],
+        numbers: &[u32],
         is_end: bool,
     ) -> Result<(), Refused>
         requires whole { IsWhole self.old }
         requires width { found_width found.now ≡ row_width self.old.rows }
+        requires numbers { AreTargets self.old found.now numbers.now }
         ensures added { OnOk result (IsAdded self.old self.new found.now is_end) }
         ensures whole { OnOk result (IsWhole self.new) }
     {
-        self.add_steps(found, guesses)?;
+        self.add_steps(found, numbers)?;
         let Ok(end) = u32::try_from(self.targets.len()) else {
             return Err(Refused::Numbers);
         };

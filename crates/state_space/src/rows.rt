@@ -61,22 +61,6 @@ impl Rows {
         self.entries.find(row)
     }
 
-    /// The number of the row that equals this one, as `put` has it: the guess is looked at first.
-    #[inline]
-    pub fn put_near(&mut self, guess: u32, row: &[u32]) -> Result<usize, Refused>
-        requires { length row.now ≡ row_width self.old }
-        ensures put { IfOk result (IsPut (row_of self.old) (row_count self.old) (row_of self.new) (row_count self.new) row.now) }
-        ensures stay { Stay (row_of self.old) (row_count self.old) (row_of self.new) }
-        ensures refused { OnErr result (row_count self.new ≡ row_count self.old) }
-        ensures width { row_width self.new ≡ row_width self.old }
-    {
-        let number = guess as usize;
-        if number < self.count() && self.get(number) == row {
-            return Ok(number);
-        }
-        self.put(row)
-    }
-
     /// The number of the row that equals this one. Where there is none it is added at the end. At `Err` the rows are as they were.
     pub fn put(&mut self, row: &[u32]) -> Result<usize, Refused>
         requires { length row.now ≡ row_width self.old }

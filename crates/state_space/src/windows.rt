@@ -1,8 +1,8 @@
 //! The rows of a window, which several systems expand side by side, and which are entered in their order.
 
-ghost use Rattle.std.specs.Prelude.{◌≡◌, ◌≢◌, ◌<◌, ◌+◌, ℕ, All, length, IfOk, IfSome, OnOk, true, slice_index, slice_index_or};
+ghost use Rattle.std.specs.Prelude.{◌≡◌, ◌<◌, ◌+◌, ℕ, All, length, IfOk, OnOk, true, slice_index_or};
 ghost use Rattle.std.specs.Thread.{IsSync};
-ghost use Rattle.state_space.specs.Carried.{AreMade, AreTargets, IsCarried, IsLater, IsMade, IsPushed, NOWHERE};
+ghost use Rattle.state_space.specs.Carried.{AreMade, IsCarried, IsLater, IsMade, IsPushed};
 ghost use Rattle.state_space.specs.Graphs.{IsSearched, count_of, row_at};
 ghost use Rattle.state_space.specs.Numbered.{row_width};
 ghost use Rattle.state_space.specs.Successors.{found_count, found_row, found_width};
@@ -11,7 +11,7 @@ ghost use Rattle.state_space.specs.Systems.{Stay};
 use crate::carries::Carries;
 use crate::explores::reached;
 use crate::found::Successors;
-use crate::graph::{Graph, NO_ROW};
+use crate::graph::Graph;
 use crate::limits::Limits;
 use crate::refusal::Refused;
 use crate::workers::{Made, Worker};
@@ -24,28 +24,11 @@ const ROWS_EACH: usize = 16;
 /// The most rows that each system expands in a window.
 const MOST_EACH: usize = 1024;
 
-/// The row of a graph to which a successor leads, where it is known.
-fn known_row<'a>(graph: &'a Graph, targets: &[u32], index: usize) -> Option<&'a [u32]>
-    ensures is { IfSome result (λ row. (index < length targets.now) × (slice_index targets.now index ≢ NOWHERE)
-        × (row.now ≡ row_at graph.now (slice_index targets.now index))) }
-    ensures width { IfSome result (λ row. length row.now ≡ row_width graph.now.rows) }
-{
-    if targets.len() <= index {
-        return None;
-    }
-    let target = targets[index];
-    if target == NO_ROW || graph.count() <= target as usize {
-        return None;
-    }
-    Some(graph.row(target as usize))
-}
-
-/// Carries a successor over to the tables of another system, unless the row is known to which it leads.
+/// Carries a successor over to the tables of another system.
 fn carry_one<S: Carries>(
     system: &mut S,
     from: &S,
     memo: &mut S::Memo,
-    known: Option<&[u32]>,
     event: u8,
     successor: &[u32],
     row: &mut Vec<u32>,
@@ -54,38 +37,27 @@ fn carry_one<S: Carries>(
     requires setting { S.setting system.old ≡ S.setting from.now }
     requires stands { (b : S.State) × S.stands from.now successor.now b }
     requires width { found_width found.old ≡ S.width (S.setting system.old) }
-    requires known { IfSome known (λ r. (b : S.State) → S.stands from.now successor.now b → S.stands system.old r.now b) }
-    requires long { IfSome known (λ r. length r.now ≡ S.width (S.setting system.old)) }
     ensures setting { S.setting system.new ≡ S.setting system.old }
     ensures stays { Stay (S.stands system.old) (S.stands system.new) }
     ensures width { found_width found.new ≡ found_width found.old }
     ensures pushed { IfOk result (λ _. IsPushed (S.stands from.now) (S.stands system.new) found.old found.new event successor.now) }
 {
-    match known {
-        Some(known) => found.push(event, known),
-        None => {
-            system.carry(from, memo, successor, row)?;
-            found.push(event, row)
-        }
-    }
+    system.carry(from, memo, successor, row)?;
+    found.push(event, row)
 }
 
 /// Carries successors over to the tables of another system, in place of what was found before.
 fn carry_all<S: Carries>(
     system: &mut S,
-    graph: &Graph,
     from: &S,
     memo: &mut S::Memo,
     successors: &Successors,
-    targets: &[u32],
     row: &mut Vec<u32>,
     found: &mut Successors,
 ) -> Result<(), Refused>
     requires setting { S.setting system.old ≡ S.setting from.now }
     requires known { (i : ℕ) → i < found_count successors.now
         → (b : S.State) × S.stands from.now (found_row successors.now i) b }
-    requires targets { AreTargets (S.stands from.now) (S.stands system.old) graph.now successors.now targets.now }
-    requires row_width { row_width graph.now.rows ≡ S.width (S.setting system.old) }
     requires width { found_width found.old ≡ S.width (S.setting system.old) }
     ensures setting { S.setting system.new ≡ S.setting system.old }
     ensures stays { Stay (S.stands system.old) (S.stands system.new) }
@@ -95,12 +67,10 @@ fn carry_all<S: Carries>(
 {
     found.clear();
     for index in 0..successors.count() {
-        let known = known_row(graph, targets, index);
         carry_one(
             system,
             from,
             memo,
-            known,
             successors.event(index),
             successors.row(index),
             row,
@@ -135,9 +105,12 @@ fn enter<S: Carries>(
     if made.row != graph.expanded() || reached(system, graph, limits).is_some() {
         return Ok(false);
     }
-    let targets = made.targets.as_slice();
-    carry_all(system, graph, from, memo, &made.found, targets, row, found)?;
-    graph.add(found, targets, made.is_end)?;
+    if made.is_known {
+        graph.add(&made.found, &made.targets, made.is_end)?;
+        return Ok(true);
+    }
+    carry_all(system, from, memo, &made.found, row, found)?;
+    graph.add(found, &[], made.is_end)?;
     Ok(true)
 }
 

@@ -1,9 +1,9 @@
 //! Systems beside the one that is searched, each of which expands rows of it by tables of its own.
 
-ghost use Rattle.std.specs.Prelude.{◌≡◌, ◌≢◌, ◌<◌, ℕ, All, IfOk, IfSome, [], length, slice_index_or};
-ghost use Rattle.state_space.specs.Carried.{AreTargets, IsMade, IsTarget, NOWHERE};
+ghost use Rattle.std.specs.Prelude.{◌≡◌, ◌≢◌, ◌<◌, ℕ, All, IfOk, IfSome, Ok, [], false, length, slice_index_or, true};
+ghost use Rattle.state_space.specs.Carried.{AreTargets, IsCarried, IsMade, IsPushed, IsTarget, NOWHERE};
 ghost use Rattle.state_space.specs.Graphs.{count_of, row_at};
-ghost use Rattle.state_space.specs.Successors.{found_count, found_row};
+ghost use Rattle.state_space.specs.Successors.{found_count, found_row, found_width};
 ghost use Rattle.state_space.specs.Systems.{Stay};
 
 use crate::carries::Carries;
@@ -13,14 +13,16 @@ use crate::refusal::Refused;
 use crate::systems::Expansion;
 use std::alloc::Global;
 
-/// What a row of a graph leads to, as another system's tables have it.
+/// What a row of a graph leads to.
 #[derive(Drop)]
 pub struct Made {
     /// The row.
     pub(crate) row: usize,
-    /// Where it leads to, in the numbers of the system that expanded it.
+    /// Where it leads to, in the numbers of the system that expanded it, or of the one that is searched.
     pub(crate) found: Successors,
-    /// Of each of these the row of the graph that stands for the same, where it is known, else the number of no row.
+    /// Whether it is in the numbers of the one that is searched.
+    pub(crate) is_known: bool,
+    /// Of each of these the row of the graph that it is, where it is known, else the number of no row.
     pub(crate) targets: Vec<u32>,
     /// Whether its state is at an end.
     pub(crate) is_end: bool,
@@ -39,51 +41,77 @@ pub struct Worker<S: Carries> {
     pub(crate) made: Vec<Made>,
 }
 
-/// The row of a graph that stands for the same as a row of another system, where it is known, else the number of no row.
-fn target_of<S: Carries>(
-    main: &S,
-    graph: &Graph,
-    system: &S,
-    back: &S::Memo,
-    row: &[u32],
-    out: &mut Vec<u32>,
-) -> Result<u32, Refused>
-    requires setting { S.setting main.now ≡ S.setting system.now }
-    requires known { (b : S.State) × S.stands system.now row.now b }
-    ensures { IfOk result (λ target. target ≢ NOWHERE → IsTarget (S.stands system.now) (S.stands main.now) graph.now row.now target) }
+/// The number of a row in a graph, where it is found, else the number of no row.
+fn target_of(graph: &Graph, row: &[u32]) -> u32
+    ensures { result ≢ NOWHERE → IsTarget graph.now row.now result }
 {
-    if !main.find(system, back, row, out)? {
-        return Ok(NO_ROW);
-    }
-    let Some(target) = graph.find(out) else {
-        return Ok(NO_ROW);
+    let Some(target) = graph.find(row) else {
+        return NO_ROW;
     };
     match u32::try_from(target) {
-        Ok(target) => Ok(target),
-        Err(_) => Ok(NO_ROW),
+        Ok(target) => target,
+        Err(_) => NO_ROW,
     }
 }
 
-/// The rows of a graph that stand for the same as successors, as far as they are known.
-fn targets_of<S: Carries>(
-    alloc: Global,
+/// The numbers of successors in a graph, as far as they are found.
+fn targets_of(alloc: Global, graph: &Graph, found: &Successors) -> Result<Vec<u32>, Refused>
+    ensures { IfOk result (λ targets. AreTargets graph.now found.now targets.items) }
+{
+    let mut targets = Vec::new(alloc);
+    for index in 0..found.count() {
+        targets.push(target_of(graph, found.row(index)))?;
+    }
+    Ok(targets)
+}
+
+/// Adds a successor in the numbers of the system that is searched, where that one knows the row. Whether it does.
+fn know_one<S: Carries>(
     main: &S,
-    graph: &Graph,
+    system: &S,
+    back: &S::Memo,
+    event: u8,
+    successor: &[u32],
+    out: &mut Vec<u32>,
+    known: &mut Successors,
+) -> Result<bool, Refused>
+    requires setting { S.setting main.now ≡ S.setting system.now }
+    requires stands { (b : S.State) × S.stands system.now successor.now b }
+    ensures pushed { result ≡ Ok true
+        → IsPushed (S.stands system.now) (S.stands main.now) known.old known.new event successor.now }
+    ensures width { found_width known.new ≡ found_width known.old }
+{
+    if !main.find(system, back, successor, out)? || out.len() != known.width() {
+        return Ok(false);
+    }
+    known.push(event, out)?;
+    Ok(true)
+}
+
+/// Successors in the numbers of the system that is searched, as rows of that width, where that one knows them all.
+fn known_of<S: Carries>(
+    main: &S,
     system: &S,
     back: &S::Memo,
     found: &Successors,
     out: &mut Vec<u32>,
-) -> Result<Vec<u32>, Refused>
+    known: Successors,
+) -> Result<Option<Successors>, Refused>
     requires setting { S.setting main.now ≡ S.setting system.now }
-    requires known { (i : ℕ) → i < found_count found.now → (b : S.State) × S.stands system.now (found_row found.now i) b }
-    ensures { IfOk result (λ targets. AreTargets (S.stands system.now) (S.stands main.now) graph.now found.now targets.items) }
+    requires stands { (i : ℕ) → i < found_count found.now → (b : S.State) × S.stands system.now (found_row found.now i) b }
+    requires none { found_count known ≡ 0 }
+    ensures carried { IfOk result (λ all. IfSome all
+        (λ x. IsCarried (S.stands system.now) (S.stands main.now) found.now x (found_count found.now))) }
+    ensures width { IfOk result (λ all. IfSome all (λ x. found_width x ≡ found_width known)) }
 {
-    let mut targets = Vec::new(alloc);
+    let mut known = known;
     for index in 0..found.count() {
-        let target = target_of(main, graph, system, back, found.row(index), out)?;
-        targets.push(target)?;
+        let event = found.event(index);
+        if !know_one(main, system, back, event, found.row(index), out, &mut known)? {
+            return Ok(None);
+        }
     }
-    Ok(targets)
+    Ok(Some(known))
 }
 
 #[tactic(auto, using(crate::proofs::Carrying::targets_none))]
@@ -104,6 +132,7 @@ fn made_of<S: Carries>(
     ensures stays { Stay (S.stands system.old) (S.stands system.new) }
     ensures made { IfOk result (λ found. IfSome found
         (IsMade (S.rules (S.setting main.now)) (S.stands main.now) (S.stands system.new) graph.now)) }
+    ensures own { IfOk result (λ found. IfSome found (λ made. made.is_known ≡ false)) }
 {
     system.carry(main, memo, graph.row(number), row)?;
     let mut found = Successors::new(alloc, row.len());
@@ -115,13 +144,14 @@ fn made_of<S: Carries>(
     Ok(Some(Made {
         row: number,
         found,
+        is_known: false,
         targets: Vec::new(alloc),
         is_end,
     }))
 }
 
-/// What was made of a row, with the rows of the graph to which it leads, as far as they are known.
-fn aimed<S: Carries>(
+/// What was made of a row, in the numbers of the system that is searched where that one knows all of it.
+fn known_made<S: Carries>(
     alloc: Global,
     main: &S,
     graph: &Graph,
@@ -133,10 +163,20 @@ fn aimed<S: Carries>(
     requires setting { S.setting main.now ≡ S.setting system.now }
     requires known { (k : ℕ) → k < count_of graph.now → (b : S.State) × S.stands main.now (row_at graph.now k) b }
     requires made { IsMade (S.rules (S.setting main.now)) (S.stands main.now) (S.stands system.now) graph.now made }
+    requires own { made.is_known ≡ false }
     ensures { IfOk result (IsMade (S.rules (S.setting main.now)) (S.stands main.now) (S.stands system.now) graph.now) }
 {
-    let targets = targets_of(alloc, main, graph, system, back, &made.found, out)?;
-    Ok(Made { targets, ..made })
+    let none = Successors::new(alloc, graph.row(made.row).len());
+    let Some(found) = known_of(main, system, back, &made.found, out, none)? else {
+        return Ok(made);
+    };
+    let targets = targets_of(alloc, graph, &found)?;
+    Ok(Made {
+        found,
+        is_known: true,
+        targets,
+        ..made
+    })
 }
 
 impl<S: Carries> Worker<S> {
@@ -198,7 +238,7 @@ impl<S: Carries> Worker<S> {
         )?;
         match made {
             None => Ok(None),
-            Some(made) => Ok(Some(aimed(
+            Some(made) => Ok(Some(known_made(
                 self.alloc,
                 main,
                 graph,

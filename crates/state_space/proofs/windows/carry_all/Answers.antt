@@ -1,7 +1,7 @@
 use Rattle.std.proofs.Common.{◌∙◌, List, ℕ, subst, sym, arith}
 use Rattle.state_space.specs.Carried.{IsPushed}
 use Rattle.state_space.specs.Successors.{found_event, found_row}
-use Rattle.state_space.proofs.Carrying.{carried_more, known_stands, some_too}
+use Rattle.state_space.proofs.Carrying.{carried_more}
 use Rattle.state_space.proofs.Priced.{stays_on}
 use Rattle.state_space.proofs.windows.carry_all.Goals as goal
 
@@ -9,14 +9,6 @@ pub carry_one-requires-clause-stands : goal.carry_one-requires-clause-stands
 carry_one-requires-clause-stands g c κs within =
     let known = c.requires.known c.loop-index.index (omega (arith, c.loop-index-test.true, c.count-index-end.ensures)) in
     (known.0, subst (λ r. g.S.System.stands c.args.from.now r known.0) (sym c.row.ensures.row) known.1)
-
-pub carry_one-requires-clause-known : goal.carry_one-requires-clause-known
-carry_one-requires-clause-known g c κs within =
-    let s = g.S.System in
-    some_too c.known_row-known.result _ _ _
-    (λ r at long b has. known_stands (s.stands c.args.from.now) (s.stands c.args.system.now) (s.stands c.loop-index.system) c.args.graph.now c.args.successors.now c.args.targets.now c.loop-index.index r.now c.loop-index.invariant.stays
-    (omega (arith, c.loop-index-test.true, c.count-index-end.ensures)) c.requires.targets at b (subst (λ l. s.stands c.args.from.now l b) c.row.ensures.row has))
-    c.known_row-known.ensures.is c.known_row-known.ensures.width
 
 pub loop-index-preserved : goal.loop-index-preserved
 loop-index-preserved g c =
