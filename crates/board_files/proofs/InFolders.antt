@@ -10,7 +10,7 @@ use Rattle.std.specs.List.{concat}
 use Rattle.disk.specs.Facts.{Content, sector}
 use Rattle.board_files.specs.Blocks.{block_of, mark_at, mark_of}
 use Rattle.board_files.specs.Disks.{HoldsDisk, KeepsOrHolds}
-use Rattle.board_files.specs.Folders.{FolderFacts, IsBlankOf, IsKept, IsReady, MakesBeside, Puts, PutsDisk, Renames, Replaces, Stays, SyncsBeside, SyncsFolder, SyncsHeld, TakesPlace, blank_disk, block_in, blocks_of, durable_facts, left_of, with_disk}
+use Rattle.board_files.specs.Folders.{FolderFacts, IsBlankOf, IsKept, IsReady, MakesBeside, OneOfTwo, Puts, PutsDisk, Renames, Replaces, Stays, SyncsBeside, SyncsFolder, SyncsHeld, TakesPlace, blank_disk, block_in, blocks_of, cached_facts, left_of, with_disk}
 
 -- ---- what is known
 -- of the bytes, where they are known
@@ -549,36 +549,88 @@ pub no_block : (T : Type 0) {E : Type 0} (e : E) (held : Option (List ℕ)) (byt
     → IfSome held (λ all. MakesBeside {T = T} (bytes all) (Err e) o o)
 no_block T e held bytes o = where_known held _ (λ all known. record { stays = stays_same o; made = tt })
 
--- ---- a folder in memory, in which all is durable at once
-pub stays_at_once : (held now b c : List ℕ) → now ≡ held → Stays (durable_facts held b) (durable_facts now c)
-stays_at_once held now b c same = record {
-  in_file = λ x is. is ∙ same;
-  at_path = λ x is. is ∙ same;
-  ever = λ x is. tt;
-  keeps = λ x is. tt;
+-- ---- a folder in memory
+-- the file beside alone is another
+pub stays_cached : (f s b d b2 d2 p q : List ℕ) (r : Bool) → Stays (cached_facts f s b d r p q) (cached_facts f s b2 d2 r p q)
+stays_cached f s b d b2 d2 p q r = record { in_file = λ c left. left; at_path = λ c left. left; ever = λ c left. tt; keeps = λ c left. tt }
+
+pub beside_made : {T : Type 0} (E : Type 0) (v : T) (bytes f s b d b2 d2 p q : List ℕ) (r : Bool) → b2 ≡ bytes
+    → MakesBeside {E = E} bytes (Ok v) (cached_facts f s b d r p q) (cached_facts f s b2 d2 r p q)
+beside_made E v bytes f s b d b2 d2 p q r made = record { stays = stays_cached f s b d b2 d2 p q r; made = made }
+
+pub beside_not_made : (T : Type 0) {E : Type 0} (e : E) (bytes f s b d b2 d2 p q : List ℕ) (r : Bool)
+    → MakesBeside {T = T} bytes (Err e) (cached_facts f s b d r p q) (cached_facts f s b2 d2 r p q)
+beside_not_made T e bytes f s b d b2 d2 p q r = record { stays = stays_cached f s b d b2 d2 p q r; made = tt }
+
+pub beside_synced : {T : Type 0} (E : Type 0) (v : T) (f s b d b2 d2 p q : List ℕ) (r : Bool) → b2 ≡ b → d2 ≡ b
+    → SyncsBeside {E = E} (Ok v) (cached_facts f s b d r p q) (cached_facts f s b2 d2 r p q)
+beside_synced E v f s b d b2 d2 p q r same synced = record {
+  stays = stays_cached f s b d b2 d2 p q r;
+  same = same;
+  durable = λ c left. ⊎_elim (λ is. is ∙ same) (λ is. is ∙ synced) left;
 }
 
-pub made_at_once : {T : Type 0} (E : Type 0) (v : T) (bytes held now b c : List ℕ) → now ≡ held → c ≡ bytes
-    → MakesBeside {E = E} bytes (Ok v) (durable_facts held b) (durable_facts now c)
-made_at_once E v bytes held now b c same made = record { stays = stays_at_once held now b c same; made = made }
+pub beside_not_synced : (T : Type 0) {E : Type 0} (e : E) (f s b d b2 d2 p q : List ℕ) (r : Bool)
+    → SyncsBeside {T = T} (Err e) (cached_facts f s b d r p q) (cached_facts f s b2 d2 r p q)
+beside_not_synced T e f s b d b2 d2 p q r = record { stays = stays_cached f s b d b2 d2 p q r; same = tt; durable = tt }
 
-pub not_made_at_once : (T : Type 0) {E : Type 0} (e : E) (bytes held now b c : List ℕ) → now ≡ held
-    → MakesBeside {T = T} bytes (Err e) (durable_facts held b) (durable_facts now c)
-not_made_at_once T e bytes held now b c same = record { stays = stays_at_once held now b c same; made = tt }
-
-pub synced_at_once : {T : Type 0} (E : Type 0) (v : T) (held b : List ℕ) → SyncsBeside {E = E} (Ok v) (durable_facts held b) (durable_facts held b)
-synced_at_once E v held b = record { stays = stays_at_once held held b b refl; same = refl; durable = λ x is. is }
-
-pub renamed_at_once : {T : Type 0} (E : Type 0) (v : T) (held b now c : List ℕ) → now ≡ b → Renames {E = E} (Ok v) (durable_facts held b) (durable_facts now c)
-renamed_at_once E v held b now c same = record {
-  in_file = λ x is. is ∙ same;
-  at_path = λ x is. inr (is ∙ same);
-  ever = λ x is. inl tt;
-  keeps = λ x is. tt;
+pub beside_renamed : {T : Type 0} (E : Type 0) (v : T) (f s b d b2 d2 p q : List ℕ) (r : Bool)
+    → Renames {E = E} (Ok v) (cached_facts f s b d r p q) (cached_facts b d b2 d2 true f s)
+beside_renamed E v f s b d b2 d2 p q r = record {
+  in_file = λ c left. left;
+  at_path = λ c left. ⊎_elim (λ is. inr is) (λ is. inl (inl is.1)) left;
+  ever = λ c left. inl tt;
+  keeps = λ c left. tt;
 }
 
-pub folder_at_once : {T : Type 0} (E : Type 0) (v : T) (held b : List ℕ) → SyncsFolder {E = E} (Ok v) (durable_facts held b) (durable_facts held b)
-folder_at_once E v held b = record { stays = stays_at_once held held b b refl; durable = λ x is. is }
+pub beside_not_renamed : (T : Type 0) {E : Type 0} (e : E) (f s b d p q : List ℕ) (r : Bool)
+    → Renames {T = T} (Err e) (cached_facts f s b d r p q) (cached_facts f s b d r p q)
+beside_not_renamed T e f s b d p q r = record { in_file = tt; at_path = λ c left. inl left; ever = λ c left. inl tt; keeps = λ c left. tt }
 
-pub held_at_once : {T : Type 0} (E : Type 0) (v : T) (held b : List ℕ) → SyncsHeld {E = E} held (Ok v) (durable_facts held b) (durable_facts held b)
-held_at_once E v held b = record { stays = stays_at_once held held b b refl; durable = λ x is. is }
+pub path_synced : {T : Type 0} (E : Type 0) (v : T) (f s b d p q : List ℕ) (r : Bool)
+    → SyncsFolder {E = E} (Ok v) (cached_facts f s b d r p q) (cached_facts f s b d false p q)
+path_synced E v f s b d p q r = record {
+  stays = record {
+    in_file = λ c left. left;
+    at_path = λ c left. ⊎_elim (λ is. inl is) (λ is. absurd (false≢true is.0)) left;
+    ever = λ c left. tt;
+    keeps = λ c left. tt;
+  };
+  durable = λ c left. ⊎_elim (λ is. is) (λ is. absurd (false≢true is.0)) left;
+}
+
+pub path_not_synced : (T : Type 0) {E : Type 0} (e : E) (f s b d p q : List ℕ) (r : Bool)
+    → SyncsFolder {T = T} (Err e) (cached_facts f s b d r p q) (cached_facts f s b d r p q)
+path_not_synced T e f s b d p q r = record { stays = stays_cached f s b d b d p q r; durable = tt }
+
+-- the disk's file was made durable, or was not
+stays_in_file : (f s f2 s2 b d p q : List ℕ) (r : Bool) → f2 ≡ f → (s2 ≡ f) ⊎ (s2 ≡ s)
+    → Stays (cached_facts f s b d r p q) (cached_facts f2 s2 b d r p q)
+stays_in_file f s f2 s2 b d p q r same or = record {
+  in_file = still;
+  at_path = λ c left. ⊎_elim (λ is. inl (still c is)) (λ is. inr is) left;
+  ever = λ c left. tt;
+  keeps = λ c left. tt;
+} where
+  still : (c : List ℕ) → (c ≡ f2) ⊎ (c ≡ s2) → (c ≡ f) ⊎ (c ≡ s)
+  still c left = ⊎_elim (λ is. inl (is ∙ same)) (λ is. ⊎_elim (λ at. inl (is ∙ at)) (λ at. inr (is ∙ at)) or) left
+
+pub file_synced : {T : Type 0} (E : Type 0) (v : T) (f s f2 s2 b d p q : List ℕ) (r : Bool) → f2 ≡ f → s2 ≡ f
+    → SyncsHeld {E = E} f (Ok v) (cached_facts f s b d r p q) (cached_facts f2 s2 b d r p q)
+file_synced E v f s f2 s2 b d p q r same synced = record {
+  stays = stays_in_file f s f2 s2 b d p q r same (inl synced);
+  durable = λ c left. ⊎_elim (λ is. is ∙ same) (λ is. is ∙ synced) left;
+}
+
+pub file_not_synced : (T : Type 0) {E : Type 0} (e : E) (bytes f s f2 s2 b d p q : List ℕ) (r : Bool) → f2 ≡ f → s2 ≡ s
+    → SyncsHeld {T = T} bytes (Err e) (cached_facts f s b d r p q) (cached_facts f2 s2 b d r p q)
+file_not_synced T e bytes f s f2 s2 b d p q r same kept = record { stays = stays_in_file f s f2 s2 b d p q r same (inr kept); durable = tt }
+
+-- ---- what a look at it finds
+pub leaves_one : (one other f s b d p q : List ℕ) (r : Bool) → (f ≡ one) ⊎ (f ≡ other) → (s ≡ one) ⊎ (s ≡ other)
+    → (r ≡ true → ((p ≡ one) ⊎ (p ≡ other)) × ((q ≡ one) ⊎ (q ≡ other))) → OneOfTwo one other (cached_facts f s b d r p q).at_path
+leaves_one one other f s b d p q r file stood prior c left = ⊎_elim
+    (λ is. ⊎_elim (λ at. by at file) (λ at. by at stood) is)
+    (λ is. ⊎_elim (λ at. by at (prior is.0).0) (λ at. by at (prior is.0).1) is.1) left where
+      by : {x : List ℕ} → c ≡ x → (x ≡ one) ⊎ (x ≡ other) → (c ≡ one) ⊎ (c ≡ other)
+      by at or = ⊎_elim (λ is. inl (at ∙ is)) (λ is. inr (at ∙ is)) or

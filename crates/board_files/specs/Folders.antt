@@ -24,15 +24,20 @@ pub record FolderFacts : Type 1 where
 abbrev pub no_facts : FolderFacts
 no_facts = record { beside = []; in_beside = λ c. ⊤; in_file = λ c. ⊤; at_path = λ c. ⊤; ever = λ c. ⊤ }
 
--- of one in which all is durable at once, and of whose earlier moments nothing is known
-abbrev pub durable_facts : List ℕ → List ℕ → FolderFacts
-durable_facts held beside = record {
+-- Of one whose files hold these bytes, and held those at their last sync: the disk's, the one beside, and, where that was renamed since
+-- the folder was made durable, the one that it replaced. A crash leaves the one or the other. Of earlier moments nothing is known.
+abbrev pub cached_facts : (file stood beside beside_stood : List ℕ) (is_renamed : Bool) (prior prior_stood : List ℕ) → FolderFacts
+cached_facts file stood beside beside_stood is_renamed prior prior_stood = record {
   beside = beside;
-  in_beside = λ c. c ≡ beside;
-  in_file = λ c. c ≡ held;
-  at_path = λ c. c ≡ held;
+  in_beside = λ c. (c ≡ beside) ⊎ (c ≡ beside_stood);
+  in_file = λ c. (c ≡ file) ⊎ (c ≡ stood);
+  at_path = λ c. ((c ≡ file) ⊎ (c ≡ stood)) ⊎ ((is_renamed ≡ true) × ((c ≡ prior) ⊎ (c ≡ prior_stood)));
   ever = λ c. ⊤;
 }
+
+-- one of these two
+abbrev pub OneOfTwo : List ℕ → List ℕ → (List ℕ → Type 0) → Type 0
+OneOfTwo one other P = (c : List ℕ) → P c → (c ≡ one) ⊎ (c ≡ other)
 
 -- only these bytes
 abbrev pub OnlyThese : List ℕ → (List ℕ → Type 0) → Type 0

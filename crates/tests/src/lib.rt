@@ -40,6 +40,8 @@ mod first_use;
 #[cfg(test)]
 mod fixtures;
 #[cfg(test)]
+mod folders;
+#[cfg(test)]
 mod guest;
 #[cfg(test)]
 mod inputs;
