@@ -1,8 +1,7 @@
 -- A line that a bench under way runs.
 use Rattle.std.proofs.Common.{◌≡◌, ◌∙◌, Bool, List, ℕ, Option, Some, Result, Ok, Err, MatchResult, IfOk, OnOk, inl, inr, true, false, refl, sym, subst}
 use Rattle.board_model.specs.Shapes.{Size}
-use Rattle.board_model.specs.declared.refusal.Refusal.{Refusal}
-use Rattle.board_model.specs.declared.refusal.Refusal.TheVariants.{Memory}
+use Rattle.std.specs.declared.alloc.AllocError.{AllocError}
 use Rattle.machine.specs.declared.line.MachineLine.TheVariants as shown
 use Rattle.script_lang.specs.declared.line.Line.{Line}
 use Rattle.script_lang.specs.declared.line.Line.TheVariants as lines
@@ -25,8 +24,8 @@ use Rattle.bench_live.proofs.InPlace.{lost_of, row_of, step_of}
 use Rattle.report_lines.specs.declared.printed.Answer.{Answer}
 use Rattle.bench_live.specs.Lives.{IsAfter, IsCutIn, IsSettled, LineDid, PowerShows, WentInPlace}
 
-pub runs_on : (size : Size) (line : Line) (fill : Fill) (start : Option Power) (power after : Power) (old new : List (List ℕ)) (r : Result Answer Refusal) → start ≡ Some power
-    → ((b : Bench) → IsBench size b power old → MatchResult r (λ answer. (x : Bench) × Moves size line b answer x × EndsBy size line fill b answer after × IsBench size x after new) (λ e. (e ≡ Memory) × Matches size b after new))
+pub runs_on : (size : Size) (line : Line) (fill : Fill) (start : Option Power) (power after : Power) (old new : List (List ℕ)) (r : Result Answer AllocError) → start ≡ Some power
+    → ((b : Bench) → IsBench size b power old → MatchResult r (λ answer. (x : Bench) × Moves size line b answer x × EndsBy size line fill b answer after × IsBench size x after new) (λ e. Matches size b after new))
     → IfOk r (λ answer. (b : Bench) → PowerShows size b start old → (x : Bench) × Moves size line b answer x × IsBench size x after new)
 runs_on size line fill start power after old new (Ok answer) is reported = λ b shows. (let P : Option Power → Type 0 = λ p. PowerShows size b p old in let did = reported b (subst P is shows) in (did.0, did.1, did.3))
 runs_on size line fill start power after old new (Err e) is reported = tt
@@ -36,14 +35,14 @@ pub no_row : (line : Line) → ((h n : ℕ) → line ≡ lines.Turn h n → ⊥)
 no_row (lines.Turn h n) not = absurd (not h n refl)
 no_row line not = tt
 
-pub well_on : (size : Size) (line : Line) (fill : Fill) (start : Option Power) (power after : Power) (given old new : List (List ℕ)) (r : Result Answer Refusal) → start ≡ Some power → given ≡ old → IsNoRow (deed_of line) → HadEnough after → IfOk r (λ a. SaysEnough a.line)
+pub well_on : (size : Size) (line : Line) (fill : Fill) (start : Option Power) (power after : Power) (given old new : List (List ℕ)) (r : Result Answer AllocError) → start ≡ Some power → given ≡ old → IsNoRow (deed_of line) → HadEnough after → IfOk r (λ a. SaysEnough a.line)
     → MovesEnough size line power given r after new
-    → ((b : Bench) → IsBench size b power given → MatchResult r (λ answer. (x : Bench) × Moves size line b answer x × EndsBy size line fill b answer after × IsBench size x after new) (λ e. (e ≡ Memory) × Matches size b after new))
+    → ((b : Bench) → IsBench size b power given → MatchResult r (λ answer. (x : Bench) × Moves size line b answer x × EndsBy size line fill b answer after × IsBench size x after new) (λ e. Matches size b after new))
     → IfOk r (λ answer. (b : Bench) → PowerShows size b start old → (x : Bench) × Moves size line b answer x × IsBench size x after new × (x.growths ≡ b.growths))
 well_on size line fill start power after given old new r is same other had says_so enough reported = rw is (rw (sym same) (by line r other says_so enough reported))
   where
-    by : (line : Line) (r : Result Answer Refusal) → IsNoRow (deed_of line) → IfOk r (λ a. SaysEnough a.line) → MovesEnough size line power given r after new
-        → ((b : Bench) → IsBench size b power given → MatchResult r (λ answer. (x : Bench) × Moves size line b answer x × EndsBy size line fill b answer after × IsBench size x after new) (λ e. (e ≡ Memory) × Matches size b after new))
+    by : (line : Line) (r : Result Answer AllocError) → IsNoRow (deed_of line) → IfOk r (λ a. SaysEnough a.line) → MovesEnough size line power given r after new
+        → ((b : Bench) → IsBench size b power given → MatchResult r (λ answer. (x : Bench) × Moves size line b answer x × EndsBy size line fill b answer after × IsBench size x after new) (λ e. Matches size b after new))
         → IfOk r (λ answer. (b : Bench) → IsBench size b power given → (x : Bench) × Moves size line b answer x × IsBench size x after new × (x.growths ≡ b.growths))
     by (lines.Call h asked) (Ok answer) other says_so enough reported = λ b was. enough had b was
     by line (Ok answer) other says_so enough reported = λ b was.
@@ -51,8 +50,8 @@ well_on size line fill start power after given old new r is same other had says_
     by line (Err e) other says_so enough reported = tt
 
 -- what it did beside
-pub did_on : (size : Size) (line : Line) (fill : Fill) (start : Option Power) (power after : Power) (given old new : List (List ℕ)) (r : Result Answer Refusal) → start ≡ Some power → given ≡ old
-    → ((b : Bench) → IsBench size b power given → MatchResult r (λ answer. (x : Bench) × Moves size line b answer x × EndsBy size line fill b answer after × IsBench size x after new) (λ e. (e ≡ Memory) × Matches size b after new))
+pub did_on : (size : Size) (line : Line) (fill : Fill) (start : Option Power) (power after : Power) (given old new : List (List ℕ)) (r : Result Answer AllocError) → start ≡ Some power → given ≡ old
+    → ((b : Bench) → IsBench size b power given → MatchResult r (λ answer. (x : Bench) × Moves size line b answer x × EndsBy size line fill b answer after × IsBench size x after new) (λ e. Matches size b after new))
     → ((b : Bench) → IsBench size b power given → OnOk r (ArmsIts line after)) → ((b : Bench) → IsBench size b power given → CutsIts line power after) → ((b : Bench) → IsBench size b power given → PokesIts line power r after)
     → IfOk r (InspectsOrLost line power)
     → IfOk r (λ answer. (b : Bench) → PowerShows size b start old → LineDid size line fill b answer start (Some after))

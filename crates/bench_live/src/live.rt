@@ -1,10 +1,9 @@
 //! The bench between two lines.
 //! A law runs nothing, and tells the prover a fact: `blank_disks`.
 
-ghost use Rattle.std.specs.Prelude.{◌≡◌, ◌≤◌, true, false, Some, IfOk, IfErr, OnOk};
+ghost use Rattle.std.specs.Prelude.{◌≡◌, ◌≤◌, false, Some, IfOk, OnOk};
 ghost use Rattle.simdisk.specs.declared.SimDisk.{SimDisk};
 ghost use Rattle.board_model.specs.Shapes.{Size};
-ghost use Rattle.board_model.specs.declared.refusal.Refusal.TheVariants.{Memory};
 ghost use Rattle.bench_report.specs.Agree.{OffIs, fill_after};
 ghost use Rattle.bench_report.specs.Bench.{Bench, bench_with};
 ghost use Rattle.bench_report.specs.Happens.{off};
@@ -26,12 +25,12 @@ use bench_report::{
     Answer, BenchBoard, OffDisk, Power, Setting, disk_left, line_with_cuts, refused_suspension,
 };
 use board::Payloads;
-use board_model::{HartId, Refusal, Shape};
+use board_model::{HartId, Shape};
 use crew::Crew;
 use machine::Word;
 use script_lang::Line;
 use simdisk::{Fill, SimDisk};
-use std::alloc::Global;
+use std::alloc::{AllocError, Global};
 use std::mem::replace;
 use store::blank_disks;
 
@@ -50,12 +49,11 @@ pub struct LiveBench {
 
 impl LiveBench {
     /// The bench before its first line: a blank disk of the size that the board needs, and these payloads.
-    pub fn blank(alloc: Global, shape: &Shape, begins: &Payloads) -> Result<LiveBench, Refusal>
+    pub fn blank(alloc: Global, shape: &Shape, begins: &Payloads) -> Result<LiveBench, AllocError>
         ensures shows { IfOk result (λ live. Shows shape.now (bench_with begins.now) live) }
         ensures sound { IfOk result (λ live. IsSound live) }
         ensures fill { IfOk result (λ live. live.fill ≡ fills.Old) }
         ensures memory { IfOk result (λ live. live.refused ≡ false) }
-        ensures refused { IfErr result (λ e. e ≡ Memory) }
     {
         blank_disks::<SimDisk>();
         let disk = SimDisk::blank(alloc, shape.sectors())?;
@@ -70,8 +68,12 @@ impl LiveBench {
 
     /// Runs a line, as `bench_report::line_with_cuts` does, with what that says of cuts, pokes and armed faults; a line of turns by
     /// `turns`.
-    /// Refused `Memory` alone, where a payload or a poke found none; then the bench is of no use.
-    pub fn run<C: Crew>(&mut self, setting: &Setting<'_, C>, line: &Line) -> Result<Answer, Refusal>
+    /// Refused where a payload or a poke found no memory; then the bench is of no use.
+    pub fn run<C: Crew>(
+        &mut self,
+        setting: &Setting<'_, C>,
+        line: &Line,
+    ) -> Result<Answer, AllocError>
         requires range { IsLineInRange setting.now.shape.now line.now }
         requires sound { IsSound self.old }
         ensures reported { IfOk result (λ answer. (b : Bench) → Shows setting.now.shape.now b self.old
@@ -83,7 +85,6 @@ impl LiveBench {
             → LineDid setting.now.shape.now line.now self.new.fill b answer self.old.power self.new.power) }
         ensures sound { OnOk result (IsSound self.new) }
         ensures fill { self.new.fill ≡ fill_after line.now self.old.fill }
-        ensures refused { IfErr result (λ e. e ≡ Memory) }
     {
         if let Line::Turn(hart, count) = line {
             let row = self.turns(setting, *hart, *count);

@@ -5,20 +5,20 @@ ghost use Rattle.bench_report.specs.Agree.{HadEnough};
 ghost use Rattle.bench_report.specs.Happens.{SaysEnough};
 
 use bench_report::{Answer, Power, refused_suspension, says_refused_memory};
-use board_model::Refusal;
+use std::alloc::AllocError;
 
 /// Whether a line was refused memory, or says that a power-on or an examination of the disk was.
-fn answers_refused(answer: &Result<Answer, Refusal>) -> bool
+fn answers_refused(answer: &Result<Answer, AllocError>) -> bool
     ensures { result ≡ false → IfOk answer.now (λ a. SaysEnough a.line) }
 {
     match answer {
         Ok(answer) => says_refused_memory(answer.line),
-        Err(_refusal) => true,
+        Err(_) => true,
     }
 }
 
 /// Whether memory was refused in a line that answers so and leaves this board: also to a suspension in the life of a board that is on.
-pub fn was_refused(power: &Power, answer: &Result<Answer, Refusal>) -> bool
+pub fn was_refused(power: &Power, answer: &Result<Answer, AllocError>) -> bool
     ensures power { result ≡ false → HadEnough power.now }
     ensures says { result ≡ false → IfOk answer.now (λ a. SaysEnough a.line) }
 {

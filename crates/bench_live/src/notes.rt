@@ -1,8 +1,7 @@
 //! A row of turns becomes part of a history.
 
-ghost use Rattle.std.specs.Prelude.{◌≡◌, ◌<◌, ◌++◌, replicate, IfOk, IfErr, OnOk};
+ghost use Rattle.std.specs.Prelude.{◌≡◌, ◌<◌, ◌++◌, replicate, IfOk, OnOk};
 ghost use Rattle.board_model.specs.Shapes.{Size};
-ghost use Rattle.board_model.specs.declared.refusal.Refusal.TheVariants.{Memory};
 ghost use Rattle.bench_live.specs.Pasts.{moments};
 ghost use Rattle.bench_report.specs.Agree.{fills_after};
 ghost use Rattle.bench_live.specs.Notes.{AreInRange, NotesRow};
@@ -12,17 +11,18 @@ ghost use Rattle.simdisk.specs.declared.fill.Fill.{Fill};
 
 use crate::past::LineHistory;
 use crate::rows::TurnRow;
-use board_model::{HartId, Refusal};
+use board_model::HartId;
+use std::alloc::AllocError;
 
 /// Notes a row of turns of a hart in a history. `joins` says that the history's last line is a row of the same hart that has not
 /// ended: then the two become one line. Answers the same of the history after it: whether a further turn of the hart would
-/// join its last line. A row of no turns notes nothing. Refused `Memory` alone: the history is then of no further use.
+/// join its last line. A row of no turns notes nothing. Where memory is refused the history is of no further use.
 pub fn note(
     history: &mut LineHistory,
     joins: bool,
     hart: HartId,
     row: TurnRow,
-) -> Result<bool, Refusal>
+) -> Result<bool, AllocError>
     requires within { IsWithin 1000000 row }
     // Its lines may leave the bench as it is after the turns.
     ensures left { IfOk result (λ next. (size : Size) → NotesRow size hart row joins next history.old history.new) }
@@ -30,7 +30,6 @@ pub fn note(
     ensures moments { OnOk result (moments history.new ≡ moments history.old ++ replicate (made_in row) (lines.Turn hart 1)) }
     ensures ranges { OnOk result ((size : Size) → hart < size.harts → AreInRange size history.old → AreInRange size history.new) }
     ensures fill { OnOk result ((fill : Fill) → fills_after history.new fill ≡ fills_after history.old fill) }
-    ensures refused { IfErr result (λ e. e ≡ Memory) }
 {
     if row.is_off() {
         return Ok(joins);

@@ -1,6 +1,6 @@
 //! Where the last turn of a hart stands.
 
-ghost use Rattle.std.specs.Prelude.{◌≡◌, ◌<◌, length, IfSome, IfNone};
+ghost use Rattle.std.specs.Prelude.{◌≡◌, ◌<◌, IfSome, IfNone};
 ghost use Rattle.script_lang.specs.declared.line.Line.TheVariants as lines;
 ghost use Rattle.script_lang.specs.Lines.{turns_in};
 ghost use Rattle.bench_live.specs.Pasts.{IsLastRow, NoRow};

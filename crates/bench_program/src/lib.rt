@@ -2,6 +2,7 @@
 //! bench that it writes, and its status.
 #![tactic(auto)]
 
+mod asked;
 mod digests;
 mod fault;
 mod orders;

@@ -1,14 +1,12 @@
 //! The lines of a bench as the Test Anything Protocol has them.
 
-ghost use Rattle.std.specs.Prelude.{◌≡◌, ◌⊎◌, ◌+◌, ◌++◌, ◌==◌, ◌≤◌, ◌<◌, ◌^◌, ◌∷◌, [], map, length, codes, IfOk, IfErr, OnOk};
+ghost use Rattle.std.specs.Prelude.{◌≡◌, ◌+◌, ◌++◌, ◌==◌, ◌≤◌, ◌<◌, ◌^◌, ◌∷◌, [], map, length, codes, IfOk, OnOk};
 ghost use Rattle.std.specs.List.{slice_split};
 ghost use Rattle.std.specs.Io.KnownBytes.{Appends};
-ghost use Rattle.board_model.specs.declared.refusal.Refusal.TheVariants.{Memory, Output};
 ghost use Rattle.bench_program.specs.Taps.{counts_text, failed_count, failed_lines, failed_text, has_word, last_behind, last_of_two, shown_text, skip_text, tap_lines, tap_text, tells_apart, well_word};
 
-use board_model::{Refusal, unwritten};
 use std::alloc::{AllocError, Global};
-use std::io::Write;
+use std::io::{self, Write};
 
 /// What stands in a line of a bench before what the script's own run said.
 const OWN: &[u8] = b" own ";
@@ -52,23 +50,21 @@ fn parts(alloc: Global, text: &[u8]) -> Result<Vec<&[u8]>, AllocError>
 
 /// Writes a line that tells of a difference, as a test that failed.
 #[tactic(auto, using(board_model::proofs::Written::appended))]
-fn write_failed<W: Write>(out: &mut W, number: u64, line: &[u8]) -> Result<(), Refusal>
+fn write_failed<W: Write>(out: &mut W, number: u64, line: &[u8]) -> io::Result<()>
     ensures ok { OnOk result (Appends (W.contents out.old) (W.contents out.new) (failed_text number line.now)) }
-    ensures err { IfErr result (λ e. (e ≡ Memory) ⊎ (e ≡ Output)) }
 {
-    write!(out, "not ok {number} - ").map_err(|error| unwritten(error))?;
-    out.write_all(line).map_err(|error| unwritten(error))?;
-    writeln!(out).map_err(|error| unwritten(error))
+    write!(out, "not ok {number} - ")?;
+    out.write_all(line)?;
+    writeln!(out)
 }
 
 /// Writes a line, behind so many that were written, as a test that failed where it tells of a difference. Answers how many were
 /// written then.
-fn write_failure<W: Write>(out: &mut W, told: u64, line: &[u8]) -> Result<u64, Refusal>
+fn write_failure<W: Write>(out: &mut W, told: u64, line: &[u8]) -> io::Result<u64>
     requires { told < 2 ^ 63 }
     ensures ok { OnOk result (Appends (W.contents out.old) (W.contents out.new) (failed_lines told (line.now ∷ []))) }
     ensures count { IfOk result (λ n. n ≡ told + failed_count (line.now ∷ [])) }
     ensures few { IfOk result (λ n. n ≤ told + 1) }
-    ensures err { IfErr result (λ e. (e ≡ Memory) ⊎ (e ≡ Output)) }
 {
     if !tells_apart(line) {
         return Ok(told);
@@ -78,11 +74,10 @@ fn write_failure<W: Write>(out: &mut W, told: u64, line: &[u8]) -> Result<u64, R
 }
 
 /// Writes each of these lines that tells of a difference, as a test that failed, from number 1 on. Answers how many those are.
-fn write_failures<W: Write>(out: &mut W, lines: &[&[u8]]) -> Result<u64, Refusal>
+fn write_failures<W: Write>(out: &mut W, lines: &[&[u8]]) -> io::Result<u64>
     ensures ok { OnOk result (Appends (W.contents out.old) (W.contents out.new) (failed_lines 0 (map (λ w. w.now) lines.now))) }
     ensures count { IfOk result (λ n. n ≡ failed_count (map (λ w. w.now) lines.now)) }
     ensures few { IfOk result (λ n. n ≤ length lines.now) }
-    ensures err { IfErr result (λ e. (e ≡ Memory) ⊎ (e ≡ Output)) }
 {
     let mut told = 0u64;
     for line in lines {
@@ -118,33 +113,29 @@ fn well_word(well: bool) -> &'static str
 
 /// Writes the last test, with the line of the counts, and the plan.
 #[tactic(auto, using(board_model::proofs::Written::appended))]
-fn write_counts<W: Write>(out: &mut W, well: bool, number: u64, line: &[u8]) -> Result<(), Refusal>
+fn write_counts<W: Write>(out: &mut W, well: bool, number: u64, line: &[u8]) -> io::Result<()>
     ensures ok { OnOk result (Appends (W.contents out.old) (W.contents out.new) (counts_text well number line.now)) }
-    ensures err { IfErr result (λ e. (e ≡ Memory) ⊎ (e ≡ Output)) }
 {
     let word = well_word(well);
-    write!(out, "{word} {number} - ").map_err(|error| unwritten(error))?;
-    out.write_all(line).map_err(|error| unwritten(error))?;
-    out.write_all(skip_text(line))
-        .map_err(|error| unwritten(error))?;
-    writeln!(out, "\n1..{number}").map_err(|error| unwritten(error))
+    write!(out, "{word} {number} - ")?;
+    out.write_all(line)?;
+    out.write_all(skip_text(line))?;
+    writeln!(out, "\n1..{number}")
 }
 
 /// Writes the first line.
-fn write_version<W: Write>(out: &mut W) -> Result<(), Refusal>
+fn write_version<W: Write>(out: &mut W) -> io::Result<()>
     ensures ok { OnOk result (Appends (W.contents out.old) (W.contents out.new) (codes "TAP version 13\n")) }
-    ensures err { IfErr result (λ e. (e ≡ Memory) ⊎ (e ≡ Output)) }
 {
-    writeln!(out, "TAP version 13").map_err(|error| unwritten(error))
+    writeln!(out, "TAP version 13")
 }
 
 /// Writes the comment that nothing is shown, where that is so.
-fn write_shown<W: Write>(out: &mut W, shown: bool) -> Result<(), Refusal>
+fn write_shown<W: Write>(out: &mut W, shown: bool) -> io::Result<()>
     ensures ok { OnOk result (Appends (W.contents out.old) (W.contents out.new) (shown_text shown)) }
-    ensures err { IfErr result (λ e. (e ≡ Memory) ⊎ (e ≡ Output)) }
 {
     let comment = if shown { "" } else { "# nothing is shown\n" };
-    write!(out, "{comment}").map_err(|error| unwritten(error))
+    write!(out, "{comment}")
 }
 
 /// Writes what the Test Anything Protocol has behind the tests that failed: the comment, and the last test.
@@ -155,24 +146,17 @@ fn write_end<W: Write>(
     shown: bool,
     number: u64,
     line: &[u8],
-) -> Result<(), Refusal>
+) -> io::Result<()>
     ensures ok { OnOk result (Appends (W.contents out.old) (W.contents out.new) (shown_text shown ++ counts_text well number line.now)) }
-    ensures err { IfErr result (λ e. (e ≡ Memory) ⊎ (e ≡ Output)) }
 {
     write_shown(out, shown)?;
     write_counts(out, well, number, line)
 }
 
 /// Writes what the Test Anything Protocol has of these lines of a bench.
-fn write_lines<W: Write>(
-    out: &mut W,
-    well: bool,
-    shown: bool,
-    lines: &[&[u8]],
-) -> Result<(), Refusal>
+fn write_lines<W: Write>(out: &mut W, well: bool, shown: bool, lines: &[&[u8]]) -> io::Result<()>
     requires { length lines.now < 2 ^ 63 }
     ensures ok { OnOk result (Appends (W.contents out.old) (W.contents out.new) (tap_lines well shown (map (λ w. w.now) lines.now))) }
-    ensures err { IfErr result (λ e. (e ≡ Memory) ⊎ (e ≡ Output)) }
 {
     write_version(out)?;
     let failed = write_failures(out, lines)?;
@@ -183,16 +167,15 @@ fn write_lines<W: Write>(
 /// the line of the counts, by whether all is well. That one is skipped where the bench made no run. A comment says where none of its
 /// runs could show a difference.
 ///
-/// Refused `Memory` where memory was refused, to the writer too; `Output` where the writer failed else. Any part may be written then.
+/// Where it is refused any part may be written.
 pub fn write_tap<W: Write>(
     alloc: Global,
     text: &[u8],
     well: bool,
     shown: bool,
     out: &mut W,
-) -> Result<(), Refusal>
+) -> io::Result<()>
     ensures ok { OnOk result (Appends (W.contents out.old) (W.contents out.new) (tap_text well shown text.now)) }
-    ensures err { IfErr result (λ e. (e ≡ Memory) ⊎ (e ≡ Output)) }
 {
     let lines = parts(alloc, text)?;
     write_lines(out, well, shown, &lines)

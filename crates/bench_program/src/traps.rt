@@ -6,13 +6,13 @@ ghost use Rattle.script_lang.specs.Looks.{IsLookInRange};
 ghost use Rattle.bench_live.specs.Lives.{IsSound};
 
 use bench_live::LiveBench;
-use bench_report::{Answer, Printed, Setting};
+use bench_report::{Answer, Printed, Setting, lane_by_lane};
 use board::Payloads;
 use board_model::{HartId, Refusal, Value};
-use crew::{Crew, Sequential};
+use crew::Crew;
 use machine::{Did, MachineLine, Word};
 use script_lang::{Line, Look, parse_script};
-use std::alloc::Global;
+use std::alloc::{AllocError, Global};
 use std::io::Write;
 use std::thread::Threads;
 
@@ -59,7 +59,7 @@ fn shown<C: Crew>(
     setting: &Setting<'_, C>,
     live: &mut LiveBench,
     look: Look,
-) -> Result<Option<u64>, Refusal>
+) -> Result<Option<u64>, AllocError>
     requires range { IsLookInRange setting.now.shape.now look }
     requires sound { IsSound live.old }
     ensures sound { OnOk result (IsSound live.new) }
@@ -77,7 +77,7 @@ fn trap_of<C: Crew>(
     setting: &Setting<'_, C>,
     live: &mut LiveBench,
     hart: HartId,
-) -> Result<Option<Trap>, Refusal>
+) -> Result<Option<Trap>, AllocError>
     requires hart { hart < setting.now.shape.now.harts }
     requires sound { IsSound live.old }
     ensures sound { OnOk result (IsSound live.new) }
@@ -102,7 +102,7 @@ fn bench_behind<C: Crew>(
     setting: &Setting<'_, C>,
     lines: &[Line],
     payloads: &Payloads,
-) -> Result<LiveBench, Refusal>
+) -> Result<LiveBench, AllocError>
     requires ranges { All (IsLineInRange setting.now.shape.now) lines.now }
     ensures sound { IfOk result (λ live. IsSound live) }
 {
@@ -127,7 +127,7 @@ fn first_trap<C: Crew>(
     mut live: LiveBench,
     hart: HartId,
     count: u32,
-) -> Result<Option<Trap>, Refusal>
+) -> Result<Option<Trap>, AllocError>
     requires hart { hart < setting.now.shape.now.harts }
     requires sound { IsSound live }
 {
@@ -168,7 +168,7 @@ fn trap_in_row<C: Crew>(
     lines: &[Line],
     place: usize,
     payloads: &Payloads,
-) -> Result<Option<(HartId, Trap)>, Refusal>
+) -> Result<Option<(HartId, Trap)>, AllocError>
     requires ranges { All (IsLineInRange setting.now.shape.now) lines.now }
     requires place { place < length lines.now }
     requires sound { IsSound live.old }
@@ -204,7 +204,7 @@ fn tell_traps_of<C: Crew, F: Write>(
     lines: &[Line],
     payloads: &Payloads,
     faults: &mut F,
-) -> Result<(), Refusal>
+) -> Result<(), AllocError>
     requires ranges { All (IsLineInRange setting.now.shape.now) lines.now }
 {
     let mut live = LiveBench::blank(setting.alloc, setting.shape, payloads)?;
@@ -237,11 +237,12 @@ pub fn tell_traps<R: Threads + Sync, F: Write>(
     faults: &mut F,
 ) -> Result<(), Refusal> {
     let script = parse_script(alloc, script)?;
-    let crew = Sequential::<R>::new([0, 1, 2, 3])?;
+    let crew = lane_by_lane::<R>();
     let setting = Setting {
         alloc,
         crew: &crew,
         shape: &script.shape,
     };
-    tell_traps_of(&setting, &script.lines, payloads, faults)
+    tell_traps_of(&setting, &script.lines, payloads, faults)?;
+    Ok(())
 }

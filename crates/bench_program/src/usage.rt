@@ -1,17 +1,15 @@
 //! The command line, and what `--help` says.
 
-ghost use Rattle.std.specs.Prelude.{◌≡◌, ◌⊎◌, ◌≤◌, ◌<◌, ◌==◌, false, length, position, Some, None, map, codes, IfOk, IfErr, IfSome};
-ghost use Rattle.std.specs.Option.{option_map};
-ghost use Rattle.script_lang.specs.Words.{number_of};
-ghost use Rattle.clap.specs.Words.{app_of, first_value, found_of, kind_of, rule_of};
+ghost use Rattle.std.specs.Prelude.{◌≡◌, ◌⊎◌, ◌<◌, false, Some, None, map, codes, IfOk, IfErr};
+ghost use Rattle.clap.specs.Words.{app_of, found_of, kind_of, rule_of};
 ghost use Rattle.clap.specs.declared.builder.value_parser.ValueParser.{ValueParser};
 ghost use Rattle.command_line.specs.Kinds.{no_work};
 ghost use Rattle.command_line.specs.Parses.{AreParsed};
-ghost use Rattle.bench_sweep.specs.Swept.{whole};
-ghost use Rattle.bench_program.specs.Usage.{bench_or_row, number_up_to, count_rule, crew_rule, jobs_rule, part_between, part_named, parted, work_of_flags, schedules_named, savers_of, sbibench, script_rule, Flags, IsBounded, compare_or_show, quietly, tested, without_benches, with_manners, with_part, with_quiet, with_schedules, with_tap, work_asked, work_without, AreApart, AreOptions, IsFlag, IsNamedBy, NamesConflict, NamesNoWork};
+ghost use Rattle.bench_program.specs.Usage.{count_rule, crew_rule, jobs_rule, part_named, sbibench, script_rule, Flags, IsBounded, with_manners, with_schedules, work_asked, AreApart, AreOptions, IsFlag, IsNamedBy, NamesConflict, NamesNoWork};
 
+use crate::asked::{jobs_asked, part_named, tap_asked, work_asked};
 use bench_schedules::SchedulePlan;
-use bench_sweep::{BenchKind, SweepPlan, WantedRow};
+use bench_sweep::{SweepPlan, WantedRow};
 use board_model::refusal_lines;
 use clap::builder::ValueParser;
 use clap::error::ErrorKind;
@@ -19,8 +17,7 @@ use clap::{Arg, ArgAction, ArgMatches, Command, Error};
 use command_line::{
     flag, option, parse, path_given, payload_paths, program, release, with_payloads,
 };
-use jobs::Part;
-use script_lang::{number, seed_of};
+use script_lang::number;
 use std::alloc::{AllocError, Global};
 use std::convert::AsStr;
 
@@ -94,49 +91,49 @@ const NUMBERS: &str = refusal_lines!(numbers);
 const SCRIPT: &str = "SCRIPT";
 
 /// The option that chooses the crew.
-const CREW: &str = "crew";
+pub(crate) const CREW: &str = "crew";
 
 /// The word for lanes that are written each by a thread of its own.
-const THREADS: &str = "threads";
+pub(crate) const THREADS: &str = "threads";
 
 /// The word for lanes that are written one after another.
 const TURNS: &str = "turns";
 
 /// The flag that chooses the bench of power cuts.
-const SWEEP: &str = "sweep";
+pub(crate) const SWEEP: &str = "sweep";
 
 /// The flag that chooses the bench of failures.
-const FAULTS: &str = "faults";
+pub(crate) const FAULTS: &str = "faults";
 
 /// The option that says how many schedules are run.
-const SCHEDULES: &str = "schedules";
+pub(crate) const SCHEDULES: &str = "schedules";
 
 /// The option with the seed from which they are drawn.
-const SEED: &str = "seed";
+pub(crate) const SEED: &str = "seed";
 
 /// The option that shows one of them.
-const SHOW: &str = "show";
+pub(crate) const SHOW: &str = "show";
 
 /// The option that shrinks one of them.
-const SHRINK: &str = "shrink";
+pub(crate) const SHRINK: &str = "shrink";
 
 /// The option that says how many threads make the runs of a bench.
-const JOBS: &str = "jobs";
+pub(crate) const JOBS: &str = "jobs";
 
 /// The option with the part of the runs that are made.
-const PART: &str = "part";
+pub(crate) const PART: &str = "part";
 
 /// The flag by which only runs that are wrong are written.
-const QUIET: &str = "quiet";
+pub(crate) const QUIET: &str = "quiet";
 
 /// The flag by which tests are written.
-const TAP: &str = "tap";
+pub(crate) const TAP: &str = "tap";
 
 /// The most threads that make the runs of a bench.
 pub const MOST_JOBS: u64 = 64;
 
 /// The most schedules of one run of the bench.
-const MOST_SCHEDULES: u64 = 1_000_000;
+pub(crate) const MOST_SCHEDULES: u64 = 1_000_000;
 
 /// What the command line asks for.
 #[derive(Clone, Copy, Drop)]
@@ -271,291 +268,6 @@ fn command<'a>(alloc: Global) -> Result<Command<'a>, AllocError>
     let command = with_schedules(alloc, command)?;
     let command = with_manners(alloc, command)?;
     with_payloads(alloc, command)
-}
-
-/// The crew that was chosen.
-fn savers_of(matches: &ArgMatches<'_>) -> Savers
-    ensures { result ≡ savers_of (first_value (found_of matches.now) (codes "crew")) }
-{
-    match matches.get_str(CREW) {
-        Some(word) if word == THREADS => Savers::Threads,
-        _ => Savers::Turns,
-    }
-}
-
-/// A number that a word spells, from 1 to `most`.
-fn number_up_to(most: u64, word: &str) -> Option<u64>
-    ensures value { result ≡ number_up_to most (number_of word.now) }
-    ensures least { IfSome result (λ number. 1 ≤ number) }
-    ensures most { IfSome result (λ number. number ≤ most) }
-{
-    let number = number(word.as_bytes())?;
-    if number < 1 || most < number {
-        return None;
-    }
-    Some(number)
-}
-
-/// The work over so many schedules of that seed: to compare them all, or to show or to shrink the one that a word names. None where
-/// the word names none of them, and where there are both words.
-fn compare_or_show(runs: u64, seed: u64, show: Option<&str>, shrink: Option<&str>) -> Option<Work>
-    requires { runs ≤ 1000000 }
-    ensures value { result ≡ compare_or_show runs seed (option_map (λ s. s.now) show.entry) (option_map (λ s. s.now) shrink.entry) }
-    ensures most { IfSome result (λ work. IsBounded work) }
-{
-    match (show, shrink) {
-        (None, None) => Some(Work::Compare(SchedulePlan {
-            seed,
-            count: runs,
-            part: None,
-        })),
-        (Some(word), None) => {
-            let number = number_up_to(runs, word)?;
-            Some(Work::Show(DrawnSchedule { seed, number }))
-        }
-        (None, Some(word)) => {
-            let number = number_up_to(runs, word)?;
-            Some(Work::Shrink(DrawnSchedule { seed, number }))
-        }
-        (Some(_), Some(_)) => None,
-    }
-}
-
-/// The work over schedules that the words of their options ask for. None where a word is out of its range.
-fn schedules_named(
-    runs: &str,
-    seed: Option<&str>,
-    show: Option<&str>,
-    shrink: Option<&str>,
-) -> Option<Work>
-    ensures value { result ≡ schedules_named runs.now (option_map (λ s. s.now) seed.entry) (option_map (λ s. s.now) show.entry)
-        (option_map (λ s. s.now) shrink.entry) }
-    ensures most { IfSome result (λ work. IsBounded work) }
-{
-    let runs = number_up_to(MOST_SCHEDULES, runs)?;
-    let seed = seed_of(seed)?;
-    compare_or_show(runs, seed, show, shrink)
-}
-
-/// The whole of a bench.
-fn whole(bench: BenchKind) -> SweepPlan
-    ensures { result ≡ whole bench }
-{
-    SweepPlan {
-        bench,
-        part: None,
-        quiet: false,
-    }
-}
-
-/// The work without schedules, by the two flags and the crew. None where both flags stand there.
-fn work_of_flags(sweep: bool, faults: bool, savers: Savers) -> Option<Work>
-    ensures value { result ≡ work_of_flags sweep faults savers }
-    ensures most { IfSome result (λ work. IsBounded work) }
-{
-    match (sweep, faults) {
-        (true, true) => None,
-        (true, false) => Some(Work::Judge(whole(BenchKind::Cuts))),
-        (false, true) => Some(Work::Judge(whole(BenchKind::Fails))),
-        (false, false) => Some(Work::Report(savers)),
-    }
-}
-
-/// The work of a bench, or the run of the line that a word names, as a script. None where the word names none, and where the work is
-/// no bench.
-fn bench_or_row(show: Option<&str>, work: Option<Work>) -> Option<Work>
-    requires most { IfSome work (λ w. IsBounded w) }
-    ensures value { result ≡ bench_or_row (option_map (λ s. s.now) show.entry) work }
-    ensures most { IfSome result (λ w. IsBounded w) }
-{
-    match show {
-        None => work,
-        Some(word) => match work {
-            Some(Work::Judge(plan)) => {
-                let number = number_up_to(MOST_SCHEDULES, word)?;
-                let bench = plan.bench;
-                Some(Work::ShowRow(WantedRow { bench, number }))
-            }
-            _ => None,
-        },
-    }
-}
-
-/// The work over schedules, which goes with neither of the two flags. None where one of them stands there too.
-fn schedules_alone(
-    sweep: bool,
-    faults: bool,
-    runs: &str,
-    seed: Option<&str>,
-    show: Option<&str>,
-    shrink: Option<&str>,
-) -> Option<Work>
-    ensures value { result ≡ without_benches sweep faults (schedules_named runs.now (option_map (λ s. s.now) seed.entry)
-        (option_map (λ s. s.now) show.entry) (option_map (λ s. s.now) shrink.entry)) }
-    ensures most { IfSome result (λ work. IsBounded work) }
-{
-    if sweep || faults {
-        return None;
-    }
-    schedules_named(runs, seed, show, shrink)
-}
-
-/// The one work that is asked for, whole. None where there are two, or where an option of schedules stands without them.
-fn work_without(matches: &ArgMatches<'_>, sweep: bool, faults: bool) -> Option<Work>
-    ensures value { result ≡ work_without (found_of matches.now) sweep faults }
-    ensures most { IfSome result (λ work. IsBounded work) }
-{
-    let seed = matches.get_str(SEED);
-    let show = matches.get_str(SHOW);
-    let shrink = matches.get_str(SHRINK);
-    match matches.get_str(SCHEDULES) {
-        Some(runs) => schedules_alone(sweep, faults, runs, seed, show, shrink),
-        None => {
-            if seed.is_some() || shrink.is_some() {
-                return None;
-            }
-            bench_or_row(show, work_of_flags(sweep, faults, savers_of(matches)))
-        }
-    }
-}
-
-/// The part of these two words. None where one of them is out of its range.
-fn part_between(number: Option<u64>, of: Option<u64>) -> Option<Part>
-    ensures { result ≡ part_between number of }
-{
-    match (number, of) {
-        (Some(number), Some(of)) => Part::new(number, of),
-        _ => None,
-    }
-}
-
-/// Where the first `/` is.
-fn first_slash(bytes: &[u8]) -> Option<usize>
-    ensures at { result ≡ position (λ b. b == 47) bytes.now }
-    ensures bound { IfSome result (λ at. at < length bytes.now) }
-{
-    bytes.iter().position(|b| *b == b'/')
-}
-
-/// The part that these bytes of a word name: both numbers, with a `/` between them. None where they name none.
-fn part_spelled(word: &[u8]) -> Option<Part>
-    ensures { result ≡ part_named word.now }
-{
-    let Some(slash) = first_slash(word) else {
-        return None;
-    };
-    part_between(number(&word[..slash]), number(&word[slash + 1..]))
-}
-
-/// The part that a word names. None where it names none.
-fn part_named(word: &str) -> Option<Part>
-    ensures { result ≡ part_named word.now }
-{
-    part_spelled(word.as_bytes())
-}
-
-/// A part of that work. None where it has none.
-fn parted(part: Part, work: Option<Work>) -> Option<Work>
-    requires most { IfSome work (λ w. IsBounded w) }
-    ensures value { result ≡ parted (Some part) work }
-    ensures most { IfSome result (λ w. IsBounded w) }
-{
-    let part = Some(part);
-    match work {
-        Some(Work::Judge(plan)) => Some(Work::Judge(SweepPlan { part, ..plan })),
-        Some(Work::Compare(plan)) => Some(Work::Compare(SchedulePlan { part, ..plan })),
-        _ => None,
-    }
-}
-
-/// The part of that work that a word names; without a word, all of it. None where the word names none, or the work has none.
-fn with_part(word: Option<&str>, work: Option<Work>) -> Option<Work>
-    requires most { IfSome work (λ w. IsBounded w) }
-    ensures value { result ≡ with_part (option_map (λ s. s.now) word.entry) work }
-    ensures most { IfSome result (λ w. IsBounded w) }
-{
-    match word {
-        None => work,
-        Some(word) => match part_named(word) {
-            None => None,
-            Some(part) => parted(part, work),
-        },
-    }
-}
-
-/// That work, of which only runs that are wrong are written. None where it is no bench.
-fn quietly(work: Option<Work>) -> Option<Work>
-    requires most { IfSome work (λ w. IsBounded w) }
-    ensures value { result ≡ quietly work }
-    ensures most { IfSome result (λ w. IsBounded w) }
-{
-    match work {
-        Some(Work::Judge(plan)) => Some(Work::Judge(SweepPlan {
-            quiet: true,
-            ..plan
-        })),
-        _ => None,
-    }
-}
-
-/// That work, or with `--quiet` that of which only runs that are wrong are written.
-fn with_quiet(quiet: bool, work: Option<Work>) -> Option<Work>
-    requires most { IfSome work (λ w. IsBounded w) }
-    ensures value { result ≡ with_quiet quiet work }
-    ensures most { IfSome result (λ w. IsBounded w) }
-{
-    if quiet { quietly(work) } else { work }
-}
-
-/// That work, where it counts what is wrong or differs. None where it does not.
-fn tested(work: Option<Work>) -> Option<Work>
-    requires most { IfSome work (λ w. IsBounded w) }
-    ensures value { result ≡ tested work }
-    ensures most { IfSome result (λ w. IsBounded w) }
-{
-    match work {
-        Some(Work::Judge(plan)) => Some(Work::Judge(plan)),
-        Some(Work::Compare(plan)) => Some(Work::Compare(plan)),
-        _ => None,
-    }
-}
-
-/// That work, of which with `--tap` tests are written.
-fn with_tap(tap: bool, work: Option<Work>) -> Option<Work>
-    requires most { IfSome work (λ w. IsBounded w) }
-    ensures value { result ≡ with_tap tap work }
-    ensures most { IfSome result (λ w. IsBounded w) }
-{
-    if tap { tested(work) } else { work }
-}
-
-/// The one work that is asked for, where this says whether tests are. None where there are two, or where an option stands without the one that
-/// it goes with.
-fn work_asked(matches: &ArgMatches<'_>, tap: bool) -> Option<Work>
-    requires { IsFlag (found_of matches.now) (codes "tap") tap }
-    ensures value { (flags : Flags (found_of matches.now)) × (flags.tap ≡ tap) × (result ≡ work_asked (found_of matches.now) flags) }
-    ensures most { IfSome result (λ work. IsBounded work) }
-{
-    let sweep = matches.get_flag(SWEEP);
-    let faults = matches.get_flag(FAULTS);
-    let quiet = matches.get_flag(QUIET);
-    let work = work_without(matches, sweep, faults);
-    let work = with_part(matches.get_str(PART), work);
-    with_tap(tap, with_quiet(quiet, work))
-}
-
-/// Whether tests are to be written.
-fn tap_asked(matches: &ArgMatches<'_>) -> bool
-    ensures { IsFlag (found_of matches.now) (codes "tap") result }
-{
-    matches.get_flag(TAP)
-}
-
-/// How many threads are to make the runs of a bench, where the words say it.
-fn jobs_asked(matches: &ArgMatches<'_>) -> Option<usize> {
-    let word = matches.get_str(JOBS)?;
-    let count = number_up_to(MOST_JOBS, word)?;
-    Some(count as usize)
 }
 
 /// The text that says why an option is out of place that says which runs are made and written, and how.

@@ -12,16 +12,15 @@ use crate::orders::{has_orders, is_shown};
 use crate::taps::write_tap;
 use crate::usage::{BenchOptions, MOST_JOBS, Savers, Work};
 use crate::watched::Unpaused;
-use bench_report::run_with;
+use bench_report::{lane_by_lane, run_with};
 use bench_schedules::{SchedulePlan, schedules, show, shrink};
 use bench_sweep::{run_bench, show_row};
 use board::Payloads;
 use board_model::{Refusal, unwritten};
-use crew::Sequential;
 use jobs::{Jobs, Progress};
 use script_lang::parse_script;
-use std::alloc::Global;
-use std::io::Write;
+use std::alloc::{AllocError, Global};
+use std::io::{self, Write};
 use std::thread::{self, Threads};
 
 /// How many threads make the runs of a bench, at most: as many as were asked for, or as there are processors.
@@ -55,7 +54,7 @@ fn report<R: Threads + Sync, W: Write>(
             Ok(0)
         }
         Savers::Turns => {
-            let crew = Sequential::<R>::new([0, 1, 2, 3])?;
+            let crew = lane_by_lane::<R>();
             run_with(alloc, script, &crew, payloads, out)?;
             Ok(0)
         }
@@ -137,14 +136,13 @@ pub fn is_kept(options: &BenchOptions) -> bool
 }
 
 /// Whether a line of the script can show that an order differs, where the work compares orders.
-fn shown_by(alloc: Global, work: Work, script: &[u8]) -> Result<bool, Refusal>
+fn shown_by(alloc: Global, work: Work, script: &[u8]) -> Result<bool, AllocError>
     ensures shown { IfOk result (λ shown. shown ≡ shown_by work script.now) }
-    ensures refused { IfErr result (λ e. e ≡ Memory) }
 {
     match work {
         Work::Compare(_) => match parse_script(alloc, script) {
             Ok(script) => Ok(is_shown(&script.lines)),
-            Err(Refusal::Memory) => Err(Refusal::Memory),
+            Err(Refusal::Memory) => Err(AllocError),
             Err(_) => Ok(true),
         },
         _ => Ok(true),
@@ -159,14 +157,13 @@ fn write_tested<W: Write>(
     shown: bool,
     text: &[u8],
     out: &mut W,
-) -> Result<(), Refusal>
+) -> io::Result<()>
     ensures ok { OnOk result (Appends (W.contents out.old) (W.contents out.new) (tested_text tap well shown text.now)) }
-    ensures err { IfErr result (λ e. (e ≡ Memory) ⊎ (e ≡ Output)) }
 {
     if tap {
         return write_tap(alloc, text, well, shown, out);
     }
-    out.write_all(text).map_err(|error| unwritten(error))
+    out.write_all(text)
 }
 
 /// Makes what the work makes in memory, and then writes it, or the tests of it. A part ends with its digest.
@@ -200,6 +197,7 @@ pub fn make_kept<R: Threads + Sync, P: Progress + Copy + Drop, W: Write>(
     progress.pause();
     let differ = made?;
     let text = with_tag(text, &tag)?;
-    write_tested(alloc, options.tap, differ == 0, shown, &text, out)?;
+    let written = write_tested(alloc, options.tap, differ == 0, shown, &text, out);
+    written.map_err(|error| unwritten(error))?;
     Ok(differ)
 }

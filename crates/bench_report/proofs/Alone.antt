@@ -1,14 +1,10 @@
 -- What the clauses of a line say that speak of one kind of line alone.
-use Rattle.std.proofs.Common.{◌≡◌, ◌∙◌, ℕ, ◌<◌, ◌≤◌, List, length, Result, Ok, Err, OnErr, IfErr, IfOk, sym, ap, subst, arith}
-use Rattle.std.specs.Result.{IsErrAnd}
-use Rattle.std.proofs.lemmas.Result.{err_from_is_err_and}
+use Rattle.std.proofs.Common.{◌≡◌, ℕ, ◌<◌, ◌≤◌, List, length, Result, Ok, IfOk, sym, ap, subst, arith}
 use Rattle.board_model.specs.Shapes.{Size}
-use Rattle.board_model.specs.declared.refusal.Refusal.{Refusal}
-use Rattle.board_model.specs.declared.refusal.Refusal.TheVariants.{Memory}
+use Rattle.std.specs.declared.alloc.AllocError.{AllocError}
 use Rattle.script_lang.specs.Lines.{IsLineInRange}
 use Rattle.script_lang.specs.declared.line.Line.{Line}
 use Rattle.script_lang.specs.declared.line.Line.TheVariants as lines
-use Rattle.machine.specs.declared.line.MachineLine.{MachineLine}
 use Rattle.report_lines.specs.declared.printed.Answer.{Answer}
 use Rattle.simdisk.specs.declared.SimDisk.{SimDisk}
 use Rattle.bench_report.specs.declared.power.Power.{Power}
@@ -21,26 +17,19 @@ module _ (line l : Line) where
   pub cuts_by : (before left : Power) → line ≡ l → CutsIts l before left → CutsIts line before left
   cuts_by before left is it = subst (λ (x : Line). CutsIts x before left) (sym is) it
 
-  pub pokes_by : (before : Power) (did : Result Answer Refusal) (left : Power) → line ≡ l → PokesIts l before did left → PokesIts line before did left
+  pub pokes_by : (before : Power) (did : Result Answer AllocError) (left : Power) → line ≡ l → PokesIts l before did left → PokesIts line before did left
   pokes_by before did left is it = subst (λ (x : Line). PokesIts x before did left) (sym is) it
 
-  pub inspects_by : (before : Power) (did : Result Answer Refusal) → line ≡ l → InspectsIts l before did → InspectsIts line before did
+  pub inspects_by : (before : Power) (did : Result Answer AllocError) → line ≡ l → InspectsIts l before did → InspectsIts line before did
   inspects_by before did is it = subst (λ (x : Line). InspectsIts x before did) (sym is) it
 
-pub enough_by : (size : Size) (line l : Line) (before : Power) (slots : List (List ℕ)) (did : Result Answer Refusal) (left : Power) (now : List (List ℕ)) → line ≡ l
+pub enough_by : (size : Size) (line l : Line) (before : Power) (slots : List (List ℕ)) (did : Result Answer AllocError) (left : Power) (now : List (List ℕ)) → line ≡ l
     → StepsEnough size l before slots did left now → StepsEnough size line before slots did left now
 enough_by size line l before slots did left now is it = subst (λ (x : Line). StepsEnough size x before slots did left now) (sym is) it
 
 -- a line that is answered
-pub exact_by : (P : Answer → Type 0) (did : Result Answer Refusal) (a : Answer) → did ≡ Ok a → P a → IfOk did P
-exact_by P did a is it = subst (λ (x : Result Answer Refusal). IfOk x P) (sym is) it
-
-pub not_refused : (did : Result Answer Refusal) (a : Answer) → did ≡ Ok a → OnErr did (did ≡ Err Memory)
-not_refused did a is = subst (λ (x : Result Answer Refusal). OnErr x (did ≡ Err Memory)) (sym is) tt
-
--- a payload that is refused
-pub same_refusal : (e : Refusal) → ◌≡◌ {A = Result MachineLine Refusal} (Err e) (Err Memory) → e ≡ Memory
-same_refusal e is = cc
+pub exact_by : (P : Answer → Type 0) (did : Result Answer AllocError) (a : Answer) → did ≡ Ok a → P a → IfOk did P
+exact_by P did a is it = subst (λ (x : Result Answer AllocError). IfOk x P) (sym is) it
 
 -- the ranges of a line
 pub some_turns : (size : Size) (line : Line) (h n : ℕ) → line ≡ lines.Turn h n → IsLineInRange size line → 0 < n
@@ -56,8 +45,3 @@ struck_by power p is = sym (ap (λ (x : Power). is_struck x) is)
 -- a copy of a board
 pub copies_at : (old new d e : SimDisk) → IsCopyOf old new → d ≡ old → e ≡ new → IsCopyOf d e
 copies_at old new d e copy is made = subst (λ (x : SimDisk). IsCopyOf x e) (sym is) (subst (λ (x : SimDisk). IsCopyOf old x) (sym made) copy)
-
-pub refused_as : {X : Type 0} (r : Result X Refusal) (e : Refusal) → IsErrAnd r (λ x. x ≡ e) → e ≡ Memory → IfErr r (λ x. x ≡ Memory)
-refused_as {X} r e is memory =
-    let p = err_from_is_err_and r is in
-    subst (λ (x : Result X Refusal). IfErr x (λ y. y ≡ Memory)) (sym p.1) (p.2 ∙ memory)

@@ -1,7 +1,7 @@
 -- A bench on whose disk a cut or a failure is armed.
 use Rattle.std.proofs.Common.{◌≡◌, ◌≤◌, true, false, ℕ, Option, None, Some, Result, sym, ◌∙◌, ap, subst, length}
 use Rattle.board_model.specs.Shapes.{Size}
-use Rattle.board_model.specs.declared.refusal.Refusal.{Refusal}
+use Rattle.std.specs.declared.alloc.AllocError.{AllocError}
 use Rattle.disk.specs.Facts.{Facts, Unchanged}
 use Rattle.disk.specs.FaultState.{FaultState, fault_state_armed}
 use Rattle.disk.specs.declared.device.ArmedFault.{ArmedFault}
@@ -59,7 +59,7 @@ unstruck_cut size (lines.Cut fill) b a new before left step hit =
 unstruck_cut size line b a new before left step hit = tt
 
 -- nor one that writes past the firmware, with the board on or off
-pub unstruck_poke : (size : Size) (line : Line) (b : Bench) (a : Answer) (new : Bench) (before left : Power) (did : Result Answer Refusal) → Step size line b a new → b.fault_state.struck ≡ false → new.fault_state.struck ≡ true
+pub unstruck_poke : (size : Size) (line : Line) (b : Bench) (a : Answer) (new : Bench) (before left : Power) (did : Result Answer AllocError) → Step size line b a new → b.fault_state.struck ≡ false → new.fault_state.struck ≡ true
     → PokesIts line before did left
 unstruck_poke size (lines.Poke k offset bytes) b a new before left did step calm hit = absurd (by b.power step)
   where

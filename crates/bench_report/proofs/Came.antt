@@ -133,7 +133,7 @@ module _ (size : Size) (b : Bench) (life : BenchLife) (h : ℕ) (n : Machine) (o
   resets_err kind r e held still asked refused =
       let did = reported_err size b life (Reset r) old new (life_of old) on was device asked.stays.board asked.stays.length asked.stays.no_fewer calm_life life.doubt refl e
       (λ none. (asked.answered none).life) asked.down (λ none. (asked.answered none).cause) (λ none. (asked.answered none).counts) asked.untouched in
-      let grows = (issued_keeps life.doubt (Reset r) life b (Err (number_of_refusal e)) did.0 did.1).0 in
+      let grows = issued_keeps life.doubt (Reset r) life b (Err (number_of_refusal e)) did.0 did.1 in
       let last = fails (number_of_refusal e) (life_ends.Reset kind) did.0 held still did.2 did.3 (λ _. grows) refused in
       (last.0, (Err (number_of_refusal e), did.0, did.1, last.1), last.2, last.3, last.4)
 
@@ -200,7 +200,7 @@ module _ (size : Size) (b : Bench) (life : BenchLife) (h : ℕ) (n : Machine) (o
 
       issued : Fits → (e : Refusal) → ((x : Bench) × Issued command life b (Err (number_of_refusal e)) x × Running size x life.machine new × (x.payloads ≡ b.payloads)) → (k : ℕ) × Suspending k
       issued fits e did =
-          let grows = (issued_keeps life.doubt command life b (Err (number_of_refusal e)) did.0 did.1).0 in
+          let grows = issued_keeps life.doubt command life b (Err (number_of_refusal e)) did.0 did.1 in
           (number_of_refusal e, (did.0, inl (fits, did.1), did.2, did.3, λ _. grows))
 
       goes_up : life.doubt ≡ None → Fits → (e : Refusal) → Refused seen command e (life_of new) → CausedRefusal (store_fault_state old) e (store_fault_state new) → CountedRefusal (store_facts old).failures e (store_facts new).failures → Keeps_store e → (k : ℕ) × Suspending k

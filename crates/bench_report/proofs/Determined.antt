@@ -324,10 +324,10 @@ no_open size Blank b s z mid n calm h r = h
 no_open size Unknown b s z mid n calm h r = calm
 no_open size Formatted b s z mid n calm h r = r
 
-step_keeps_number : (m : DiskState) (b : Bench) (n k : ℕ) → CalmDisk m b.kept.doubt → IsOpenRefusal m n → IsOpenRefusal m k → n ≡ k
-step_keeps_number Blank b n k calm h r = h ∙ sym r
-step_keeps_number Unknown b n k calm h r = absurd calm
-step_keeps_number Formatted b n k calm h r = absurd h
+one_number : (m : DiskState) (b : Bench) (n k : ℕ) → CalmDisk m b.kept.doubt → IsOpenRefusal m n → IsOpenRefusal m k → n ≡ k
+one_number Blank b n k calm h r = h ∙ sym r
+one_number Unknown b n k calm h r = absurd calm
+one_number Formatted b n k calm h r = absurd h
 
 pub powers : (size : Size) (mode : BootMode) (b : Bench) (a c : Answer) (new last : Bench) → IsCalm b → PowersOn size mode b a new → PowersOn size mode b c last → Agree a c new last
 powers size mode b a c new last calm (inr (inr (inl x))) y = inl (starves b new x.2)
@@ -337,7 +337,7 @@ powers size mode b a c new last calm (inr (inl x)) (inr (inr (inl y))) = inr (in
 powers size mode b a c new last calm (inl x) (inr (inr (inr y))) = inr (inl (hinders b last y.1))
 powers size mode b a c new last calm (inr (inl x)) (inr (inr (inr y))) = inr (inl (hinders b last y.1))
 powers size mode b a c new last calm (inr (inl x)) (inr (inl y)) =
-    same a c (says (printed.OnRefused x.0)) new last b x.2 (y.2 ∙ ap (λ n. says (printed.OnRefused n)) (step_keeps_number b.disk_state b y.0 x.0 calm.0 y.1 x.1)) x.3 y.3
+    same a c (says (printed.OnRefused x.0)) new last b x.2 (y.2 ∙ ap (λ n. says (printed.OnRefused n)) (one_number b.disk_state b y.0 x.0 calm.0 y.1 x.1)) x.3 y.3
 powers size mode b a c new last calm (inl x) (inr (inl y)) = absurd (no_open size b.disk_state b x.0 x.1 x.2 y.0 calm.0 x.3 y.1)
 powers size mode b a c new last calm (inr (inl x)) (inl y) = absurd (no_open size b.disk_state b y.0 y.1 y.2 x.0 calm.0 y.3 x.1)
 powers size mode b a c new last calm (inl (s, z, mid, found, shows, x)) (inl (t, w, other, found2, shows2, y)) =

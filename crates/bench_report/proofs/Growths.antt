@@ -1,4 +1,4 @@
--- What is counted of refused memory, and what is armed: by each command and power-on, by a hart's turns and calls, by a line.
+-- What is counted of refused memory: by each command and power-on, by a hart's turns and calls, by a line.
 use Rattle.std.proofs.Common.{◌≡◌, ◌⊎◌, ℕ, zero, suc, inl, inr, true, false, List, [], ◌∷◌, Option, None, Some, Result, Ok, Err, refl, sym, ◌∙◌, ap, subst}
 use Rattle.std.specs.Bool.{⊤}
 use Rattle.board.specs.Boots.{boot_refusal}
@@ -32,7 +32,6 @@ use Rattle.script_lang.specs.declared.line.Line.{Line}
 use Rattle.script_lang.specs.declared.line.Line.TheVariants as lines
 use Rattle.susp.specs.declared.sleeps.Sleep.{Sleep}
 use Rattle.susp.specs.declared.sleeps.Sleep.TheVariants.{ToDisk, ToRam}
-use Rattle.bench_report.specs.Agree.{ArmedAlike}
 use Rattle.bench_report.specs.Asides.{Effect, Stays, aside, affected}
 use Rattle.bench_report.specs.Bench.{DiskState, Blank, Unknown, Formatted, BenchLife, Bench}
 use Rattle.bench_report.specs.Commands.{IssuedBy, IssuesAll, Writes}
@@ -48,66 +47,55 @@ use Rattle.bench_report.proofs.Questions.{IsAsked, is_asked}
 abbrev pub Counts : Bench → Bench → Type 0
 Counts b new = new.growths ≡ b.growths
 
--- and nothing is armed
-abbrev pub Keeps : Bench → Bench → Type 0
-Keeps b new = Counts b new × ArmedAlike b new
-
 -- No more are counted; or there is a reason why one is, and nothing failed.
 abbrev pub Grows : Type 0 → Bench → Bench → Type 0
 Grows Why b new = Counts b new ⊎ (Why × (new.fault_state ≡ b.fault_state))
 
-as_in : (b new n : Bench) → new ≡ n → Keeps b n → Keeps b new
-as_in b new n e is = (ap (λ (x : Bench). x.growths) e ∙ is.0, ap (λ (x : Bench). x.fault_state.armings) e ∙ is.1)
+as_in : (b new n : Bench) → new ≡ n → Counts b n → Counts b new
+as_in b new n e is = ap (λ (x : Bench). x.growths) e ∙ is
 
-keeps_then : (b mid new : Bench) → Keeps b mid → Keeps mid new → Keeps b new
-keeps_then b mid new x y = (y.0 ∙ x.0, y.1 ∙ x.1)
+keeps_then : (b mid new : Bench) → Counts b mid → Counts mid new → Counts b new
+keeps_then b mid new x y = y ∙ x
 
--- a failure of the disk arms nothing
-pub caused_armings : (old new : FaultState) → Cause old new → new.armings ≡ old.armings
-caused_armings old new (inl is) = ap (λ (m : FaultState). m.armings) is
-caused_armings old new (inr (inl h)) = ap (λ (m : FaultState). m.armings) h.1
-caused_armings old new (inr (inr (inl h))) = ap (λ (m : FaultState). m.armings) h.1
-caused_armings old new (inr (inr (inr h))) = ap (λ (m : FaultState). m.armings) h.1
-
-fails : (b c new : Bench) → FailsByFault c new → Keeps b c → Keeps b new
-fails b c new (m, cause, e) is = as_in b new (failed m c) e (is.0, caused_armings c.fault_state m cause ∙ is.1)
+fails : (b c new : Bench) → FailsByFault c new → Counts b c → Counts b new
+fails b c new (m, cause, e) is = as_in b new (failed m c) e is
 
 -- ---- commands
-pub issued_keeps : (d : Option Change) (c : Change) (life : BenchLife) (b : Bench) (o : Result ℕ ℕ) (x : Bench) → IssuedBy d c life b o x → Keeps b x
+pub issued_keeps : (d : Option Change) (c : Change) (life : BenchLife) (b : Bench) (o : Result ℕ ℕ) (x : Bench) → IssuedBy d c life b o x → Counts b x
 issued_keeps d c life b o x issued = by d issued
   where
-    writes : (r : Option ℕ) → Writes r c life b o x → Keeps b x
-    writes (Some n) w = as_in b x b w.1 (refl, refl)
-    writes None (inl w) = as_in b x (acknowledged c life b) w.1 (refl, refl)
-    writes None (inr (inl w)) = fails b b x w.1 (refl, refl)
-    writes None (inr (inr w)) = fails b (in_doubt c life b) x w.1 (refl, refl)
+    writes : (r : Option ℕ) → Writes r c life b o x → Counts b x
+    writes (Some n) w = as_in b x b w.1 refl
+    writes None (inl w) = as_in b x (acknowledged c life b) w.1 refl
+    writes None (inr (inl w)) = fails b b x w.1 refl
+    writes None (inr (inr w)) = fails b (in_doubt c life b) x w.1 refl
 
-    by : (d : Option Change) → IssuedBy d c life b o x → Keeps b x
-    by (Some e) i = as_in b x b i.1 (refl, refl)
-    by None (inl i) = as_in b x b i.2 (refl, refl)
+    by : (d : Option Change) → IssuedBy d c life b o x → Counts b x
+    by (Some e) i = as_in b x b i.1 refl
+    by None (inl i) = as_in b x b i.2 refl
     by None (inr i) = writes (refusal_of life.now c) i.1
 
-all_keep : (cs : List Change) (b : Bench) (o : Result ℕ ℕ) (new : Bench) → IssuesAll cs b o new → Keeps b new
-all_keep [] b o new x = as_in b new b x.1 (refl, refl)
+all_keep : (cs : List Change) (b : Bench) (o : Result ℕ ℕ) (new : Bench) → IssuesAll cs b o new → Counts b new
+all_keep [] b o new x = as_in b new b x.1 refl
 all_keep (c ∷ cs) b o new (life, on, first, mid, issued, inl (n, ok, rest)) = keeps_then b mid new (issued_keeps life.doubt c life b first mid issued) (all_keep cs mid o new rest)
 all_keep (c ∷ cs) b o new (life, on, first, mid, issued, inr (n, err, e, is)) = as_in b new mid is (issued_keeps life.doubt c life b first mid issued)
 
-pub console_keeps : (c : ConsoleCommand) (p : Option BenchLife) (b : Bench) (a : Answer) (new : Bench) → ConsoleStep c p b a new → Keeps b new
-console_keeps c None b a new x = as_in b new b x.1 (refl, refl)
+pub console_keeps : (c : ConsoleCommand) (p : Option BenchLife) (b : Bench) (a : Answer) (new : Bench) → ConsoleStep c p b a new → Counts b new
+console_keeps c None b a new x = as_in b new b x.1 refl
 console_keeps c (Some life) b a new (o, issued, e) = issued_keeps life.doubt (console_change c) life b o new issued
 
 -- ---- a format, and a power-on
-formats : (m : DiskState) (b : Bench) (a : Answer) (new : Bench) → FormatsOn m b a new → Keeps b new
-formats Blank b a new (inl x) = as_in b new (formatted_anew b) x.1 (refl, refl)
-formats Blank b a new (inr x) = fails b (unknown b) new x.1 (refl, refl)
-formats Unknown b a new (inl x) = as_in b new (formatted_anew b) x.1 (refl, refl)
-formats Unknown b a new (inr (inl x)) = fails b b new x.1 (refl, refl)
-formats Unknown b a new (inr (inr x)) = as_in b new b x.3 (refl, refl)
-formats Formatted b a new (inl x) = as_in b new b x.1 (refl, refl)
-formats Formatted b a new (inr x) = fails b b new x.1 (refl, refl)
+formats : (m : DiskState) (b : Bench) (a : Answer) (new : Bench) → FormatsOn m b a new → Counts b new
+formats Blank b a new (inl x) = as_in b new (formatted_anew b) x.1 refl
+formats Blank b a new (inr x) = fails b (unknown b) new x.1 refl
+formats Unknown b a new (inl x) = as_in b new (formatted_anew b) x.1 refl
+formats Unknown b a new (inr (inl x)) = fails b b new x.1 refl
+formats Unknown b a new (inr (inr x)) = as_in b new b x.3 refl
+formats Formatted b a new (inl x) = as_in b new b x.1 refl
+formats Formatted b a new (inr x) = fails b b new x.1 refl
 
-format_line : (p : Option BenchLife) (b : Bench) (a : Answer) (new : Bench) → FormatStep p b a new → Keeps b new
-format_line (Some life) b a new x = as_in b new b x.1 (refl, refl)
+format_line : (p : Option BenchLife) (b : Bench) (a : Answer) (new : Bench) → FormatStep p b a new → Counts b new
+format_line (Some life) b a new x = as_in b new b x.1 refl
 format_line None b a new x = formats b.disk_state b a new x
 
 -- what is said is a refusal of memory
@@ -118,23 +106,23 @@ refuses_as : (line said : Printed) → line ≡ said → Refuses said → Refuse
 refuses_as line said e is = let P : Printed → Type 0 = Refuses in subst P (sym e) is
 
 module _ (z : Size) (s : DurableState) (b : Bench) (line : Printed) (new : Bench) where
-  from : (mode : BootMode) → BootsFrom mode z s b line new → Keeps b new
-  from mode (o, mid, issues, booted) = keeps_then b mid new (let all = all_keep (commands_by mode s) (on_with (life_begun s z) b) o mid issues in (all.0, all.1)) (by o booted)
+  from : (mode : BootMode) → BootsFrom mode z s b line new → Counts b new
+  from mode (o, mid, issues, booted) = keeps_then b mid new (all_keep (commands_by mode s) (on_with (life_begun s z) b) o mid issues) (by o booted)
     where
-      by : (o : Result ℕ ℕ) → IsBooted o mode z s mid line new → Keeps mid new
-      by (Ok n) (life, on, said, m, begun, e) = as_in mid new (on_with (has_machine m life) mid) e (refl, refl)
-      by (Err n) did = as_in mid new (off mid) did.1 (refl, refl)
+      by : (o : Result ℕ ℕ) → IsBooted o mode z s mid line new → Counts mid new
+      by (Ok n) (life, on, said, m, begun, e) = as_in mid new (on_with (has_machine m life) mid) e refl
+      by (Err n) did = as_in mid new (off mid) did.1 refl
 
-  begins : (mode : BootMode) → Begins mode z s b line new → Keeps b new
+  begins : (mode : BootMode) → Begins mode z s b line new → Counts b new
   begins modes.Fresh x = from modes.Fresh x
   begins modes.Keep x = from modes.Keep x
   begins modes.Discard x = from modes.Discard x
   begins modes.Resume (inl x) = from modes.Resume x
-  begins modes.Resume (inr x) = as_in b new b x.2 (refl, refl)
+  begins modes.Resume (inr x) = as_in b new b x.2 refl
 
   boots : (r : Option ℕ) (mode : BootMode) → Boots r mode z s b line new → Grows (Refuses line) b new
   boots (Some n) mode x = inl (ap (λ (y : Bench). y.growths) x.1)
-  boots None mode (inl x) = inl (begins mode x.1).0
+  boots None mode (inl x) = inl (begins mode x.1)
   boots None mode (inr (inl x)) = inl (ap (λ (y : Bench). y.growths) x.2)
   boots None mode (inr (inr x)) = inr (refuses_as line (printed.OnRefused 11) x.1 (λ not. not refl), ap (λ (y : Bench). y.fault_state) x.2)
 
@@ -158,22 +146,19 @@ pub power_grows : (size : Size) (mode : BootMode) (b : Bench) (a : Answer) (new 
 power_grows size mode b a new (inl (s, z, mid, opened, shows_it, booted)) = behind b mid new (opens size b.disk_state b s z mid opened) (boots z s mid a.line new (boot_refusal s mode) mode booted)
 power_grows size mode b a new (inr (inl (n, refusal, e, is))) = inl (ap (λ (x : Bench). x.growths) is)
 power_grows size mode b a new (inr (inr (inl x))) = inr (refuses_as a.line (printed.OnRefused 11) (ap (λ (y : Answer). y.line) x.1) (λ not. not refl), ap (λ (y : Bench). y.fault_state) x.2)
-power_grows size mode b a new (inr (inr (inr x))) = inl (fails b b new x.1 (refl, refl)).0
+power_grows size mode b a new (inr (inr (inr x))) = inl (fails b b new x.1 refl)
 
 on_line : (size : Size) (mode : BootMode) (p : Option BenchLife) (b : Bench) (a : Answer) (new : Bench) → OnStep size p mode b a new → Grows (Refuses a.line) b new
 on_line size mode (Some life) b a new x = inl (ap (λ (y : Bench). y.growths) x.1)
 on_line size mode None b a new x = power_grows size mode b a new x
 
--- ---- what comes of what a hart did: nothing is armed, and where a refusal is counted nothing failed
+-- ---- what comes of what a hart did: where a refusal is counted nothing failed
 abbrev pub Comes : Bench → Bench → Type 0
-Comes b new = ArmedAlike b new × Grows ⊤ b new
-
-comes_by : (b new : Bench) → Keeps b new → Comes b new
-comes_by b new x = (x.1, inl x.0)
+Comes b new = Grows ⊤ b new
 
 comes_then : (b mid new : Bench) → Comes b mid → Stays_as mid new → Comes b new
-comes_then b mid new (armed, inl x) is = (ap (λ (m : FaultState). m.armings) is.1 ∙ armed, inl (is.0 ∙ x))
-comes_then b mid new (armed, inr x) is = (ap (λ (m : FaultState). m.armings) is.1 ∙ armed, inr (x.0, is.1 ∙ x.1))
+comes_then b mid new (inl x) is = inl (is.0 ∙ x)
+comes_then b mid new (inr x) is = inr (x.0, is.1 ∙ x.1)
 
 module _ (h : ℕ) where
   answers : (e : SbiError) (life : BenchLife) (b : Bench) (word : Word) (new : Bench) → AnswersError e h life b word new → Stays_as b new
@@ -185,19 +170,19 @@ module _ (h : ℕ) where
 
   module _ (life : BenchLife) (b : Bench) (word : Word) (new : Bench) where
     errs : (e : SbiError) → AnswersError e h life b word new → Comes b new
-    errs e x = comes_then b b new (refl, inl refl) (answers e life b word new x)
+    errs e x = comes_then b b new (inl refl) (answers e life b word new x)
 
     resets : (asked : Result (ResetType × Reason) SbiError) → Resets asked h life b word new → Comes b new
     resets (Err e) x = errs e x
-    resets (Ok reset) (o, mid, i, x) = comes_then b mid new (comes_by b mid (issued_keeps life.doubt (Reset reset.1) life b o mid i)) (command o (life_ends.Reset reset.0) mid word new x)
+    resets (Ok reset) (o, mid, i, x) = comes_then b mid new (inl (issued_keeps life.doubt (Reset reset.1) life b o mid i)) (command o (life_ends.Reset reset.0) mid word new x)
 
     suspends : (Fits : Type 0) (c : Change) (o : Result ℕ ℕ) (mid : Bench) → SuspendIssued Fits c life b o mid → Comes b mid
-    suspends Fits c o mid (inl x) = comes_by b mid (issued_keeps life.doubt c life b o mid x.1)
-    suspends Fits c o mid (inr (inl x)) = (ap (λ (y : Bench). y.fault_state.armings) x.2, inr (tt, ap (λ (y : Bench). y.fault_state) x.2))
-    suspends Fits c o mid (inr (inr x)) = comes_by b mid (as_in b mid b x.2 (refl, refl))
+    suspends Fits c o mid (inl x) = inl (issued_keeps life.doubt c life b o mid x.1)
+    suspends Fits c o mid (inr (inl x)) = inr (tt, ap (λ (y : Bench). y.fault_state) x.2)
+    suspends Fits c o mid (inr (inr x)) = inl (as_in b mid b x.2 refl)
 
     falls : (sleep : Sleep) (site opaque : ℕ) → BenchFallsAsleep sleep site opaque h life b word new → Comes b new
-    falls ToRam site opaque x = comes_by b new (as_in b new (on_with (dozes h site opaque life) b) x.1 (refl, refl))
+    falls ToRam site opaque x = inl (as_in b new (on_with (dozes h site opaque life) b) x.1 refl)
     falls ToDisk site opaque (o, mid, i, x) = comes_then b mid new (suspends _ _ o mid i) (command o life_ends.Asleep mid word new x)
 
     sleeps : (sleep : Sleep) (site opaque : ℕ) → BenchSleeps sleep site opaque h life b word new → Comes b new
@@ -215,40 +200,22 @@ module _ (h : ℕ) where
 
     comes_to : (did : Turned) → ComesTo did h life b word new → Comes b new
     comes_to Durable x = makes (call_of (hart_at life.machine h)) x
-    comes_to (Made did) x = comes_by b new (as_in b new b x.1 (refl, refl))
-
-  turn : (life : BenchLife) (b : Bench) (word : Word) (new : Bench) → GuestTurn h life b word new → ArmedAlike b new
-  turn life b word new (m, did, turned, x) = (comes_to (has_machine m life) (on_with (has_machine m life) b) word new did x).0
-
-  turns : (n : ℕ) (b : Bench) (made : ℕ) (word : Word) (new : Bench) → GuestTurns h n b made word new → ArmedAlike b new
-  turns zero b made word new x = absurd x
-  turns (suc n) b made word new (life, on, said, mid, did, inl x) = ap (λ (y : Bench). y.fault_state.armings) x.3 ∙ turn life b said mid did
-  turns (suc n) b made word new (life, on, said, mid, did, inr x) = turns n mid x.2 word new x.4 ∙ turn life b said mid did
-
-  turn_line : (p : Option BenchLife) (n : ℕ) (b : Bench) (a : Answer) (new : Bench) → TurnStep p h n b a new → ArmedAlike b new
-  turn_line None n b a new x = ap (λ (y : Bench). y.fault_state.armings) x.1
-  turn_line (Some life) n b a new (inl (has, made, word, x, e)) = turns n b made word new x
-  turn_line (Some life) n b a new (inr x) = ap (λ (y : Bench). y.fault_state.armings) x.2
+    comes_to (Made did) x = inl (as_in b new b x.1 refl)
 
   called : (did : Option Turned) (life : BenchLife) (b : Bench) (a : Answer) (new : Bench) → GuestCall did h life b a new → Grows ⊤ b new
   called None life b a new x = inl (ap (λ (y : Bench). y.growths) x.1)
-  called (Some did) life b a new (word, x, reported) = (comes_to life b word new did x).1
+  called (Some did) life b a new (word, x, reported) = comes_to life b word new did x
 
   pub call_grows : (p : Option BenchLife) (asked : CallWords) (b : Bench) (a : Answer) (new : Bench) → CallStep p h asked b a new → Grows ⊤ b new
   call_grows None asked b a new x = inl (ap (λ (y : Bench). y.growths) x.1)
   call_grows (Some life) asked b a new (inl (has, m, did, call, x)) = called did (has_machine m life) (on_with (has_machine m life) b) a new x
   call_grows (Some life) asked b a new (inr x) = inl (ap (λ (y : Bench). y.growths) x.2)
 
--- a line of turns arms nothing, also where a cut strikes within it
-pub turns_arm : (size : Size) (h n : ℕ) (b : Bench) (a : Answer) (new : Bench) → Moves size (lines.Turn h n) b a new → ArmedAlike b new
-turns_arm size h n b a new (inl x) = turn_line h b.power n b a new x.0
-turns_arm size h n b a new (inr (would, mid, step, hit, e, is)) = ap (λ (y : Bench). y.fault_state.armings) is ∙ turn_line h b.power n b would mid step
-
 -- ---- a line that is no row of turns
 asked_line : (b : Bench) (a : Answer) (new : Bench) → IsAsked b a new → Grows (Refuses a.line) b new
 asked_line b a new (inl (said, none, e, is)) = inl (ap (λ (x : Bench). x.growths) is)
 asked_line b a new (inr (inl x)) = inr (refuses_as a.line (printed.InspectRefused 11) (ap (λ (y : Answer). y.line) x.0) (λ not. not refl), ap (λ (y : Bench). y.fault_state) x.1)
-asked_line b a new (inr (inr x)) = inl (fails b b new x.1 (refl, refl)).0
+asked_line b a new (inr (inr x)) = inl (fails b b new x.1 refl)
 
 aside_line : (e : Effect) (b new : Bench) → new ≡ affected e b → Counts b new
 aside_line Stays b new x = ap (λ (y : Bench). y.growths) x
@@ -260,9 +227,9 @@ Starves (deeds.Call h asked) a = ⊤
 Starves deed a = Refuses a.line
 
 pub deed_grows : (size : Size) (deed : Deed) (b : Bench) (a : Answer) (new : Bench) → IsNoRow deed → DeedStep size deed b a new → Grows (Starves deed a) b new
-deed_grows size deeds.Format b a new other x = inl (format_line b.power b a new x).0
+deed_grows size deeds.Format b a new other x = inl (format_line b.power b a new x)
 deed_grows size (deeds.PowerOn mode) b a new other x = on_line size mode b.power b a new x
-deed_grows size (deeds.Issue c) b a new other x = inl (console_keeps c b.power b a new x).0
+deed_grows size (deeds.Issue c) b a new other x = inl (console_keeps c b.power b a new x)
 deed_grows size (deeds.Turns h n) b a new other x = absurd other
 deed_grows size (deeds.Call h asked) b a new other x = call_grows h b.power asked b a new x
 deed_grows size (deeds.Ask question) b a new other x = asked_line b a new (is_asked size question b.power b a new x)

@@ -38,6 +38,7 @@ pub mod Opened
 pub mod Remembered
 pub mod Growths
 pub mod Came
+pub mod Crews
 pub mod Lines
 pub mod RunLines
 pub mod Found

@@ -3,8 +3,7 @@ use Rattle.board_model.specs.declared.call_words.CallWords.{CallWords}
 use Rattle.std.proofs.Common.{◌≡◌, inl, inr, slice_set, ℕ, List, length, Option, None, Some, Result, Ok, MatchResult, refl, sym, ◌∙◌, ap, subst}
 use Rattle.board_model.specs.declared.boot_mode.BootMode.{BootMode}
 use Rattle.board_model.specs.Shapes.{Size}
-use Rattle.board_model.specs.declared.refusal.Refusal.{Refusal}
-use Rattle.board_model.specs.declared.refusal.Refusal.TheVariants.{Memory}
+use Rattle.std.specs.declared.alloc.AllocError.{AllocError}
 use Rattle.script_lang.specs.declared.line.Line.{Line}
 use Rattle.script_lang.specs.declared.line.Line.TheVariants as lines
 use Rattle.machine.specs.Machine.{Machine, hart_at}
@@ -181,13 +180,13 @@ pub keeps_on : (size : Size) (b : Bench) (power : Power) (board : SimBoard) (slo
 keeps_on size b power board slot bytes old at was = let Q : Power → Type 0 = λ p. Agrees size b p in let on : OnIs size b board = subst Q at was.0 in busy_on size b power board b.power slot bytes old on.0 was
 
 -- a row of the script's lines, which is never refused, by what the call that made it reported
-pub row_reported : (size : Size) (line said : Line) (b : Bench) (r : Result Answer Refusal) (answer : Answer) (after made : Power) (payloads : List (List ℕ)) → line ≡ said → r ≡ Ok answer → after ≡ made → payloads ≡ b.payloads
+pub row_reported : (size : Size) (line said : Line) (b : Bench) (r : Result Answer AllocError) (answer : Answer) (after made : Power) (payloads : List (List ℕ)) → line ≡ said → r ≡ Ok answer → after ≡ made → payloads ≡ b.payloads
     → StepsTo size b made (Step size said b answer)
-    → MatchResult r (λ a. (new : Bench) × Step size line b a new × Matches size new after payloads) (λ e. (e ≡ Memory) × Matches size b after payloads)
+    → MatchResult r (λ a. (new : Bench) × Step size line b a new × Matches size new after payloads) (λ e. Matches size b after payloads)
 row_reported size line said b r answer after made payloads is ok same kept did = rw ok (rw same (rw is (did.0, did.1, (did.2, kept ∙ sym did.3))))
 
 -- a line of a call
-pub call_reported : (size : Size) (line : Line) (h : ℕ) (asked : CallWords) (r : Result Answer Refusal) (answer : Answer) (before after made : Power) (old now : List (List ℕ)) → line ≡ lines.Call h asked → r ≡ Ok answer → after ≡ made → now ≡ old
+pub call_reported : (size : Size) (line : Line) (h : ℕ) (asked : CallWords) (r : Result Answer AllocError) (answer : Answer) (before after made : Power) (old now : List (List ℕ)) → line ≡ lines.Call h asked → r ≡ Ok answer → after ≡ made → now ≡ old
     → ((b : Bench) → Agrees size b before → StepsTo size b made (λ new. CallStep b.power h asked b answer new × CountsNone made b new)) → StepsEnough size line before old r after now
 call_reported size line h asked r answer before after made old now is ok same kept did =
     rw ok (rw same (rw is (λ had b was. (let x = did b was.0 in (x.0, x.1.0, (x.2, kept ∙ was.1 ∙ sym x.3), x.1.1 had)))))

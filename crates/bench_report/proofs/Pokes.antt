@@ -1,8 +1,7 @@
 -- A disk that was written past the firmware.
 use Rattle.std.proofs.Common.{◌≡◌, true, false, List, ℕ, Option, Result, Ok, Err, refl, sym, ◌∙◌, subst, arith, MatchResult}
 use Rattle.board_model.specs.Shapes.{Size}
-use Rattle.board_model.specs.declared.refusal.Refusal.{Refusal}
-use Rattle.board_model.specs.declared.refusal.Refusal.TheVariants.{Memory}
+use Rattle.std.specs.declared.alloc.AllocError.{AllocError}
 use Rattle.disk.specs.Calls.{NoCall}
 use Rattle.disk.specs.Facts.{Facts, Unchanged}
 use Rattle.simdisk.specs.declared.SimDisk.{SimDisk}
@@ -45,8 +44,8 @@ not_poked goes_on size b old new was same long still =
     (was.0, left_on goes_on size b.disk_state b.kept old new was.1 (less old new fewer), device size b b old new was.2 refl refl (sides_stay size b (facts old) (facts new) fewer was.2.3) same long)
 
 -- with the payloads, which a poke keeps
-pub poke_matches : (size : Size) (b : Bench) (r : Result Answer Refusal) (after : Power) (payloads : List (List ℕ)) → payloads ≡ b.payloads
-    → MatchResult r (λ answer. StepsTo size b after (AsideStep WritePast b.power b answer)) (λ e. (e ≡ Memory) × Agrees size b after)
-    → MatchResult r (λ answer. (new : Bench) × AsideStep WritePast b.power b answer new × Matches size new after payloads) (λ e. (e ≡ Memory) × Matches size b after payloads)
+pub poke_matches : (size : Size) (b : Bench) (r : Result Answer AllocError) (after : Power) (payloads : List (List ℕ)) → payloads ≡ b.payloads
+    → MatchResult r (λ answer. StepsTo size b after (AsideStep WritePast b.power b answer)) (λ e. Agrees size b after)
+    → MatchResult r (λ answer. (new : Bench) × AsideStep WritePast b.power b answer new × Matches size new after payloads) (λ e. Matches size b after payloads)
 poke_matches size b (Ok a) after payloads same did = (did.0, did.1, (did.2, same ∙ sym did.3))
-poke_matches size b (Err e) after payloads same did = (did.0, (did.1, same))
+poke_matches size b (Err e) after payloads same did = (did, same)

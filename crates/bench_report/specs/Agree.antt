@@ -3,7 +3,7 @@ use Rattle.std.specs.Prelude.{◌≡◌, ◌↔◌, false, ◌⊎◌, Bool, true
 use Rattle.board_model.specs.Durable.{DurableState}
 use Rattle.board_model.specs.Kept.{Kept, MayFind, found_of}
 use Rattle.board_model.specs.Shapes.{Size, sectors_of}
-use Rattle.board_model.specs.declared.refusal.Refusal.{Refusal}
+use Rattle.std.specs.declared.alloc.AllocError.{AllocError}
 use Rattle.disk.specs.Facts.{Facts, Unchanged}
 use Rattle.disk.specs.FaultState.{FaultState}
 use Rattle.disk.specs.declared.device.ArmedFault.{ArmedFault}
@@ -119,10 +119,6 @@ pub record IsCopyOf (d e : SimDisk) : Type 0 where
   pub log : sim_log_of e ≡ sim_log_of d
   pub lanes : sim_logged.ghosts.lane_calls e ≡ sim_logged.ghosts.lane_calls d
 
--- the same was ever armed on both, one after another
-abbrev pub ArmedAlike : Bench → Bench → Type 0
-ArmedAlike b c = c.fault_state.armings ≡ b.fault_state.armings
-
 -- power was cut, and the disk holds exactly what the fill says of what was written since the last sync
 abbrev pub IsCutBy : Fill → SimDisk → Power → Type 0
 IsCutBy fill d (Off left) =
@@ -154,7 +150,7 @@ Pokes k offset bytes (Off old) (On board) = ⊥
 Pokes k offset bytes (On board) after = ⊤
 
 -- what a line pokes, where it is not refused
-abbrev pub PokesIts : Line → Power → Result Answer Refusal → Power → Type 0
+abbrev pub PokesIts : Line → Power → Result Answer AllocError → Power → Type 0
 PokesIts (lines.Poke k offset bytes) before did after = OnOk did (Pokes k offset bytes before after)
 PokesIts line before did after = ⊤
 
@@ -169,7 +165,7 @@ OpensAt (Off off) answer = OpensOf (facts off.disk).content answer
 OpensAt (On board) answer = ⊤
 
 -- what a line says of the disk's content that examines it or opens it
-abbrev pub InspectsIts : Line → Power → Result Answer Refusal → Type 0
+abbrev pub InspectsIts : Line → Power → Result Answer AllocError → Type 0
 InspectsIts (lines.On mode) before did = IfOk did (OpensAt before)
 InspectsIts lines.Inspect before did = IfOk did (Inspects before)
 InspectsIts line before did = ⊤
@@ -213,14 +209,14 @@ abbrev pub CountsNone : Power → Bench → Bench → Type 0
 CountsNone left b new = HadEnough left → new.growths ≡ b.growths
 
 -- the same of a line of a call, as far as no armed cut strikes, and in a run
-abbrev pub StepsEnough : Size → Line → Power → List (List ℕ) → Result Answer Refusal → Power → List (List ℕ) → Type 0
+abbrev pub StepsEnough : Size → Line → Power → List (List ℕ) → Result Answer AllocError → Power → List (List ℕ) → Type 0
 StepsEnough size (lines.Call h asked) before slots did left now =
     HadEnough left → (b : Bench) → IsBench size b before slots → IfOk did
     (λ answer. (new : Bench) × Step size (lines.Call h asked) b answer new × Matches size new left now
     × (new.growths ≡ b.growths))
 StepsEnough size line before slots did left now = ⊤
 
-abbrev pub MovesEnough : Size → Line → Power → List (List ℕ) → Result Answer Refusal → Power → List (List ℕ) → Type 0
+abbrev pub MovesEnough : Size → Line → Power → List (List ℕ) → Result Answer AllocError → Power → List (List ℕ) → Type 0
 MovesEnough size (lines.Call h asked) before slots did left now =
     HadEnough left → (b : Bench) → IsBench size b before slots → IfOk did
     (λ answer. (new : Bench) × Moves size (lines.Call h asked) b answer new × IsBench size new left now

@@ -7,6 +7,8 @@ mod bench_board;
 mod copies;
 mod laws;
 mod looks;
+mod off_lines;
+mod on_lines;
 mod power;
 mod runs;
 mod setting;
@@ -17,11 +19,13 @@ pub use copies::{arm_power, copy_power, disk_of};
 pub use laws::{
     all_are_found, inspections, power_ons, prefix_law, reports_split, script_determines_report,
 };
+pub use off_lines::power_on;
+pub use on_lines::{after, console};
 pub use power::{OffDisk, Power};
 pub use report_lines::{Answer, Printed, Report};
 pub use runs::{StoppedRun, run, run_left, run_left_with, run_with};
-pub use setting::Setting;
+pub use setting::{Setting, lane_by_lane};
 pub use steps::{
-    after, arm_disk, console, cut, disk_left, line_alone, line_with_cuts, power_on,
-    refused_suspension, says_refused_memory, struck,
+    arm_disk, cut, disk_left, line_alone, line_with_cuts, refused_suspension, says_refused_memory,
+    struck,
 };

@@ -23,13 +23,13 @@ use crate::power::{OffDisk, Power};
 use crate::setting::Setting;
 use crate::steps::{disk_left, line_with_cuts};
 use board::Payloads;
-use board_model::Refusal;
+use board_model::{Refusal, unwritten};
 use crew::Crew;
 use report_lines::{Answer, Printed, Report, add};
 use script_lang::{Line, Script, parse_script};
 use simdisk::{Fill, SimDisk};
 use std::alloc::{AllocError, Global};
-use std::io::Write;
+use std::io::{self, Write};
 use store::blank_disks;
 
 /// A run that stopped before the end of its script.
@@ -70,7 +70,7 @@ fn run_line<C: Crew, W: Write>(
     bench: BenchBoard,
     out: &mut W,
     report: &mut Report,
-) -> (BenchBoard, Result<(), Refusal>)
+) -> (BenchBoard, io::Result<()>)
     requires few { report.old.lines < 2 ^ 40 }
     requires range { IsLineInRange setting.now.shape.now line.now }
     ensures ok { OnOk result.1 ((b : Bench) → IsBench setting.now.shape.now b bench.power bench.payloads
@@ -87,7 +87,6 @@ fn run_line<C: Crew, W: Write>(
     ensures few { OnOk result.1 (report.new.lines ≤ report.old.lines + 2) }
     ensures stopped { OnErr result.1 ((b : Bench) → IsBench setting.now.shape.now b bench.power bench.payloads → Agrees setting.now.shape.now b result.0.power
         ⊎ ((answer : Answer) × (new : Bench) × Moves setting.now.shape.now line.now b answer new × Agrees setting.now.shape.now new result.0.power)) }
-    ensures err { IfErr result.1 (λ e. (e ≡ Refusal.Output) ⊎ (e ≡ Refusal.Memory)) }
 {
     let (after, answer) = line_with_cuts(setting, line, bench);
     match answer {
@@ -95,7 +94,7 @@ fn run_line<C: Crew, W: Write>(
             let added = add(out, report, &answer);
             (after, added)
         }
-        Err(refusal) => (after, Err(refusal)),
+        Err(refused) => (after, Err(refused.into())),
     }
 }
 
@@ -106,7 +105,7 @@ fn run_lines<C: Crew, W: Write>(
     bench: BenchBoard,
     out: &mut W,
     report: &mut Report,
-) -> (BenchBoard, Result<(), Refusal>)
+) -> (BenchBoard, io::Result<()>)
     requires few { length lines.now ≤ 65535 }
     requires ranges { All (IsLineInRange setting.now.shape.now) lines.now }
     requires first { report.old.lines ≤ 1 }
@@ -119,13 +118,12 @@ fn run_lines<C: Crew, W: Write>(
     ensures stopped { OnErr result.1 ((b : Bench) → IsBench setting.now.shape.now b bench.power bench.payloads
         → (n : ℕ) × (answers : List Answer) × (new : Bench) × Run setting.now.shape.now b (take n lines.now) answers new
         × Agrees setting.now.shape.now new result.0.power) }
-    ensures err { IfErr result.1 (λ e. (e ≡ Refusal.Output) ⊎ (e ≡ Refusal.Memory)) }
 {
     let mut bench = bench;
     for line in lines {
         let (after, ran) = run_line(setting, line, bench, out, report);
-        if let Err(refusal) = ran {
-            return (after, Err(refusal));
+        if let Err(error) = ran {
+            return (after, Err(error));
         }
         bench = after;
     }
@@ -140,7 +138,7 @@ fn run_script<C: Crew, W: Write>(
     disk: SimDisk,
     payloads: Payloads,
     out: &mut W,
-) -> (SimDisk, Result<Report, Refusal>)
+) -> (SimDisk, io::Result<Report>)
     requires few { length script.now.lines.items ≤ 65535 }
     requires ranges { All (IsLineInRange script.now.shape) script.now.lines.items }
     requires blank { OffIs script.now.shape (bench_with payloads) disk }
@@ -153,7 +151,6 @@ fn run_script<C: Crew, W: Write>(
         ((answers : List Answer) × (end : Bench) × IsCutShortWith payloads (view script.now) answers end
         × OffIs script.now.shape (off end) result.0) }
     ensures idle { IsIdle (facts result.0) }
-    ensures err { IfErr result.1 (λ e. (e ≡ Refusal.Output) ⊎ (e ≡ Refusal.Memory)) }
 {
     let shape = script.shape;
     let mut report = Report {
@@ -164,8 +161,8 @@ fn run_script<C: Crew, W: Write>(
         found: None,
         line: Printed::Board(shape.harts(), shape.pages(), shape.lanes(), shape.sectors()),
     };
-    if let Err(refusal) = add(out, &mut report, &board) {
-        return (disk, Err(refusal));
+    if let Err(error) = add(out, &mut report, &board) {
+        return (disk, Err(error));
     }
     let bench = BenchBoard {
         power: Power::Off(OffDisk { disk }),
@@ -181,7 +178,7 @@ fn run_script<C: Crew, W: Write>(
     let left = disk_left(bench.power);
     match ran {
         Ok(()) => (left, Ok(report)),
-        Err(refusal) => (left, Err(refusal)),
+        Err(error) => (left, Err(error)),
     }
 }
 
@@ -229,8 +226,8 @@ pub fn run_left_with<C: Crew, W: Write>(
     let disk = SimDisk::blank(alloc, script.shape.sectors())?;
     match run_script(alloc, &script, crew, disk, payloads, out) {
         (left, Ok(report)) => Ok((report, left)),
-        (left, Err(refusal)) => Err(StoppedRun {
-            refusal,
+        (left, Err(error)) => Err(StoppedRun {
+            refusal: unwritten(error),
             disk: Some(left),
         }),
     }

@@ -1,7 +1,9 @@
 //! What the lines of a script are run with.
 
 use board_model::Shape;
+use crew::Sequential;
 use std::alloc::{AllocError, Global};
+use std::thread::Threads;
 
 /// What the boards of a bench are made with.
 pub struct Setting<'a, C> {
@@ -20,3 +22,9 @@ impl<'a, C> Clone for Setting<'a, C> {
 }
 
 impl<'a, C> Copy for Setting<'a, C> {}
+
+/// Who writes the lanes of an image one after another, lane 0 first.
+pub fn lane_by_lane<R: Threads + Sync>() -> Sequential<R> {
+    let crew = Sequential::new([0, 1, 2, 3]);
+    crew.unwrap()
+}

@@ -18,14 +18,14 @@ use crate::own_runs::{OwnRun, drawn_schedule, run_own};
 use crate::runs::{Difference, run_until};
 use crate::written::{write_count, write_difference, write_tight};
 use bench_orders::orders_keep_lines;
-use bench_report::Setting;
+use bench_report::{Setting, lane_by_lane};
 use board::Payloads;
-use board_model::{Refusal, shape_in_range};
-use crew::{Crew, Sequential};
+use board_model::{Refusal, shape_in_range, unwritten};
+use crew::Crew;
 use jobs::{Jobs, Part, Progress, Sink, Task, Window, hand_on_all};
 use script_lang::{Line, Script, fits, parse_script, scripts_read_as_written, write_script};
-use std::alloc::Global;
-use std::io::Write;
+use std::alloc::{AllocError, Global};
+use std::io::{self, Write};
 use std::thread::Threads;
 
 /// How many schedules were run, and how many of them gave another report than the script's own run.
@@ -61,17 +61,16 @@ struct DrawnRunner<'a, C> {
     seed: u64,
 }
 
-/// Runs schedule k of the script. Refused `Memory` alone.
+/// Runs schedule k of the script.
 fn run_schedule<C: Crew>(
     runner: &DrawnRunner<'_, C>,
     own: &OwnRun,
     k: u64,
-) -> Result<Option<Difference>, Refusal>
+) -> Result<Option<Difference>, AllocError>
     requires drawable { AreDrawable runner.now.setting.shape.now runner.now.lines.now own.now.answers.items }
     ensures ran { IfOk result (λ differs.
         Ran (record { size = runner.now.setting.shape.now; lines = runner.now.lines.now }) runner.now.payloads.now
         own.now.answers.items differs) }
-    ensures refused { IfErr result (λ e. e ≡ Memory) }
 {
     orders_keep_lines();
     let lines = drawn_schedule(runner.setting.alloc, runner.lines, own, runner.seed, k)?;
@@ -83,12 +82,11 @@ fn write_run<C, W: Write>(
     runner: &DrawnRunner<'_, C>,
     drawn: &DrawnRun,
     out: &mut W,
-) -> Result<u64, Refusal>
+) -> io::Result<u64>
     requires few { length runner.now.lines.now ≤ 65535 }
     ensures ok { IfOk result (λ m. (text : List ℕ) × RunText (λ place. slice_index_or runner.now.numbers.now
         (1 + place_of_other place runner.now.lines.now) 0) drawn.now.number drawn.now.differs text
         × Appends (W.contents out.old) (W.contents out.new) text × (m ≡ differing (drawn.now.differs ∷ []))) }
-    ensures err { IfErr result (λ e. (e ≡ Memory) ⊎ (e ≡ Output)) }
 {
     match &drawn.differs {
         None => Ok(0),
@@ -128,7 +126,7 @@ impl<'a, 'b, 'c, C: Crew + Sync> Task for DrawnRuns<'a, 'b, 'c, C> {
         runs.runner.now.payloads.now runs.own.now.answers.items k drawn };
 
     /// Runs the schedule of that number.
-    fn row(&self, number: u64) -> Result<DrawnRun, Refusal> {
+    fn row(&self, number: u64) -> Result<DrawnRun, AllocError> {
         let differs = run_schedule(self.runner, self.own, number)?;
         Ok(DrawnRun { number, differs })
     }
@@ -149,7 +147,7 @@ impl<'a, 'b, 'c, C, W: Write> Sink<DrawnRun> for DrawnReport<'a, 'b, 'c, C, W> {
     ghost takes = { λ old drawn new. TellsDrawn W.contents old drawn new };
 
     /// Writes the line of a schedule where it differs, and counts it.
-    fn take<P: Progress>(&mut self, drawn: DrawnRun, progress: &P) -> Result<(), Refusal> {
+    fn take<P: Progress>(&mut self, drawn: DrawnRun, progress: &P) -> io::Result<()> {
         if drawn.differs.is_some() {
             progress.pause();
         }
@@ -168,14 +166,13 @@ fn run_schedules<R: Threads + Sync, P: Progress, C: Crew + Sync, W: Write>(
     own: &OwnRun,
     within: Window,
     out: &mut W,
-) -> Result<u64, Refusal>
+) -> io::Result<u64>
     requires drawable { AreDrawable runner.now.setting.shape.now runner.now.lines.now own.now.answers.items }
     requires most { within.to ≤ 1000000 }
     ensures wrote { IfOk result (λ differ. Wrote (record { size = runner.now.setting.shape.now; lines = runner.now.lines.now })
         runner.now.payloads.now
         (λ place. slice_index_or runner.now.numbers.now (1 + place_of_other place runner.now.lines.now) 0)
         own.now.answers.items (1 + within.from) (within.to - within.from) (W.contents out.old) (W.contents out.new) differ) }
-    ensures err { IfErr result (λ e. (e ≡ Memory) ⊎ (e ≡ Output)) }
 {
     let runs = DrawnRuns { runner, own };
     let mut report = DrawnReport {
@@ -198,9 +195,8 @@ fn run_schedules<R: Threads + Sync, P: Progress, C: Crew + Sync, W: Write>(
 }
 
 /// Writes the line of a stretch that names few turns, by the place of its first line in the script.
-fn write_one_tight<W: Write>(numbers: &[u64], place: usize, out: &mut W) -> Result<(), Refusal>
+fn write_one_tight<W: Write>(numbers: &[u64], place: usize, out: &mut W) -> io::Result<()>
     ensures ok { OnOk result ((told : List ℕ) × Appends (W.contents out.old) (W.contents out.new) (tight_text told)) }
-    ensures err { IfErr result (λ e. (e ≡ Memory) ⊎ (e ≡ Output)) }
 {
     if 65_535 < place {
         return Ok(());
@@ -224,9 +220,8 @@ fn write_own_tight<W: Write>(
     tight: &[usize],
     part: Option<Part>,
     out: &mut W,
-) -> Result<(), Refusal>
+) -> io::Result<()>
     ensures ok { OnOk result ((told : List ℕ) × Appends (W.contents out.old) (W.contents out.new) (tight_text (own_tight part told))) }
-    ensures err { IfErr result (λ e. (e ≡ Memory) ⊎ (e ≡ Output)) }
 {
     if writes_tight(part) {
         return write_all_tight(numbers, tight, out);
@@ -235,9 +230,8 @@ fn write_own_tight<W: Write>(
 }
 
 /// Writes a line for each stretch that names few turns.
-fn write_all_tight<W: Write>(numbers: &[u64], tight: &[usize], out: &mut W) -> Result<(), Refusal>
+fn write_all_tight<W: Write>(numbers: &[u64], tight: &[usize], out: &mut W) -> io::Result<()>
     ensures ok { OnOk result ((told : List ℕ) × Appends (W.contents out.old) (W.contents out.new) (tight_text told)) }
-    ensures err { IfErr result (λ e. (e ≡ Memory) ⊎ (e ≡ Output)) }
 {
     for place in tight {
         write_one_tight(numbers, *place, out)?;
@@ -253,7 +247,7 @@ fn compare_own<R: Threads + Sync, P: Progress, C: Crew + Sync, W: Write>(
     own: &OwnRun,
     plan: SchedulePlan,
     out: &mut W,
-) -> Result<Compared, Refusal>
+) -> io::Result<Compared>
     requires drawable { AreDrawable runner.now.setting.shape.now runner.now.lines.now own.now.answers.items }
     requires own { RanOwn runner.now.setting.shape.now runner.now.payloads.now runner.now.lines.now own.now.answers.items }
     requires most { plan.count ≤ 1000000 }
@@ -261,7 +255,6 @@ fn compare_own<R: Threads + Sync, P: Progress, C: Crew + Sync, W: Write>(
         runner.now.payloads.now
         (λ place. slice_index_or runner.now.numbers.now (1 + place_of_other place runner.now.lines.now) 0)
         plan.part plan.count (W.contents out.old) (W.contents out.new) count.differ) }
-    ensures err { IfErr result (λ e. (e ≡ Memory) ⊎ (e ≡ Output)) }
 {
     write_own_tight(runner.numbers, &own.stretches.tight, plan.part, out)?;
     let within = Window::of_part(plan.part, plan.count);
@@ -278,7 +271,7 @@ fn compare_all<R: Threads + Sync, P: Progress, C: Crew + Sync, W: Write>(
     runner: &DrawnRunner<'_, C>,
     plan: SchedulePlan,
     out: &mut W,
-) -> Result<Compared, Refusal>
+) -> io::Result<Compared>
     requires size { IsSize runner.now.setting.shape.now }
     requires few { length runner.now.lines.now ≤ 65535 }
     requires ranges { All (IsLineInRange runner.now.setting.shape.now) runner.now.lines.now }
@@ -288,7 +281,6 @@ fn compare_all<R: Threads + Sync, P: Progress, C: Crew + Sync, W: Write>(
         runner.now.payloads.now
         (λ place. slice_index_or runner.now.numbers.now (1 + place_of_other place runner.now.lines.now) 0)
         plan.part plan.count (W.contents out.old) (W.contents out.new) count.differ) }
-    ensures err { IfErr result (λ e. (e ≡ Memory) ⊎ (e ≡ Output)) }
 {
     let own = run_own(&runner.setting, runner.payloads, runner.lines)?;
     compare_own(jobs, runner, &own, plan, out)
@@ -303,19 +295,18 @@ fn compare_script<'a, R: Threads + Sync, P: Progress, W: Write>(
     numbers: &'a [u64],
     plan: SchedulePlan,
     out: &mut W,
-) -> Result<Compared, Refusal>
+) -> io::Result<Compared>
     requires few { length script.now.lines.items ≤ 65535 }
     requires ranges { All (IsLineInRange script.now.shape) script.now.lines.items }
     requires most { plan.count ≤ 1000000 }
     ensures wrote { IfOk result (λ count. (count.runs ≡ own_count plan.part plan.count) × WroteSchedules (view script.now) payloads.now
         (λ place. slice_index_or numbers.now (1 + place_of_other place script.now.lines.items) 0)
         plan.part plan.count (W.contents out.old) (W.contents out.new) count.differ) }
-    ensures err { IfErr result (λ e. (e ≡ Memory) ⊎ (e ≡ Output)) }
 {
     let lines = script.lines.as_slice();
     shape_in_range(&script.shape);
     fits(lines);
-    let crew = Sequential::<R>::new([0, 1, 2, 3])?;
+    let crew = lane_by_lane::<R>();
     let runner = DrawnRunner {
         setting: Setting {
             alloc,
@@ -343,7 +334,7 @@ fn show_lines<C: Crew, W: Write>(
     requires few { length lines.now ≤ 65535 }
     requires ranges { All (IsLineInRange setting.now.shape.now) lines.now }
     ensures shown { OnOk result (Shown (record { size = setting.now.shape.now; lines = lines.now }) (W.contents out.old) (W.contents out.new)) }
-    ensures err { IfErr result (λ e. (e ≡ Memory) ⊎ (e ≡ Output)) }
+    ensures refused { IfErr result (λ e. (e ≡ Memory) ⊎ (e ≡ Output)) }
 {
     scripts_read_as_written();
     shape_in_range(setting.shape);
@@ -365,9 +356,9 @@ fn show_script<R: Threads + Sync, W: Write>(
     requires few { length script.now.lines.items ≤ 65535 }
     requires ranges { All (IsLineInRange script.now.shape) script.now.lines.items }
     ensures shown { OnOk result (Shown (view script.now) (W.contents out.old) (W.contents out.new)) }
-    ensures err { IfErr result (λ e. (e ≡ Memory) ⊎ (e ≡ Output)) }
+    ensures refused { IfErr result (λ e. (e ≡ Memory) ⊎ (e ≡ Output)) }
 {
-    let crew = Sequential::<R>::new([0, 1, 2, 3])?;
+    let crew = lane_by_lane::<R>();
     let setting = Setting {
         alloc,
         crew: &crew,
@@ -408,7 +399,10 @@ pub fn schedules<R: Threads + Sync, P: Progress, W: Write>(
 {
     let read = parse_script(alloc, script)?;
     let numbers = line_numbers(alloc, script)?;
-    compare_script::<R, P, W>(jobs, alloc, &read, payloads, &numbers, plan, out)
+    match compare_script::<R, P, W>(jobs, alloc, &read, payloads, &numbers, plan, out) {
+        Ok(compared) => Ok(compared),
+        Err(error) => Err(unwritten(error)),
+    }
 }
 
 /// Writes schedule k of a script as a script: the one that [`schedules`] runs by that number, with the same seed and the same

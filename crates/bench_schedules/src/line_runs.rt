@@ -1,7 +1,6 @@
 //! One line of a run, and the end of a run: where want of memory is found.
 
-ghost use Rattle.std.specs.Prelude.{◌≡◌, IfErr, IfOk, OnOk};
-ghost use Rattle.board_model.specs.declared.refusal.Refusal.TheVariants.{Memory};
+ghost use Rattle.std.specs.Prelude.{◌≡◌, IfOk, OnOk};
 ghost use Rattle.script_lang.specs.Lines.{IsLineInRange};
 ghost use Rattle.bench_orders.specs.Orders.{is_other};
 ghost use Rattle.bench_report.specs.Bench.{Bench};
@@ -10,9 +9,10 @@ ghost use Rattle.bench_schedules.specs.RunSoFar.{LineRan};
 
 use bench_live::LiveBench;
 use bench_report::{Answer, Setting};
-use board_model::{Refusal, Shape};
+use board_model::Shape;
 use crew::Crew;
 use script_lang::Line;
+use std::alloc::AllocError;
 
 /// Whether a line is another than `turn`. The answers of these lines are compared.
 pub fn is_other(line: &Line) -> bool
@@ -24,21 +24,20 @@ pub fn is_other(line: &Line) -> bool
     }
 }
 
-/// Runs a line. Refused `Memory` alone: where memory was refused in it, also to a suspension. The bench is then of no further use.
+/// Runs a line. Refused where memory was in it, also to a suspension. The bench is then of no further use.
 pub fn run_line<C: Crew>(
     setting: &Setting<'_, C>,
     line: &Line,
     live: &mut LiveBench,
-) -> Result<Answer, Refusal>
+) -> Result<Answer, AllocError>
     requires range { IsLineInRange setting.now.shape.now line.now }
     requires sound { IsSound live.old }
     ensures sound { OnOk result (IsSound live.new) }
     ensures stepped { IfOk result (λ answer. LineRan setting.now.shape.now line.now answer live.old live.new) }
-    ensures refused { IfErr result (λ e. e ≡ Memory) }
 {
     let answer = live.run(setting, line)?;
     if live.refused {
-        return Err(Refusal::Memory);
+        return Err(AllocError);
     }
     Ok(answer)
 }
@@ -48,15 +47,14 @@ pub fn release(live: LiveBench) {
     let _live = live;
 }
 
-/// Ends a run. Refused `Memory` where, in this run, the disk was refused memory for its record of what it had to keep.
-pub fn end_run(live: LiveBench, shape: &Shape) -> Result<(), Refusal>
+/// Ends a run. Refused where, in this run, the disk was refused memory for its record of what it had to keep.
+pub fn end_run(live: LiveBench, shape: &Shape) -> Result<(), AllocError>
     requires { IsSound live }
     ensures well { OnOk result ((b : Bench) → Shows shape.now b live → b.fault_state.own ≡ 0) }
-    ensures refused { IfErr result (λ e. e ≡ Memory) }
 {
     let _shape = shape;
     if live.into_disk().refused() != 0 {
-        return Err(Refusal::Memory);
+        return Err(AllocError);
     }
     Ok(())
 }

@@ -1,8 +1,7 @@
 //! The script's own run, with which those of its schedules are compared.
 
-ghost use Rattle.std.specs.Prelude.{◌≡◌, ◌≤◌, ℕ, List, length, All, IfErr, IfOk, OnOk};
+ghost use Rattle.std.specs.Prelude.{◌≡◌, ◌≤◌, ℕ, List, length, All, IfOk, OnOk};
 ghost use Rattle.std.specs.Option.{option_to_list};
-ghost use Rattle.board_model.specs.declared.refusal.Refusal.TheVariants.{Memory};
 ghost use Rattle.script_lang.specs.Lines.{IsLineInRange};
 ghost use Rattle.bench_orders.specs.Orders.{IsOrderFor, is_other, other_count};
 ghost use Rattle.bench_report.specs.Bench.{bench_with};
@@ -16,7 +15,6 @@ use bench_live::LiveBench;
 use bench_orders::{generator, schedule};
 use bench_report::{Answer, Setting};
 use board::Payloads;
-use board_model::Refusal;
 use crew::Crew;
 use script_lang::Line;
 use std::alloc::{AllocError, Global};
@@ -37,20 +35,18 @@ fn other_answer(line: &Line, answer: Answer) -> Option<Answer>
     if is_other(line) { Some(answer) } else { None }
 }
 
-/// Runs the lines of a script from the first on, notes them for its stretches, and answers what those answered that are no turns. Refused
-/// `Memory` alone.
+/// Runs the lines of a script from the first on, notes them for its stretches, and answers what those answered that are no turns.
 fn run_lines<C: Crew>(
     setting: &Setting<'_, C>,
     lines: &[Line],
     live: &mut LiveBench,
     stretches: &mut Stretches,
-) -> Result<Vec<Answer>, Refusal>
+) -> Result<Vec<Answer>, AllocError>
     requires ranges { All (IsLineInRange setting.now.shape.now) lines.now }
     requires sound { IsSound live.old }
     ensures sound { OnOk result (IsSound live.new) }
     ensures ran { IfOk result (λ answers. (start : List (List ℕ)) → Shows setting.now.shape.now (bench_with start) live.old
         → RunSoFar setting.now.shape.now (bench_with start) lines.now answers.items live.new) }
-    ensures refused { IfErr result (λ e. e ≡ Memory) }
 {
     let mut answers = Vec::new(setting.alloc);
     let mut place = 0;
@@ -65,22 +61,21 @@ fn run_lines<C: Crew>(
     Ok(answers)
 }
 
-/// Runs the script as it stands, with these payloads in the slots. Refused `Memory` alone.
+/// Runs the script as it stands, with these payloads in the slots.
 pub fn run_own<C: Crew>(
     setting: &Setting<'_, C>,
     payloads: &Payloads,
     lines: &[Line],
-) -> Result<OwnRun, Refusal>
+) -> Result<OwnRun, AllocError>
     requires ranges { All (IsLineInRange setting.now.shape.now) lines.now }
     ensures ran { IfOk result (λ own. RanOwn setting.now.shape.now payloads.now lines.now own.answers.items) }
     ensures count { IfOk result (λ own. length own.answers.items ≡ other_count lines.now) }
-    ensures refused { IfErr result (λ e. e ≡ Memory) }
 {
     let mut live = LiveBench::blank(setting.alloc, setting.shape, payloads)?;
     let mut stretches = Stretches::new(setting.alloc);
     let Ok(answers) = run_lines(setting, lines, &mut live, &mut stretches) else {
         release(live);
-        return Err(Refusal::Memory);
+        return Err(AllocError);
     };
     end_run(live, setting.shape)?;
     stretches.close()?;

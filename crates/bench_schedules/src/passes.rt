@@ -1,13 +1,12 @@
 //! The passes of a search, each of which keeps fewer turns.
 
-ghost use Rattle.std.specs.Prelude.{◌≡◌, IfErr, OnOk};
-ghost use Rattle.board_model.specs.declared.refusal.Refusal.TheVariants.{Memory};
+ghost use Rattle.std.specs.Prelude.{OnOk};
 ghost use Rattle.bench_schedules.specs.Shrunk.{IsFound, IsSearchable};
 
 use crate::search::{FoundSchedule, MOST_RUNS, Search, try_slices};
 use crate::slices::{exchanged, lessened, turns_at, weight};
-use board_model::Refusal;
 use crew::Crew;
+use std::alloc::AllocError;
 
 /// How often a number of 64 bits can be halved.
 const HALVES: u64 = 64;
@@ -19,13 +18,12 @@ fn try_lessened<C: Crew>(
     from: usize,
     to: usize,
     turns: u64,
-) -> Result<bool, Refusal>
+) -> Result<bool, AllocError>
     requires searchable { IsSearchable search.now.setting.shape.now search.now.lines.now search.now.own.now }
     requires found { IsFound search.now.setting.shape.now search.now.payloads.now search.now.lines.now search.now.own.now
         search.now.place kept.old.lines.items }
     ensures found { OnOk result (IsFound search.now.setting.shape.now search.now.payloads.now search.now.lines.now
         search.now.own.now search.now.place kept.new.lines.items) }
-    ensures refused { IfErr result (λ e. e ≡ Memory) }
 {
     let slices = lessened(search.setting.alloc, &kept.slices, from, to, turns)?;
     try_slices(search, kept, slices)
@@ -37,13 +35,12 @@ fn try_exchanged<C: Crew>(
     search: &Search<'_, C>,
     kept: &mut FoundSchedule,
     place: usize,
-) -> Result<bool, Refusal>
+) -> Result<bool, AllocError>
     requires searchable { IsSearchable search.now.setting.shape.now search.now.lines.now search.now.own.now }
     requires found { IsFound search.now.setting.shape.now search.now.payloads.now search.now.lines.now search.now.own.now
         search.now.place kept.old.lines.items }
     ensures found { OnOk result (IsFound search.now.setting.shape.now search.now.payloads.now search.now.lines.now
         search.now.own.now search.now.place kept.new.lines.items) }
-    ensures refused { IfErr result (λ e. e ≡ Memory) }
 {
     let slices = exchanged(search.setting.alloc, &kept.slices, place)?;
     if kept.slices.len() <= slices.len() {
@@ -53,13 +50,12 @@ fn try_exchanged<C: Crew>(
 }
 
 /// Cuts slices off from behind, by bisection.
-fn cut<C: Crew>(search: &Search<'_, C>, kept: &mut FoundSchedule) -> Result<(), Refusal>
+fn cut<C: Crew>(search: &Search<'_, C>, kept: &mut FoundSchedule) -> Result<(), AllocError>
     requires searchable { IsSearchable search.now.setting.shape.now search.now.lines.now search.now.own.now }
     requires found { IsFound search.now.setting.shape.now search.now.payloads.now search.now.lines.now search.now.own.now
         search.now.place kept.old.lines.items }
     ensures found { OnOk result (IsFound search.now.setting.shape.now search.now.payloads.now search.now.lines.now
         search.now.own.now search.now.place kept.new.lines.items) }
-    ensures refused { IfErr result (λ e. e ≡ Memory) }
 {
     let mut low = 0;
     'halves: for _ in 0..HALVES {
@@ -80,13 +76,12 @@ fn drop_by<C: Crew>(
     search: &Search<'_, C>,
     kept: &mut FoundSchedule,
     size: usize,
-) -> Result<(), Refusal>
+) -> Result<(), AllocError>
     requires searchable { IsSearchable search.now.setting.shape.now search.now.lines.now search.now.own.now }
     requires found { IsFound search.now.setting.shape.now search.now.payloads.now search.now.lines.now search.now.own.now
         search.now.place kept.old.lines.items }
     ensures found { OnOk result (IsFound search.now.setting.shape.now search.now.payloads.now search.now.lines.now
         search.now.own.now search.now.place kept.new.lines.items) }
-    ensures refused { IfErr result (λ e. e ≡ Memory) }
 {
     let mut place = 0usize;
     'tries: for _ in 0..MOST_RUNS {
@@ -102,13 +97,12 @@ fn drop_by<C: Crew>(
 }
 
 /// Drops slices by halves of all of them, then by fourths, and so on, to one at a time.
-fn drop_slices<C: Crew>(search: &Search<'_, C>, kept: &mut FoundSchedule) -> Result<(), Refusal>
+fn drop_slices<C: Crew>(search: &Search<'_, C>, kept: &mut FoundSchedule) -> Result<(), AllocError>
     requires searchable { IsSearchable search.now.setting.shape.now search.now.lines.now search.now.own.now }
     requires found { IsFound search.now.setting.shape.now search.now.payloads.now search.now.lines.now search.now.own.now
         search.now.place kept.old.lines.items }
     ensures found { OnOk result (IsFound search.now.setting.shape.now search.now.payloads.now search.now.lines.now
         search.now.own.now search.now.place kept.new.lines.items) }
-    ensures refused { IfErr result (λ e. e ≡ Memory) }
 {
     let mut size = kept.slices.len() / 2;
     'halves: for _ in 0..HALVES {
@@ -122,13 +116,12 @@ fn drop_slices<C: Crew>(search: &Search<'_, C>, kept: &mut FoundSchedule) -> Res
 }
 
 /// Joins slices of a hart by exchanging neighbours, where that can be, from the first on.
-fn join_slices<C: Crew>(search: &Search<'_, C>, kept: &mut FoundSchedule) -> Result<(), Refusal>
+fn join_slices<C: Crew>(search: &Search<'_, C>, kept: &mut FoundSchedule) -> Result<(), AllocError>
     requires searchable { IsSearchable search.now.setting.shape.now search.now.lines.now search.now.own.now }
     requires found { IsFound search.now.setting.shape.now search.now.payloads.now search.now.lines.now search.now.own.now
         search.now.place kept.old.lines.items }
     ensures found { OnOk result (IsFound search.now.setting.shape.now search.now.payloads.now search.now.lines.now
         search.now.own.now search.now.place kept.new.lines.items) }
-    ensures refused { IfErr result (λ e. e ≡ Memory) }
 {
     let mut place = 0usize;
     'tries: for _ in 0..MOST_RUNS {
@@ -147,13 +140,12 @@ fn lessen_at<C: Crew>(
     search: &Search<'_, C>,
     kept: &mut FoundSchedule,
     place: usize,
-) -> Result<(), Refusal>
+) -> Result<(), AllocError>
     requires searchable { IsSearchable search.now.setting.shape.now search.now.lines.now search.now.own.now }
     requires found { IsFound search.now.setting.shape.now search.now.payloads.now search.now.lines.now search.now.own.now
         search.now.place kept.old.lines.items }
     ensures found { OnOk result (IsFound search.now.setting.shape.now search.now.payloads.now search.now.lines.now
         search.now.own.now search.now.place kept.new.lines.items) }
-    ensures refused { IfErr result (λ e. e ≡ Memory) }
 {
     let mut low = 0;
     'halves: for _ in 0..HALVES {
@@ -170,13 +162,12 @@ fn lessen_at<C: Crew>(
 }
 
 /// Finds the fewest turns of each slice, from the last on.
-fn lessen<C: Crew>(search: &Search<'_, C>, kept: &mut FoundSchedule) -> Result<(), Refusal>
+fn lessen<C: Crew>(search: &Search<'_, C>, kept: &mut FoundSchedule) -> Result<(), AllocError>
     requires searchable { IsSearchable search.now.setting.shape.now search.now.lines.now search.now.own.now }
     requires found { IsFound search.now.setting.shape.now search.now.payloads.now search.now.lines.now search.now.own.now
         search.now.place kept.old.lines.items }
     ensures found { OnOk result (IsFound search.now.setting.shape.now search.now.payloads.now search.now.lines.now
         search.now.own.now search.now.place kept.new.lines.items) }
-    ensures refused { IfErr result (λ e. e ≡ Memory) }
 {
     let count = kept.slices.len();
     for n in 0..count {
@@ -186,13 +177,15 @@ fn lessen<C: Crew>(search: &Search<'_, C>, kept: &mut FoundSchedule) -> Result<(
 }
 
 /// All passes, again until none helps.
-pub fn search_all<C: Crew>(search: &Search<'_, C>, kept: &mut FoundSchedule) -> Result<(), Refusal>
+pub fn search_all<C: Crew>(
+    search: &Search<'_, C>,
+    kept: &mut FoundSchedule,
+) -> Result<(), AllocError>
     requires searchable { IsSearchable search.now.setting.shape.now search.now.lines.now search.now.own.now }
     requires found { IsFound search.now.setting.shape.now search.now.payloads.now search.now.lines.now search.now.own.now
         search.now.place kept.old.lines.items }
     ensures found { OnOk result (IsFound search.now.setting.shape.now search.now.payloads.now search.now.lines.now
         search.now.own.now search.now.place kept.new.lines.items) }
-    ensures refused { IfErr result (λ e. e ≡ Memory) }
 {
     'rounds: for _ in 0..MOST_RUNS {
         let before = weight(&kept.slices);

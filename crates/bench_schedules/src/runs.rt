@@ -1,7 +1,6 @@
 //! The run of one schedule.
 
 ghost use Rattle.std.specs.Prelude.{◌≡◌, ◌+◌, ◌<◌, ◌≤◌, length, true, All, IfErr, IfOk};
-ghost use Rattle.board_model.specs.declared.refusal.Refusal.TheVariants.{Memory};
 ghost use Rattle.script_lang.specs.Lines.{IsLineInRange};
 ghost use Rattle.bench_orders.specs.Orders.{is_other, other_count};
 ghost use Rattle.bench_live.specs.Lives.{IsSound};
@@ -13,9 +12,9 @@ use crate::line_runs::{end_run, is_other, release, run_line};
 use bench_live::LiveBench;
 use bench_report::{Answer, Setting};
 use board::Payloads;
-use board_model::Refusal;
 use crew::Crew;
 use script_lang::Line;
+use std::alloc::AllocError;
 
 /// Where the run of a schedule first answers other than the script's own run.
 #[derive(Clone, Copy, Drop)]
@@ -63,18 +62,17 @@ pub struct RunUnderWay {
 }
 
 /// Runs lines on, up to the first that answers other than in the script's own run; `turn` lines are not compared. Answers where that
-/// is. Refused `Memory` alone.
+/// is.
 pub fn go_on<C: Crew>(
     setting: &Setting<'_, C>,
     lines: &[Line],
     own: &[Answer],
     going: &mut RunUnderWay,
-) -> Result<Option<Difference>, Refusal>
+) -> Result<Option<Difference>, AllocError>
     requires ranges { All (IsLineInRange setting.now.shape.now) lines.now }
     requires sound { IsSound going.old.live }
     requires count { going.old.place + other_count lines.now ≤ length own.now }
     ensures went { IfOk result (WentSo setting.now.shape.now lines.now own.now going.old going.new) }
-    ensures refused { IfErr result (λ e. e ≡ Memory) }
 {
     for line in lines {
         let answer = run_line(setting, line, &mut going.live)?;
@@ -86,40 +84,38 @@ pub fn go_on<C: Crew>(
     Ok(None)
 }
 
-/// Runs lines on to the end, or up to the first that answers other than in the script's own run. Refused `Memory` alone: where the run
+/// Runs lines on to the end, or up to the first that answers other than in the script's own run. Where the run
 /// was refused memory, nothing of it is told.
 pub fn run_to_end<C: Crew>(
     setting: &Setting<'_, C>,
     lines: &[Line],
     own: &[Answer],
     mut going: RunUnderWay,
-) -> Result<Option<Difference>, Refusal>
+) -> Result<Option<Difference>, AllocError>
     requires ranges { All (IsLineInRange setting.now.shape.now) lines.now }
     requires sound { IsSound going.live }
     requires count { going.place + other_count lines.now ≤ length own.now }
     ensures ran { IfOk result (λ differs. EndsSo setting.now.shape.now lines.now own.now going differs) }
-    ensures refused { IfErr result (λ e. e ≡ Memory) }
 {
     let Ok(differs) = go_on(setting, lines, own, &mut going) else {
         release(going.live);
-        return Err(Refusal::Memory);
+        return Err(AllocError);
     };
     end_run(going.live, setting.shape)?;
     Ok(differs)
 }
 
 /// Runs lines, with these payloads in the slots, up to the first that answers other than in the script's own run; `turn`
-/// lines are not compared. Refused `Memory` alone: where the run was refused memory, nothing of it is told.
+/// lines are not compared. Where the run was refused memory, nothing of it is told.
 pub fn run_until<C: Crew>(
     setting: &Setting<'_, C>,
     payloads: &Payloads,
     lines: &[Line],
     own: &[Answer],
-) -> Result<Option<Difference>, Refusal>
+) -> Result<Option<Difference>, AllocError>
     requires ranges { All (IsLineInRange setting.now.shape.now) lines.now }
     requires count { length own.now ≡ other_count lines.now }
     ensures ran { IfOk result (λ differs. RanLike setting.now.shape.now payloads.now lines.now own.now differs) }
-    ensures refused { IfErr result (λ e. e ≡ Memory) }
 {
     let live = LiveBench::blank(setting.alloc, setting.shape, payloads)?;
     run_to_end(setting, lines, own, RunUnderWay { live, place: 0 })

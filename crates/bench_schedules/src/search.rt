@@ -1,8 +1,7 @@
 //! The runs of a search: which candidates are kept.
 //! A law runs nothing, and tells the prover a fact: `orders_keep_lines`.
 
-ghost use Rattle.std.specs.Prelude.{◌≡◌, true, IfErr, IfOk, IfSome, OnOk};
-ghost use Rattle.board_model.specs.declared.refusal.Refusal.TheVariants.{Memory};
+ghost use Rattle.std.specs.Prelude.{◌≡◌, true, IfOk, IfSome, OnOk};
 ghost use Rattle.bench_orders.specs.Orders.{IsOrderFor};
 ghost use Rattle.bench_schedules.specs.Shrunk.{IsFound, IsSearchable};
 
@@ -10,9 +9,9 @@ use crate::runs::run_until;
 use bench_orders::{Slice, led, orders_keep_lines};
 use bench_report::{Answer, Setting};
 use board::Payloads;
-use board_model::Refusal;
 use crew::Crew;
 use script_lang::Line;
+use std::alloc::AllocError;
 
 /// The lines of the longest script, without its board line.
 const MOST_LINES: usize = 65_535;
@@ -46,14 +45,13 @@ pub struct FoundSchedule {
     pub runs: u64,
 }
 
-/// Whether the run of these lines first differs at the place that is searched. Refused `Memory` alone.
+/// Whether the run of these lines first differs at the place that is searched.
 #[tactic(auto, using(crate::proofs::Shortened::found_at))]
-fn differs_there<C: Crew>(search: &Search<'_, C>, lines: &[Line]) -> Result<bool, Refusal>
+fn differs_there<C: Crew>(search: &Search<'_, C>, lines: &[Line]) -> Result<bool, AllocError>
     requires searchable { IsSearchable search.now.setting.shape.now search.now.lines.now search.now.own.now }
     requires order { IsOrderFor search.now.lines.now lines.now }
     ensures found { IfOk result (λ yes. yes ≡ true → IsFound search.now.setting.shape.now search.now.payloads.now
         search.now.lines.now search.now.own.now search.now.place lines.now) }
-    ensures refused { IfErr result (λ e. e ≡ Memory) }
 {
     orders_keep_lines();
     if MOST_LINES < lines.len() {
@@ -65,15 +63,14 @@ fn differs_there<C: Crew>(search: &Search<'_, C>, lines: &[Line]) -> Result<bool
     }
 }
 
-/// The lines of the schedule that these slices lead, where its run still first differs there. Refused `Memory` alone.
+/// The lines of the schedule that these slices lead, where its run still first differs there.
 fn led_there<C: Crew>(
     search: &Search<'_, C>,
     slices: &[Slice],
-) -> Result<Option<Vec<Line>>, Refusal>
+) -> Result<Option<Vec<Line>>, AllocError>
     requires searchable { IsSearchable search.now.setting.shape.now search.now.lines.now search.now.own.now }
     ensures found { IfOk result (λ found. IfSome found (λ lines. IsFound search.now.setting.shape.now search.now.payloads.now
         search.now.lines.now search.now.own.now search.now.place lines.items)) }
-    ensures refused { IfErr result (λ e. e ≡ Memory) }
 {
     let lines = led(search.setting.alloc, search.lines, slices)?;
     if !differs_there(search, &lines)? {
@@ -83,18 +80,17 @@ fn led_there<C: Crew>(
 }
 
 /// Tries the schedule that these slices lead, and keeps it where its run still first differs there. Answers whether it is
-/// kept. After the last run nothing more is tried. Refused `Memory` alone.
+/// kept. After the last run nothing more is tried.
 pub fn try_slices<C: Crew>(
     search: &Search<'_, C>,
     kept: &mut FoundSchedule,
     slices: Vec<Slice>,
-) -> Result<bool, Refusal>
+) -> Result<bool, AllocError>
     requires searchable { IsSearchable search.now.setting.shape.now search.now.lines.now search.now.own.now }
     requires found { IsFound search.now.setting.shape.now search.now.payloads.now search.now.lines.now search.now.own.now
         search.now.place kept.old.lines.items }
     ensures found { OnOk result (IsFound search.now.setting.shape.now search.now.payloads.now search.now.lines.now
         search.now.own.now search.now.place kept.new.lines.items) }
-    ensures refused { IfErr result (λ e. e ≡ Memory) }
 {
     if MOST_RUNS <= kept.runs {
         return Ok(false);

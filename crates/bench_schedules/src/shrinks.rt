@@ -17,24 +17,22 @@ use crate::runs::{Difference, run_until};
 use crate::search::{FoundSchedule, Search};
 use crate::slices::slices_of;
 use bench_orders::orders_keep_lines;
-use bench_report::{Answer, Setting};
+use bench_report::{Answer, Setting, lane_by_lane};
 use board::Payloads;
 use board_model::{Refusal, shape_in_range};
-use crew::{Crew, Sequential};
+use crew::Crew;
 use script_lang::{Line, Script, fits, parse_script, scripts_read_as_written, write_script};
-use std::alloc::Global;
+use std::alloc::{AllocError, Global};
 use std::io::Write;
 use std::thread::Threads;
 
-/// A schedule with few turns of those that were drawn, whose run first differs where the run of the drawn one does. Refused
-/// `Memory` alone.
-fn searched<C: Crew>(search: &Search<'_, C>, drawn: Vec<Line>) -> Result<Vec<Line>, Refusal>
+/// A schedule with few turns of those that were drawn, whose run first differs where the run of the drawn one does.
+fn searched<C: Crew>(search: &Search<'_, C>, drawn: Vec<Line>) -> Result<Vec<Line>, AllocError>
     requires searchable { IsSearchable search.now.setting.shape.now search.now.lines.now search.now.own.now }
     requires found { IsFound search.now.setting.shape.now search.now.payloads.now search.now.lines.now search.now.own.now
         search.now.place drawn.items }
     ensures found { IfOk result (λ lines. IsFound search.now.setting.shape.now search.now.payloads.now search.now.lines.now
         search.now.own.now search.now.place lines.items) }
-    ensures refused { IfErr result (λ e. e ≡ Memory) }
 {
     let slices = slices_of(search.setting.alloc, &drawn)?;
     let mut kept = FoundSchedule {
@@ -46,25 +44,24 @@ fn searched<C: Crew>(search: &Search<'_, C>, drawn: Vec<Line>) -> Result<Vec<Lin
     Ok(kept.lines)
 }
 
-/// Runs a drawn schedule. Refused `Memory` alone.
+/// Runs a drawn schedule.
 fn run_drawn<C: Crew>(
     setting: &Setting<'_, C>,
     payloads: &Payloads,
     lines: &[Line],
     own: &[Answer],
     drawn: &[Line],
-) -> Result<Option<Difference>, Refusal>
+) -> Result<Option<Difference>, AllocError>
     requires searchable { IsSearchable setting.now.shape.now lines.now own.now }
     requires order { IsOrderFor lines.now drawn.now }
     ensures ran { IfOk result (λ differs. RanLike setting.now.shape.now payloads.now drawn.now own.now differs) }
-    ensures refused { IfErr result (λ e. e ≡ Memory) }
 {
     orders_keep_lines();
     let _lines = lines;
     run_until(setting, payloads, drawn, own)
 }
 
-/// A drawn schedule whose run differs there, shrunk; or as it is, where its run differs nowhere. Refused `Memory` alone.
+/// A drawn schedule whose run differs there, shrunk; or as it is, where its run differs nowhere.
 #[tactic(auto, using(crate::proofs::Shortened::found_by, crate::proofs::Shortened::stays, crate::proofs::Shortened::shortened_to))]
 fn shortened_from<'a, C: Crew>(
     setting: Setting<'a, C>,
@@ -73,14 +70,13 @@ fn shortened_from<'a, C: Crew>(
     own: &'a [Answer],
     drawn: Vec<Line>,
     differs: Option<Difference>,
-) -> Result<Vec<Line>, Refusal>
+) -> Result<Vec<Line>, AllocError>
     requires searchable { IsSearchable setting.shape.now lines.now own.now }
     requires order { IsOrderFor lines.now drawn.items }
     requires few { length drawn.items ≤ 65535 }
     requires ran { RanLike setting.shape.now payloads.now drawn.items own.now differs }
     ensures shortened { IfOk result (λ new.
         IsShortened setting.entry.shape.now payloads.now lines.now own.now drawn.items new.items) }
-    ensures refused { IfErr result (λ e. e ≡ Memory) }
 {
     match differs {
         None => Ok(drawn),
@@ -97,20 +93,19 @@ fn shortened_from<'a, C: Crew>(
     }
 }
 
-/// A drawn schedule, shrunk; or as it is, where its run differs nowhere. Refused `Memory` alone.
+/// A drawn schedule, shrunk; or as it is, where its run differs nowhere.
 fn shortened<'a, C: Crew>(
     setting: Setting<'a, C>,
     payloads: &'a Payloads,
     lines: &'a [Line],
     own: &'a [Answer],
     drawn: Vec<Line>,
-) -> Result<Vec<Line>, Refusal>
+) -> Result<Vec<Line>, AllocError>
     requires searchable { IsSearchable setting.shape.now lines.now own.now }
     requires order { IsOrderFor lines.now drawn.items }
     requires few { length drawn.items ≤ 65535 }
     ensures shortened { IfOk result (λ new.
         IsShortened setting.entry.shape.now payloads.now lines.now own.now drawn.items new.items) }
-    ensures refused { IfErr result (λ e. e ≡ Memory) }
 {
     let differs = run_drawn(&setting, payloads, lines, own, &drawn)?;
     shortened_from(setting, payloads, lines, own, drawn, differs)
@@ -128,7 +123,7 @@ fn shrink_lines<C: Crew, W: Write>(
     requires few { length lines.now ≤ 65535 }
     requires ranges { All (IsLineInRange setting.shape.now) lines.now }
     ensures shrunk { OnOk result (Shrunk (record { size = setting.entry.shape.now; lines = lines.now }) payloads.now (W.contents out.old) (W.contents out.new)) }
-    ensures err { IfErr result (λ e. (e ≡ Memory) ⊎ (e ≡ Output)) }
+    ensures refused { IfErr result (λ e. (e ≡ Memory) ⊎ (e ≡ Output)) }
 {
     scripts_read_as_written();
     let shape = setting.shape;
@@ -152,9 +147,9 @@ fn shrink_script<R: Threads + Sync, W: Write>(
     requires few { length script.now.lines.items ≤ 65535 }
     requires ranges { All (IsLineInRange script.now.shape) script.now.lines.items }
     ensures shrunk { OnOk result (Shrunk (view script.now) payloads.now (W.contents out.old) (W.contents out.new)) }
-    ensures err { IfErr result (λ e. (e ≡ Memory) ⊎ (e ≡ Output)) }
+    ensures refused { IfErr result (λ e. (e ≡ Memory) ⊎ (e ≡ Output)) }
 {
-    let crew = Sequential::<R>::new([0, 1, 2, 3])?;
+    let crew = lane_by_lane::<R>();
     let setting = Setting {
         alloc,
         crew: &crew,

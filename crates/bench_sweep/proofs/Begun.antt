@@ -3,8 +3,7 @@ use Rattle.std.proofs.Common.{◌≡◌, ◌<◌, ◌+◌, ◌++◌, ◌∷◌, 
 use Rattle.board_model.specs.Durable.{Change, CarriesWhole}
 use Rattle.board_model.specs.Kept.{Kept, nothing_kept}
 use Rattle.board_model.specs.Shapes.{Size}
-use Rattle.board_model.specs.declared.refusal.Refusal.{Refusal}
-use Rattle.board_model.specs.declared.refusal.Refusal.TheVariants.{Memory}
+use Rattle.std.specs.declared.alloc.AllocError.{AllocError}
 use Rattle.simdisk.specs.declared.fill.Fill.{Fill}
 use Rattle.std.specs.Prelude.{MatchResult}
 use Rattle.script_lang.specs.declared.line.Line.{Line}
@@ -65,8 +64,8 @@ moved_fresh size line b a new is (inl x) = fresh_by size line b a new is x.0
 moved_fresh size line b a new is (inr x) = absurd (let no : printed.Formatted ≡ printed.PowerLost = sym (said line a is) ∙ ap (λ (y : Answer). y.line) x.4 in let never : ⊥ = cc in never)
 
 -- ---- a line before it
-pub moved_by : (size : Size) (line : Line) (b : Bench) (answer : Result Answer Refusal) (fill : Fill) (power : Power) (slots : List (List ℕ)) (did : Bool) → b.power ≡ None
-    → MatchResult answer (λ a. (new : Bench) × Moves size line b a new × EndsBy size line fill b a power × IsBench size new power slots) (λ e. (e ≡ Memory) × Matches size b power slots) → MatchResult answer (λ a. ShowsEnoughMemory a.line × (did ≡ true → Formats line a)) (λ e. ⊥)
+pub moved_by : (size : Size) (line : Line) (b : Bench) (answer : Result Answer AllocError) (fill : Fill) (power : Power) (slots : List (List ℕ)) (did : Bool) → b.power ≡ None
+    → MatchResult answer (λ a. (new : Bench) × Moves size line b a new × EndsBy size line fill b a power × IsBench size new power slots) (λ e. Matches size b power slots) → MatchResult answer (λ a. ShowsEnoughMemory a.line × (did ≡ true → Formats line a)) (λ e. ⊥)
     → (a : Answer) × (new : Bench) × Moves size line b a new × IsBench size new power slots × (new.growths ≡ b.growths) × (did ≡ true → Formats line a)
 moved_by size line b (Ok a) fill power slots did off (new, moves, ends, is) (enough, formats) = (a, new, moves, is, off_grows size line b a new off enough moves, formats)
 moved_by size line b (Err e) fill power slots did off moved told = absurd told

@@ -27,7 +27,7 @@ fed : (a : Answer) (b new : Bench) → ShowsEnoughMemory a.line → Grows (Refus
 fed a b new shows x = said_counts a.line b new (says_enough a.line shows) x
 
 pub console_grows : (c : ConsoleCommand) (p : Option BenchLife) (b : Bench) (a : Answer) (new : Bench) → ConsoleStep c p b a new → Counts b new
-console_grows c p b a new x = (growths.console_keeps c p b a new x).0
+console_grows c p b a new x = growths.console_keeps c p b a new x
 
 pub power_grows : (size : Size) (mode : BootMode) (b : Bench) (a : Answer) (new : Bench) → PowersOn size mode b a new → ShowsEnoughMemory a.line → Counts b new
 power_grows size mode b a new x shows = fed a b new shows (growths.power_grows size mode b a new x)

@@ -13,8 +13,7 @@ use Rattle.board_model.specs.declared.durable.Durable.{Durable}
 use Rattle.board_model.specs.declared.durable.ImageHead.{ImageHead}
 use Rattle.board_model.specs.declared.durable.Trial.{Trial}
 use Rattle.board_model.specs.declared.plain.Plain.{Plain}
-use Rattle.board_model.specs.declared.refusal.Refusal.{Refusal}
-use Rattle.board_model.specs.declared.refusal.Refusal.TheVariants.{Memory}
+use Rattle.std.specs.declared.alloc.AllocError.{AllocError}
 use Rattle.disk.specs.Facts.{IsLeft}
 use Rattle.disk.specs.FaultState.{Armed, Unarmed, FaultArmed, CutArmed, FaultState, Cause, fault_state_left}
 use Rattle.disk.specs.declared.device.ArmedFault.{ArmedFault}
@@ -159,8 +158,8 @@ line_runs size line b old new slots now answer was ledger plain none unasked sam
       runs = record { agrees = matches.0; same = matches.1; follows = record { formatted = told.1 ∙ r.follows.formatted; kept = follows size b.kept x.kept r.follows.kept told.0; enough = line_grows size line b answer x (inr none) enough step ∙ r.follows.enough } };
     }
 
-pub answered_runs : (size : Size) (line : Line) (b : Bench) (old new : Power) (slots now : List (List ℕ)) (answer : Result Answer Refusal) (was ledger : RunLedger) → IsPlainLine line → moves_harts line ≡ false → powers_on line ≡ false → ledger.resumed ≡ was.resumed
-    → RunsCalm size b old slots was → MatchResult answer (λ a. (x : Bench) × Step size line b a x × Matches size x new now) (λ e. (e ≡ Memory) × Matches size b new now)
+pub answered_runs : (size : Size) (line : Line) (b : Bench) (old new : Power) (slots now : List (List ℕ)) (answer : Result Answer AllocError) (was ledger : RunLedger) → IsPlainLine line → moves_harts line ≡ false → powers_on line ≡ false → ledger.resumed ≡ was.resumed
+    → RunsCalm size b old slots was → MatchResult answer (λ a. (x : Bench) × Step size line b a x × Matches size x new now) (λ e. Matches size b new now)
     → MatchResult answer (λ a. ShowsEnoughMemory a.line × ((z : Size) (k n : Kept) → TellsWhole z was k → LineTold line a k n → TellsWhole z ledger n)) (λ e. ⊥) → LineMoves size line b new now was ledger
 answered_runs size line b old new slots now (Ok a) was ledger plain none unasked same r did (enough, told) = line_runs size line b old new slots now a was ledger plain none unasked same r enough did told
 answered_runs size line b old new slots now (Err e) was ledger plain none unasked same r did told = absurd told

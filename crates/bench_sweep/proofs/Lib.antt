@@ -21,5 +21,4 @@ pub mod Scripts
 pub mod Rowed
 pub mod Nth
 pub mod ShownRows
-pub mod Crews
 pub mod Along

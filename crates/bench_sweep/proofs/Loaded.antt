@@ -9,6 +9,7 @@ use Rattle.board_model.specs.declared.durable.Durable.{Durable}
 use Rattle.board_model.specs.declared.durable.ImageHead.{ImageHead}
 use Rattle.board_model.specs.declared.plain.Plain.{Plain}
 use Rattle.board_model.specs.declared.refusal.Refusal.{Refusal}
+use Rattle.std.specs.declared.alloc.AllocError.{AllocError}
 use Rattle.board_model.specs.declared.refusal.Refusal.TheVariants.{Device, NoImage}
 use Rattle.disk.specs.FaultState.{FaultState}
 use Rattle.simdisk.specs.declared.SimDisk.{SimDisk}
@@ -65,7 +66,7 @@ module _ (found : Durable) (store new : SimStore) (memory : List ℕ) (e : Refus
           fails_itself (store_fault_state store) (store_fault_state new) f.left (subst P is refused).2
       by (inr (is, none)) = absurd (let n : true ≡ false = sym has ∙ ap (λ (o : Option ImageHead). is_some o) (ap (λ (d : Durable). d.image) same ∙ ap head_of (image ∙ none)) in let no : ⊥ = cc in no)
 
-  pub not_loaded : WholeLoads → (r : Result (Option Plain) Refusal) (board : SimStore) (disk : SimDisk) → store ≡ board → fault_state disk ≡ store_fault_state new → IfOk r (λ plain. IsSpoilt (fault_state disk) → ⊥)
+  pub not_loaded : WholeLoads → (r : Result (Option Plain) AllocError) (board : SimStore) (disk : SimDisk) → store ≡ board → fault_state disk ≡ store_fault_state new → IfOk r (λ plain. IsSpoilt (fault_state disk) → ⊥)
       → IfOk r (λ plain. FoundSo plain found board)
   not_loaded law (Err x) board disk here left whole = tt
   not_loaded law (Ok plain) board disk here left whole =
@@ -73,7 +74,7 @@ module _ (found : Durable) (store new : SimStore) (memory : List ℕ) (e : Refus
       subst B here (λ size s same image f. absurd (whole (subst (λ (m : FaultState). IsSpoilt m) (sym left) (spoils law size s same image f))))
 
 -- of a board that is on
-pub on_found : (r : Result (Option Plain) Refusal) (power : Power) (board : SimBoard) (found : Option Durable) (said : Printed) → power ≡ On board → IfOk r (λ plain. (size : Size) (x : Printed) → PowerFinds size (On board) found x plain)
+pub on_found : (r : Result (Option Plain) AllocError) (power : Power) (board : SimBoard) (found : Option Durable) (said : Printed) → power ≡ On board → IfOk r (λ plain. (size : Size) (x : Printed) → PowerFinds size (On board) found x plain)
     → IfOk r (λ plain. (size : Size) → PowerFinds size power found said plain)
 on_found (Err e) power board found said is told = tt
 on_found (Ok plain) power board found said is told = λ size. (let P : Power → Type 0 = λ p. PowerFinds size p found said plain in subst P (sym is) (told size said))

@@ -1,8 +1,7 @@
 //! Where a bench begins: behind the first format of its script that answers Ok.
 //! A law runs nothing, and tells the prover a fact: `blank_disks`.
 
-ghost use Rattle.std.specs.Prelude.{◌≡◌, ◌≤◌, ℕ, List, false, true, length, take, All, Err, IfOk, IfErr, MatchResult, OnErr, ◌↔◌, IsTrue};
-ghost use Rattle.board_model.specs.declared.refusal.Refusal.TheVariants.{Memory};
+ghost use Rattle.std.specs.Prelude.{◌≡◌, ◌≤◌, ℕ, List, false, true, length, take, All, IfOk, MatchResult, ◌↔◌, IsTrue};
 ghost use Rattle.script_lang.specs.Lines.{IsLineInRange};
 ghost use Rattle.bench_report.specs.Agree.{Agrees, IsBench};
 ghost use Rattle.bench_report.specs.Bench.{Bench, bench_with};
@@ -18,11 +17,11 @@ use bench_report::{
     Answer, BenchBoard, OffDisk, Power, Printed, Setting, disk_left, line_with_cuts,
 };
 use board::Payloads;
-use board_model::{Refusal, Shape};
+use board_model::Shape;
 use crew::Crew;
 use script_lang::Line;
 use simdisk::{Fill, SimDisk};
-use std::alloc::Global;
+use std::alloc::{AllocError, Global};
 use store::blank_disks;
 
 /// Whether the line formatted the disk.
@@ -35,13 +34,11 @@ fn is_formatted(line: &Line, answer: &Answer) -> bool
     }
 }
 
-/// Whether the line formatted the disk, by what was answered. Refused `Memory` where the line was, where it says so, or
-/// where it says nothing.
-fn formatted_by(line: &Line, answer: Result<Answer, Refusal>) -> Result<bool, Refusal>
-    requires memory { OnErr answer (answer ≡ Err Memory) }
+/// Whether the line formatted the disk, by what was answered. Refused where the line was, where it says so, or where it says
+/// nothing.
+fn formatted_by(line: &Line, answer: Result<Answer, AllocError>) -> Result<bool, AllocError>
     ensures formats { IfOk result (λ did. MatchResult answer (λ a. ShowsEnoughMemory a.line
         × (did ≡ true → Formats line.now a)) (λ e. ⊥)) }
-    ensures refused { IfErr result (λ e. e ≡ Memory) }
 {
     match answer {
         Err(refusal) => Err(refusal),
@@ -57,22 +54,21 @@ fn release(bench: BenchBoard) {
     let _bench = bench;
 }
 
-/// Runs a line before the disk is formatted, and answers whether it was by that. Refused `Memory` alone.
+/// Runs a line before the disk is formatted, and answers whether it was by that.
 fn run_before_format<C: Crew>(
     setting: &Setting<'_, C>,
     line: &Line,
     bench: BenchBoard,
-) -> Result<(BenchBoard, bool), Refusal>
+) -> Result<(BenchBoard, bool), AllocError>
     requires range { IsLineInRange setting.now.shape.now line.now }
     ensures moved { IfOk result (λ did. (b : Bench) → IsBench setting.now.shape.now b bench.power bench.payloads
         → (answer : Answer) × (new : Bench) × Moves setting.now.shape.now line.now b answer new
         × IsBench setting.now.shape.now new did.0.power did.0.payloads × (new.growths ≡ b.growths) × (did.1 ≡ true → Formats line.now answer)) }
-    ensures refused { IfErr result (λ e. e ≡ Memory) }
 {
     // A board that is on, over a disk that no format has answered Ok on, takes a format which was refused memory.
     if !is_off(&bench.power) {
         release(bench);
-        return Err(Refusal::Memory);
+        return Err(AllocError);
     }
     let (after, answer) = line_with_cuts(setting, line, bench);
     match formatted_by(line, answer) {
@@ -85,10 +81,9 @@ fn run_before_format<C: Crew>(
 }
 
 /// A board over a blank disk of the size that it needs, whose slots boot copies of these.
-fn blank(alloc: Global, shape: &Shape, payloads: &Payloads) -> Result<BenchBoard, Refusal>
+fn blank(alloc: Global, shape: &Shape, payloads: &Payloads) -> Result<BenchBoard, AllocError>
     ensures slots { IfOk result (λ bench. bench.payloads ≡ payloads.now) }
     ensures blank { IfOk result (λ bench. (start : List (List ℕ)) → Agrees shape.now (bench_with start) bench.power) }
-    ensures refused { IfErr result (λ e. e ≡ Memory) }
 {
     blank_disks::<SimDisk>();
     let disk = SimDisk::blank(alloc, shape.sectors())?;
@@ -100,11 +95,10 @@ fn blank(alloc: Global, shape: &Shape, payloads: &Payloads) -> Result<BenchBoard
     })
 }
 
-/// Turns the board off behind the format. Refused `Memory` where the disk's record found none.
-fn formatted_site(alloc: Global, shape: &Shape, bench: BenchBoard) -> Result<Site, Refusal>
+/// Turns the board off after the format. Refused where the disk's record found no memory.
+fn formatted_site(alloc: Global, shape: &Shape, bench: BenchBoard) -> Result<Site, AllocError>
     ensures runs { IfOk result (λ site. (start : List (List ℕ)) (lines : List Line)
         → Begun shape.now start lines bench.power bench.payloads → IsFormattedAt shape.now start lines site) }
-    ensures refused { IfErr result (λ e. e ≡ Memory) }
 {
     let BenchBoard {
         power,
@@ -113,7 +107,7 @@ fn formatted_site(alloc: Global, shape: &Shape, bench: BenchBoard) -> Result<Sit
     } = bench;
     let disk = disk_left(power);
     if disk.refused() != 0 {
-        return Err(Refusal::Memory);
+        return Err(AllocError);
     }
     Ok(Site {
         off: OffDisk { disk },
@@ -123,16 +117,15 @@ fn formatted_site(alloc: Global, shape: &Shape, bench: BenchBoard) -> Result<Sit
 }
 
 /// Runs a script that begins with these payloads up to the first format that answers Ok: how many lines that were,
-/// and the board then. Refused `Memory` alone, also where no format does.
+/// and the board then. Refused also where no format does.
 pub fn run_to_format<C: Crew>(
     setting: &Setting<'_, C>,
     lines: &[Line],
     payloads: &Payloads,
-) -> Result<(usize, Site), Refusal>
+) -> Result<(usize, Site), AllocError>
     requires { All (IsLineInRange setting.now.shape.now) lines.now }
     ensures few { IfOk result (λ did. did.0 ≤ length lines.now) }
     ensures runs { IfOk result (λ did. IsFormattedAt setting.now.shape.now payloads.now (take did.0 lines.now) did.1) }
-    ensures refused { IfErr result (λ e. e ≡ Memory) }
 {
     let alloc = setting.alloc;
     let shape = setting.shape;
@@ -149,5 +142,5 @@ pub fn run_to_format<C: Crew>(
     }
     // A line formats the disk, which is blank, and nothing is armed. Only want of memory lets each format fail.
     release(bench);
-    Err(Refusal::Memory)
+    Err(AllocError)
 }

@@ -1,7 +1,6 @@
 //! The runs at a chunk of neighbouring calls: one thread makes them, each from the line in which its call lies.
 
-ghost use Rattle.std.specs.Prelude.{◌≡◌, ◌≤◌, ◌<◌, ◌+◌, ◌-◌, ◌^◌, [], length, IfOk, IfErr, OnOk};
-ghost use Rattle.board_model.specs.declared.refusal.Refusal.TheVariants.{Memory};
+ghost use Rattle.std.specs.Prelude.{◌≡◌, ◌≤◌, ◌<◌, ◌+◌, ◌-◌, ◌^◌, [], length, IfOk, OnOk};
 ghost use Rattle.bench_report.specs.Bench.{Bench};
 ghost use Rattle.jobs.specs.Handed.{AreRows};
 ghost use Rattle.bench_sweep.specs.Reports.{IsOfCall, Judged, RunsAlong};
@@ -15,9 +14,9 @@ use crate::points::{Caller, Point};
 use crate::runner::Runner;
 use crate::site::{Going, Site};
 use crate::sites::run_lines;
-use board_model::Refusal;
 use crew::Crew;
 use jobs::{Chunk, Task, Window};
+use std::alloc::AllocError;
 
 /// The most calls of a chunk, and how many make it long beside what it costs to begin one.
 const MOST_CALLS: u64 = 64;
@@ -38,16 +37,19 @@ pub fn chunk_size(calls: u64, threads: usize) -> u64
     few.min(MANY_CALLS).max(many).clamp(1, MOST_CALLS)
 }
 
-/// Keeps how many calls the caller has made at that moment from the site on. Refused `Memory` alone.
-fn mark(moment: &Moment, site: &Site, caller: Caller, marks: &mut Vec<u64>) -> Result<(), Refusal>
-    ensures refused { IfErr result (λ e. e ≡ Memory) }
-{
+/// Keeps how many calls the caller has made at that moment from the site on.
+fn mark(
+    moment: &Moment,
+    site: &Site,
+    caller: Caller,
+    marks: &mut Vec<u64>,
+) -> Result<(), AllocError> {
     let made = moment.going.calls_since(site, caller)?;
     marks.push(made)?;
     Ok(())
 }
 
-/// Runs on up to so many lines, and keeps how many calls the caller has made then from the site on. Refused `Memory` alone.
+/// Runs on up to so many lines, and keeps how many calls the caller has made then from the site on.
 fn mark_next<C: Crew>(
     runner: &Runner<'_, C>,
     site: &Site,
@@ -55,7 +57,7 @@ fn mark_next<C: Crew>(
     moment: Moment,
     to: usize,
     marks: &mut Vec<u64>,
-) -> Result<Moment, Refusal>
+) -> Result<Moment, AllocError>
     requires lines { AreSwept runner.now.setting.shape.now runner.now.lines.now }
     requires order { moment.count ≤ to }
     requires few { to ≤ length runner.now.lines.now }
@@ -63,7 +65,6 @@ fn mark_next<C: Crew>(
     ensures sits { IfOk result (λ at. (b : Bench)
         × CameTold runner.now.setting.shape.now b runner.now.lines.now site.now at) }
     ensures few { IfOk result (λ at. at.count ≤ to) }
-    ensures refused { IfErr result (λ e. e ≡ Memory) }
 {
     let moment = moment.run_to(&runner.setting, runner.lines, to)?;
     match mark(&moment, site, caller, marks) {
@@ -76,17 +77,16 @@ fn mark_next<C: Crew>(
 }
 
 /// How many calls the caller has made from the site on behind each of so many first lines but the last, in which all others lie. It is a
-/// hint for chunks: a wrong one would make their runs longer, or have them refused. Refused `Memory` alone.
+/// hint for chunks: a wrong one would make their runs longer, or have them refused.
 pub fn marks_of<C: Crew>(
     runner: &Runner<'_, C>,
     count: usize,
     site: &Site,
     caller: Caller,
-) -> Result<Vec<u64>, Refusal>
+) -> Result<Vec<u64>, AllocError>
     requires few { count ≤ length runner.now.lines.now }
     requires lines { AreSwept runner.now.setting.shape.now runner.now.lines.now }
     requires sits { Sits runner.now.setting.shape.now site.now }
-    ensures refused { IfErr result (λ e. e ≡ Memory) }
 {
     let mut marks = Vec::new(runner.setting.alloc);
     let mut moment = Moment::at(runner.setting.alloc, site)?;
@@ -132,9 +132,9 @@ pub struct RunsAtCalls<'a, 'b, C> {
 }
 
 impl<'a, 'b, C: Crew> RunsAtCalls<'a, 'b, C> {
-    /// Makes the runs at the call before which so many were made from the site on, from that moment. Refused `Memory` where the
-    /// moment is behind it: by the plain run it is not.
-    fn rows_at(&self, moment: &mut Moment, done: u64) -> Result<PointRows, Refusal>
+    /// Makes the runs at the call before which so many were made from the site on, from that moment. Refused also where the
+    /// moment is after it: by the plain run it is not.
+    fn rows_at(&self, moment: &mut Moment, done: u64) -> Result<PointRows, AllocError>
         requires few { self.now.count ≤ length self.now.runner.now.lines.now }
         requires order { moment.old.count ≤ self.now.count }
         requires lines { AreSwept self.now.runner.now.setting.shape.now self.now.runner.now.lines.now }
@@ -148,11 +148,10 @@ impl<'a, 'b, C: Crew> RunsAtCalls<'a, 'b, C> {
             → Judged (RunsAlong self.now.runner.now.setting.shape.now self.now.runner.now.bench self.now.caller self.now.site.now self.now.before b
             self.now.runner.now.lines.now) made
             (runs_of self.now.runner.now.bench self.now.caller (self.now.before + done + 1))) }
-        ensures refused { IfErr result (λ e. e ≡ Memory) }
     {
         let made = moment.going.calls_since(self.site, self.caller)?;
         if done < made {
-            return Err(Refusal::Memory);
+            return Err(AllocError);
         }
         let point = Point {
             caller: self.caller,
@@ -170,8 +169,8 @@ impl<'a, 'b, C: Crew> RunsAtCalls<'a, 'b, C> {
         run_at_point(&behind, self.count - moment.count, going, point)
     }
 
-    /// Runs on to the line in which that call lies, and makes the runs at it. Refused `Memory` alone.
-    fn next_rows(&self, moment: Moment, done: u64) -> Result<(Moment, PointRows), Refusal>
+    /// Runs on to the line in which that call lies, and makes the runs at it.
+    fn next_rows(&self, moment: Moment, done: u64) -> Result<(Moment, PointRows), AllocError>
         requires few { self.now.count ≤ length self.now.runner.now.lines.now }
         requires order { moment.count ≤ self.now.count }
         requires lines { AreSwept self.now.runner.now.setting.shape.now self.now.runner.now.lines.now }
@@ -186,7 +185,6 @@ impl<'a, 'b, C: Crew> RunsAtCalls<'a, 'b, C> {
             → Judged (RunsAlong self.now.runner.now.setting.shape.now self.now.runner.now.bench self.now.caller self.now.site.now self.now.before b
             self.now.runner.now.lines.now) did.1
             (runs_of self.now.runner.now.bench self.now.caller (self.now.before + done + 1))) }
-        ensures refused { IfErr result (λ e. e ≡ Memory) }
     {
         let next = line_of(self.marks, moment.count, self.count, done);
         let mut moment = moment.run_to(&self.runner.setting, self.runner.lines, next)?;
@@ -199,8 +197,8 @@ impl<'a, 'b, C: Crew> RunsAtCalls<'a, 'b, C> {
         }
     }
 
-    /// Makes the runs at the calls of that window, one after another. Refused `Memory` alone: then those made stay.
-    fn rows_of(&self, window: Window, rows: &mut Vec<PointRows>) -> Result<(), Refusal>
+    /// Makes the runs at the calls of that window, one after another. Where one is refused, those made stay.
+    fn rows_of(&self, window: Window, rows: &mut Vec<PointRows>) -> Result<(), AllocError>
         requires few { self.now.count ≤ length self.now.runner.now.lines.now }
         requires lines { AreSwept self.now.runner.now.setting.shape.now self.now.runner.now.lines.now }
         requires room { self.now.before + window.to < 2 ^ 64 }
@@ -209,7 +207,6 @@ impl<'a, 'b, C: Crew> RunsAtCalls<'a, 'b, C> {
         ensures rows { OnOk result ((length rows.new.items ≡ window.to - window.from)
             × AreRows (IsOfCall self.now.runner.now.setting.shape.now self.now.runner.now.bench self.now.caller self.now.before
             self.now.runner.now.lines.now self.now.site.now) window.from rows.new.items) }
-        ensures refused { IfErr result (λ e. e ≡ Memory) }
     {
         let Window { from, to } = window;
         let mut moment = Moment::at(self.runner.setting.alloc, self.site)?;
@@ -219,7 +216,7 @@ impl<'a, 'b, C: Crew> RunsAtCalls<'a, 'b, C> {
                 Ok(()) => moment = next,
                 Err(_) => {
                     next.going.release();
-                    return Err(Refusal::Memory);
+                    return Err(AllocError);
                 }
             }
         }
@@ -246,7 +243,7 @@ impl<'a, 'b, C: Crew + Sync> Task for RunsAtCalls<'a, 'b, C> {
 
     /// Makes the runs at the calls of that chunk: the lines run on from the site as they are, and each call is armed on a copy of
     /// the board as it stands before the line in which the call lies.
-    fn row(&self, number: u64) -> Result<Chunk<PointRows>, Refusal> {
+    fn row(&self, number: u64) -> Result<Chunk<PointRows>, AllocError> {
         let window = self.within.chunk(self.each, number);
         let mut rows = Vec::new(self.runner.setting.alloc);
         let whole = self.rows_of(window, &mut rows).is_ok();

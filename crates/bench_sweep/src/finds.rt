@@ -1,13 +1,12 @@
 //! What a run left: a power-on that keeps its image, and the judge's word of what that found.
 //! A law runs nothing, and tells the prover a fact: `whole_images_load`.
 
-ghost use Rattle.std.specs.Prelude.{◌≡◌, ◌⊎◌, ℕ, List, None, Some, IfErr, IfOk, OnOk};
+ghost use Rattle.std.specs.Prelude.{◌≡◌, ◌⊎◌, ℕ, List, None, Some, IfOk, OnOk};
 ghost use Rattle.board_model.specs.Durable.{DurableState};
 ghost use Rattle.board_model.specs.Plains.{state_in, IsPlainOf};
 ghost use Rattle.board_model.specs.Shapes.{Size};
 ghost use Rattle.board_model.specs.Views.{durable_of};
 ghost use Rattle.board_model.specs.declared.plain.Plain.{Plain as State};
-ghost use Rattle.board_model.specs.declared.refusal.Refusal.TheVariants.{Memory};
 ghost use Rattle.disk.specs.Facts.{counted};
 ghost use Rattle.bench_report.specs.declared.power.Power.TheVariants.{On};
 ghost use Rattle.report_lines.specs.declared.printed.Printed.{Printed as Said};
@@ -24,10 +23,10 @@ use crate::judges::Sweep;
 use crate::ledgers::RunLedger;
 use bench_report::{Answer, OffDisk, Power, Printed, power_on};
 use board::{Board, BoardParts, Payloads};
-use board_model::{BootMode, Bytes, Durable, Plain, Refusal, Shape, shape_in_range};
+use board_model::{BootMode, Bytes, Durable, Plain, Shape, shape_in_range};
 use ram::Ram;
 use simdisk::SimDisk;
-use std::alloc::Global;
+use std::alloc::{AllocError, Global};
 use store::{Store, whole_images_load};
 
 /// The state found with its memory, where it was found and its image loaded; and what the power-on said.
@@ -37,13 +36,12 @@ struct FoundPlain {
     left: Answer,
 }
 
-/// The image was not loaded. Refused `Memory` where the disk's record found none.
-fn unloaded(disk: SimDisk) -> Result<Option<Plain>, Refusal>
+/// The image was not loaded. Refused where the disk's record found no memory.
+fn unloaded(disk: SimDisk) -> Result<Option<Plain>, AllocError>
     ensures spoilt { IfOk result (λ found. IsSpoilt (fault_state disk) → ⊥) }
-    ensures refused { IfErr result (λ e. e ≡ Memory) }
 {
     if disk.refused() != 0 {
-        return Err(Refusal::Memory);
+        return Err(AllocError);
     }
     Ok(None)
 }
@@ -65,12 +63,15 @@ fn store_and_ram(board: Board<SimDisk>) -> (Store<SimDisk>, Ram)
 }
 
 /// The state that the open of that board found, with the memory of its image, which is loaded into the board's own: none where
-/// the load was refused, and `Memory` where the disk's record found none.
-fn loaded(alloc: Global, found: &Durable, board: Board<SimDisk>) -> Result<Option<Plain>, Refusal>
+/// the load was refused. Refused where the disk's record found no memory.
+fn loaded(
+    alloc: Global,
+    found: &Durable,
+    board: Board<SimDisk>,
+) -> Result<Option<Plain>, AllocError>
     ensures told { IfOk result (λ plain. (size : Size) (s : DurableState) → found.now ≡ durable_of s
         → s.image ≡ (store_now (store_in board)).image → FindsState size (store_in board)
         → (p : State) × (plain ≡ Some p) × (state_in p ≡ s)) }
-    ensures refused { IfErr result (λ e. e ≡ Memory) }
 {
     whole_images_load::<SimDisk>();
     if found.image.is_none() {
@@ -79,7 +80,7 @@ fn loaded(alloc: Global, found: &Durable, board: Board<SimDisk>) -> Result<Optio
     let (mut store, mut ram) = store_and_ram(board);
     // A board has as much memory as its disk's shape says.
     if ram.pages() != store.shape().pages() {
-        return Err(Refusal::Memory);
+        return Err(AllocError);
     }
     match store.load_image(&mut ram) {
         Ok(()) => Ok(plain_of(found, ram.into_bytes())),
@@ -87,10 +88,9 @@ fn loaded(alloc: Global, found: &Durable, board: Board<SimDisk>) -> Result<Optio
     }
 }
 
-/// A power-on that was refused, which found no state to judge. Refused `Memory` where it was.
-fn unbooted(disk: SimDisk, said: Printed) -> Result<Option<Plain>, Refusal>
+/// A power-on that was refused, which found no state to judge. Refused where memory was.
+fn unbooted(disk: SimDisk, said: Printed) -> Result<Option<Plain>, AllocError>
     ensures spoilt { IfOk result (λ found. (said ≡ OnRefused 11) ⊎ IsSpoilt (fault_state disk) → ⊥) }
-    ensures refused { IfErr result (λ e. e ≡ Memory) }
 {
     enough_memory(said)?;
     unloaded(disk)
@@ -101,9 +101,8 @@ fn found_on(
     alloc: Global,
     board: Board<SimDisk>,
     found: Option<Durable>,
-) -> Result<Option<Plain>, Refusal>
+) -> Result<Option<Plain>, AllocError>
     ensures told { IfOk result (λ plain. (size : Size) (said : Said) → PowerFinds size (On board) found said plain) }
-    ensures refused { IfErr result (λ e. e ≡ Memory) }
 {
     match found {
         None => Ok(None),
@@ -111,15 +110,14 @@ fn found_on(
     }
 }
 
-/// The state that a power-on found, by what its open found and what it said. Refused `Memory` where memory was.
+/// The state that a power-on found, by what its open found and what it said. Refused where memory was.
 fn found_by(
     alloc: Global,
     power: Power,
     found: Option<Durable>,
     said: Printed,
-) -> Result<Option<Plain>, Refusal>
+) -> Result<Option<Plain>, AllocError>
     ensures told { IfOk result (λ plain. (size : Size) → PowerFinds size power found said plain) }
-    ensures refused { IfErr result (λ e. e ≡ Memory) }
 {
     match power {
         Power::Off(off) => unbooted(off.disk, said),
@@ -128,14 +126,13 @@ fn found_by(
 }
 
 /// Powers a board on that keeps its image, and looks what was found. Its slots are empty, whatever the script's are:
-/// it makes no turn, and is not refused for a payload that is longer than RAM. Refused `Memory` alone.
-fn look_at(alloc: Global, shape: &Shape, off: OffDisk) -> Result<FoundPlain, Refusal>
+/// it makes no turn, and is not refused for a payload that is longer than RAM.
+fn look_at(alloc: Global, shape: &Shape, off: OffDisk) -> Result<FoundPlain, AllocError>
     ensures finds { IfOk result (λ found. (b : Bench) (slots : List (List ℕ)) (ledger : RunLedger)
         → LeftOff shape.now b off slots ledger → Finds ledger found.plain found.left) }
     ensures says { IfOk result (λ found. (b : Bench) → OffIs shape.now b off.disk
         → (after : Bench) × LooksAt shape.now b found.left after) }
     ensures exact { IfOk result (λ found. OpensOf (facts off.disk).content found.left) }
-    ensures refused { IfErr result (λ e. e ≡ Memory) }
 {
     shape_in_range(shape);
     let empty = Payloads::new(alloc);
@@ -144,14 +141,14 @@ fn look_at(alloc: Global, shape: &Shape, off: OffDisk) -> Result<FoundPlain, Ref
     Ok(FoundPlain { plain, left })
 }
 
-/// Counts a run that left that disk, and answers what the power-on after it said. Refused `Memory` alone.
+/// Counts a run that left that disk, and answers what the power-on after it said.
 pub fn count_run(
     alloc: Global,
     shape: &Shape,
     off: OffDisk,
     ledger: &RunLedger,
     sweep: &mut Sweep,
-) -> Result<Answer, Refusal>
+) -> Result<Answer, AllocError>
     requires { (slots : List (List ℕ)) × (b : Bench) × LeftOff shape.now b off slots ledger.now }
     ensures says { IfOk result (λ left. (b : Bench) → OffIs shape.now b off.disk
         → (after : Bench) × LooksAt shape.now b left after) }
@@ -160,7 +157,6 @@ pub fn count_run(
     ensures points { sweep.new.points ≡ sweep.old.points }
     ensures runs { OnOk result (sweep.new.runs ≡ counted sweep.old.runs 1) }
     ensures right { OnOk result (sweep.new.wrong ≡ sweep.old.wrong) }
-    ensures refused { IfErr result (λ e. e ≡ Memory) }
 {
     let found = look_at(alloc, shape, off)?;
     ledger.counts(found.plain.as_ref(), sweep);

@@ -1,6 +1,6 @@
 //! What a ledger takes from the answers of a script's lines.
 
-ghost use Rattle.std.specs.Prelude.{◌≡◌, ◌↔◌, ℕ, List, ◌∷◌, Some, None, false, true, is_some, IsTrue, IsSomeAnd, Err, MatchOption, MatchResult, IfErr, IfOk, OnErr, OnOk};
+ghost use Rattle.std.specs.Prelude.{◌≡◌, ◌↔◌, ℕ, List, ◌∷◌, Some, None, false, true, is_some, IsTrue, IsSomeAnd, MatchOption, MatchResult, OnOk};
 ghost use Rattle.board_model.specs.Durable.{Change, Suspend, Consume, Discard, CarriesWhole};
 ghost use Rattle.board_model.specs.Kept.{Kept, found_of};
 ghost use Rattle.board_model.specs.Shapes.{Size};
@@ -25,35 +25,33 @@ use board_model::{BootMode, Command, ConsoleCommand, Durable, Entry, Refusal, Tr
 use machine::{LifeEnd, Word};
 use script_lang::Line;
 use simdisk::SimDisk;
-use std::alloc::Global;
+use std::alloc::{AllocError, Global};
 
 /// Want of memory alone stops a bench. A ledger also refuses what the table of commands refuses, and of that nothing
 /// changed, whatever was answered.
-fn only_memory(refusal: Refusal) -> Result<(), Refusal>
+fn only_memory(refusal: Refusal) -> Result<(), AllocError>
     ensures other { OnOk result (refusal ≡ Memory → ⊥) }
-    ensures memory { IfErr result (λ e. e ≡ Memory) }
 {
     match refusal {
-        Refusal::Memory => Err(Refusal::Memory),
+        Refusal::Memory => Err(AllocError),
         _ => Ok(()),
     }
 }
 
-/// A command was answered, by its receipt or by the number with which it was refused. Refused `Memory` alone.
+/// A command was answered, by its receipt or by the number with which it was refused.
 fn record_command(
     ledger: &mut RunLedger,
     alloc: Global,
     entry: Entry,
     memory: &[u8],
     refused: Option<u32>,
-) -> Result<(), Refusal>
+) -> Result<(), AllocError>
     ensures kept { OnOk result ((size : Size) (old new : Kept) → TellsWhole size ledger.old old
         → CarriesWhole size (change_in entry memory.now) → IssuedTold refused (change_in entry memory.now) old new
         → TellsWhole size ledger.new new) }
     ensures already { OnOk result ((size : Size) (kept : Kept) (d : Change) (n : ℕ) → TellsWhole size ledger.old kept
         → kept.doubt ≡ Some d → refused ≡ Some n → TellsWhole size ledger.new kept) }
     ensures resumed { ledger.new.resumed ≡ ledger.old.resumed }
-    ensures memory { IfErr result (λ e. e ≡ Memory) }
 {
     match ledger.answered(alloc, entry, memory, refused) {
         Ok(()) => Ok(()),
@@ -61,12 +59,11 @@ fn record_command(
     }
 }
 
-/// The image that stands was resumed. Refused `Memory` alone.
-fn record_resume(ledger: &mut RunLedger, alloc: Global) -> Result<(), Refusal>
+/// The image that stands was resumed.
+fn record_resume(ledger: &mut RunLedger, alloc: Global) -> Result<(), AllocError>
     ensures kept { OnOk result ((size : Size) (old new : Kept) → TellsWhole size ledger.old old
         → IssuedTold None Consume old new → TellsWhole size ledger.new new) }
     ensures serial { OnOk result (Resumes ledger.old ledger.new (serial_of (image_told ledger.old))) }
-    ensures memory { IfErr result (λ e. e ≡ Memory) }
 {
     match ledger.resumes(alloc) {
         Ok(()) => Ok(()),
@@ -79,11 +76,10 @@ fn record_consume(
     ledger: &mut RunLedger,
     alloc: Global,
     refused: Option<u32>,
-) -> Result<(), Refusal>
+) -> Result<(), AllocError>
     ensures kept { OnOk result ((size : Size) (old new : Kept) → TellsWhole size ledger.old old
         → IssuedTold refused Consume old new → TellsWhole size ledger.new new) }
     ensures serial { OnOk result (Resumes ledger.old ledger.new (consumed refused (image_told ledger.old))) }
-    ensures memory { IfErr result (λ e. e ≡ Memory) }
 {
     match refused {
         None => record_resume(ledger, alloc),
@@ -94,18 +90,16 @@ fn record_consume(
     }
 }
 
-/// The attempt of a boot was acknowledged, or refused by that number, where the slot is on trial so. Refused `Memory`
-/// alone.
+/// The attempt of a boot was acknowledged, or refused by that number, where the slot is on trial so.
 fn record_attempt(
     ledger: &mut RunLedger,
     alloc: Global,
     trial: Option<Trial>,
     refused: Option<u32>,
-) -> Result<(), Refusal>
+) -> Result<(), AllocError>
     ensures kept { OnOk result ((size : Size) (old new : Kept) → TellsWhole size ledger.old old
         → BootTold refused (attempts_of trial) old new → TellsWhole size ledger.new new) }
     ensures resumed { ledger.new.resumed ≡ ledger.old.resumed }
-    ensures memory { IfErr result (λ e. e ≡ Memory) }
 {
     match trial {
         None => Ok(()),
@@ -133,13 +127,12 @@ fn record_stopped_discard(
     found: &Durable,
     now: Option<Durable>,
     number: u32,
-) -> Result<(), Refusal>
+) -> Result<(), AllocError>
     ensures kept { OnOk result ((size : Size) (old new : Kept) → TellsWhole size ledger.old old
         → found.now ≡ durable_of (found_of old.changes)
         → BootTold (Some number) (Discard ∷ attempts_of found.now.trial) old new → NowTold now new
         → TellsWhole size ledger.new new) }
     ensures resumed { ledger.new.resumed ≡ ledger.old.resumed }
-    ensures memory { IfErr result (λ e. e ≡ Memory) }
 {
     let entry = Entry::Command(Command::Discard);
     if is_dropped(found, now) {
@@ -157,13 +150,12 @@ fn record_discard(
     found: &Durable,
     now: Option<Durable>,
     refused: Option<u32>,
-) -> Result<(), Refusal>
+) -> Result<(), AllocError>
     ensures kept { OnOk result ((size : Size) (old new : Kept) → TellsWhole size ledger.old old
         → found.now ≡ durable_of (found_of old.changes)
         → BootTold refused (Discard ∷ attempts_of found.now.trial) old new → NowTold now new
         → TellsWhole size ledger.new new) }
     ensures resumed { ledger.new.resumed ≡ ledger.old.resumed }
-    ensures memory { IfErr result (λ e. e ≡ Memory) }
 {
     match refused {
         None => {
@@ -184,13 +176,12 @@ fn record_boot(
     found: &Durable,
     now: Option<Durable>,
     refused: Option<u32>,
-) -> Result<(), Refusal>
+) -> Result<(), AllocError>
     ensures kept { OnOk result ((size : Size) (old new : Kept) → TellsWhole size ledger.old old
         → found.now ≡ durable_of (found_of old.changes)
         → BootTold refused (commands_told mode found.now.trial) old new → NowTold now new
         → TellsWhole size ledger.new new) }
     ensures serial { OnOk result (Resumes ledger.old ledger.new (booted refused mode (image_told ledger.old))) }
-    ensures memory { IfErr result (λ e. e ≡ Memory) }
 {
     match mode {
         BootMode::Fresh | BootMode::Keep => record_attempt(ledger, alloc, found.trial, refused),
@@ -199,7 +190,7 @@ fn record_boot(
     }
 }
 
-/// What a power-on by that mode said behind its found line. Refused `Memory` where it was.
+/// What a power-on by that mode said after its found line. Refused where memory was.
 fn record_answer(
     ledger: &mut RunLedger,
     alloc: Global,
@@ -207,19 +198,18 @@ fn record_answer(
     found: &Durable,
     said: Printed,
     now: Option<Durable>,
-) -> Result<(), Refusal>
+) -> Result<(), AllocError>
     ensures kept { OnOk result ((size : Size) (old new : Kept) → TellsWhole size ledger.old old
         → found.now ≡ durable_of (found_of old.changes)
         → BootSaid said (commands_told mode found.now.trial) old new → NowTold now new
         → TellsWhole size ledger.new new) }
     ensures serial { OnOk result (Resumes ledger.old ledger.new (powered said mode (image_told ledger.old))) }
-    ensures memory { IfErr result (λ e. e ≡ Memory) }
 {
     match said {
         Printed::On(_) => record_boot(ledger, alloc, mode, found, now, None),
         Printed::OnRefused(number) => {
             if number == 11 {
-                Err(Refusal::Memory)
+                Err(AllocError)
             } else {
                 record_boot(ledger, alloc, mode, found, now, Some(number))
             }
@@ -240,33 +230,31 @@ fn hides_memory(said: Printed) -> bool
     }
 }
 
-/// Refused `Memory` where a line says that memory was refused, to a power-on or to an examination of the disk, or where
+/// Refused where a line says that memory was refused, to a power-on or to an examination of the disk, or where
 /// it says nothing.
-pub fn enough_memory(said: Printed) -> Result<(), Refusal>
+pub fn enough_memory(said: Printed) -> Result<(), AllocError>
     ensures enough { OnOk result (ShowsEnoughMemory said) }
-    ensures refused { IfErr result (λ e. e ≡ Memory) }
 {
     if hides_memory(said) {
-        return Err(Refusal::Memory);
+        return Err(AllocError);
     }
     Ok(())
 }
 
 /// A power-on by that mode gave that answer, and the state is then that one: what the open found settles the command
-/// in doubt. Refused `Memory` where the power-on was, or the ledger is; then the ledger is of no use.
+/// in doubt. Refused where the power-on was, or the ledger is; then the ledger is of no use.
 fn record_power_on(
     ledger: &mut RunLedger,
     alloc: Global,
     mode: BootMode,
     answer: &Answer,
     now: Option<Durable>,
-) -> Result<(), Refusal>
+) -> Result<(), AllocError>
     ensures kept { OnOk result ((size : Size) (old new : Kept) → TellsWhole size ledger.old old
         → PowerTold mode answer.now.found answer.now.line now old new → TellsWhole size ledger.new new) }
     ensures serial { OnOk result ((size : Size) (old new : Kept) → TellsWhole size ledger.old old
         → PowerTold mode answer.now.found answer.now.line now old new
         → Resumes ledger.old ledger.new (power_resumes mode answer.now.found answer.now.line)) }
-    ensures memory { IfErr result (λ e. e ≡ Memory) }
 {
     match answer.found {
         None => Ok(()),
@@ -277,21 +265,20 @@ fn record_power_on(
     }
 }
 
-/// Keeps what a power-on said, where enough memory shows in it. Refused `Memory` also where it does not.
+/// Keeps what a power-on said, where enough memory shows in it. Refused also where it does not.
 pub fn record_powered(
     ledger: &mut RunLedger,
     alloc: Global,
     mode: BootMode,
     answer: &Answer,
     now: Option<Durable>,
-) -> Result<(), Refusal>
+) -> Result<(), AllocError>
     ensures enough { OnOk result (ShowsEnoughMemory answer.now.line) }
     ensures kept { OnOk result ((size : Size) (old new : Kept) → TellsWhole size ledger.old old
         → PowerTold mode answer.now.found answer.now.line now old new → TellsWhole size ledger.new new) }
     ensures serial { OnOk result ((size : Size) (old new : Kept) → TellsWhole size ledger.old old
         → PowerTold mode answer.now.found answer.now.line now old new
         → Resumes ledger.old ledger.new (power_resumes mode answer.now.found answer.now.line)) }
-    ensures memory { IfErr result (λ e. e ≡ Memory) }
 {
     enough_memory(answer.line)?;
     record_power_on(ledger, alloc, mode, answer, now)
@@ -303,11 +290,10 @@ pub fn record_console(
     alloc: Global,
     command: ConsoleCommand,
     said: Printed,
-) -> Result<(), Refusal>
+) -> Result<(), AllocError>
     ensures kept { OnOk result ((size : Size) (old new : Kept) → TellsWhole size ledger.old old
         → CommandTold said (console_change command) old new → TellsWhole size ledger.new new) }
     ensures resumed { ledger.new.resumed ≡ ledger.old.resumed }
-    ensures memory { IfErr result (λ e. e ≡ Memory) }
 {
     match said {
         Printed::Acknowledged(_, _) => {
@@ -322,18 +308,17 @@ pub fn record_console(
     }
 }
 
-/// A line that moves no hart and powers no board on gave that answer. Refused `Memory` where the ledger is; then the
-/// ledger is of no use.
+/// A line that moves no hart and powers no board on gave that answer. Where that is refused the ledger is of no
+/// use.
 fn record_line(
     ledger: &mut RunLedger,
     alloc: Global,
     line: &Line,
     answer: &Answer,
-) -> Result<(), Refusal>
+) -> Result<(), AllocError>
     ensures kept { OnOk result ((size : Size) (old new : Kept) → TellsWhole size ledger.old old
         → LineTold line.now answer.now old new → TellsWhole size ledger.new new) }
     ensures resumed { ledger.new.resumed ≡ ledger.old.resumed }
-    ensures memory { IfErr result (λ e. e ≡ Memory) }
 {
     match line {
         Line::Command(command) => record_console(ledger, alloc, *command, answer.line),
@@ -341,19 +326,17 @@ fn record_line(
     }
 }
 
-/// Keeps what a line said, where it was refused no memory. Refused `Memory` also where it was.
+/// Keeps what a line said, where it was refused no memory. Refused also where it was.
 pub fn record_answered(
     ledger: &mut RunLedger,
     alloc: Global,
     line: &Line,
-    answer: Result<Answer, Refusal>,
-) -> Result<(), Refusal>
-    requires memory { OnErr answer (answer ≡ Err Memory) }
+    answer: Result<Answer, AllocError>,
+) -> Result<(), AllocError>
     ensures kept { OnOk result (MatchResult answer (λ a. ShowsEnoughMemory a.line
         × ((size : Size) (old new : Kept) → TellsWhole size ledger.old old → LineTold line.now a old new
         → TellsWhole size ledger.new new)) (λ e. ⊥)) }
     ensures resumed { ledger.new.resumed ≡ ledger.old.resumed }
-    ensures memory { IfErr result (λ e. e ≡ Memory) }
 {
     match answer {
         Err(refusal) => Err(refusal),
@@ -369,11 +352,10 @@ fn record_in_doubt(
     ledger: &mut RunLedger,
     alloc: Global,
     board: &Board<SimDisk>,
-) -> Result<(), Refusal>
+) -> Result<(), AllocError>
     ensures kept { OnOk result ((size : Size) (b new : Bench) (did : Did) → Follows size b ledger.old
         → HartMoves size b (words.Goes did) new board.now → Follows size new ledger.new) }
     ensures resumed { ledger.new.resumed ≡ ledger.old.resumed }
-    ensures memory { IfErr result (λ e. e ≡ Memory) }
 {
     match board.in_doubt() {
         None => Ok(()),
@@ -398,11 +380,10 @@ fn record_sleep(
     ledger: &mut RunLedger,
     alloc: Global,
     board: &Board<SimDisk>,
-) -> Result<(), Refusal>
+) -> Result<(), AllocError>
     ensures kept { OnOk result ((size : Size) (b new : Bench) → Follows size b ledger.old
         → HartMoves size b (words.Over life_ends.Asleep) new board.now → Follows size new ledger.new) }
     ensures resumed { ledger.new.resumed ≡ ledger.old.resumed }
-    ensures memory { IfErr result (λ e. e ≡ Memory) }
 {
     match suspension_in(board.now()) {
         None => Ok(()),
@@ -418,11 +399,10 @@ fn record_reset(
     ledger: &mut RunLedger,
     alloc: Global,
     board: &Board<SimDisk>,
-) -> Result<(), Refusal>
+) -> Result<(), AllocError>
     ensures kept { OnOk result ((size : Size) (b new : Bench) (kind : ResetType) → Follows size b ledger.old
         → HartMoves size b (words.Over (life_ends.Reset kind)) new board.now → Follows size new ledger.new) }
     ensures resumed { ledger.new.resumed ≡ ledger.old.resumed }
-    ensures memory { IfErr result (λ e. e ≡ Memory) }
 {
     let entry = Entry::Command(Command::Reset(board.now().reason));
     record_command(ledger, alloc, entry, &[], None)
@@ -434,11 +414,10 @@ fn record_end(
     alloc: Global,
     board: &Board<SimDisk>,
     end: LifeEnd,
-) -> Result<(), Refusal>
+) -> Result<(), AllocError>
     ensures kept { OnOk result ((size : Size) (b new : Bench) → Follows size b ledger.old
         → HartMoves size b (words.Over end) new board.now → Follows size new ledger.new) }
     ensures resumed { ledger.new.resumed ≡ ledger.old.resumed }
-    ensures memory { IfErr result (λ e. e ≡ Memory) }
 {
     match end {
         LifeEnd::Asleep => record_sleep(ledger, alloc, board),
@@ -453,11 +432,10 @@ pub fn record_hart(
     alloc: Global,
     board: &Board<SimDisk>,
     word: Word,
-) -> Result<(), Refusal>
+) -> Result<(), AllocError>
     ensures kept { OnOk result ((size : Size) (b new : Bench) → Follows size b ledger.old
         → HartMoves size b word new board.now → Follows size new ledger.new) }
     ensures resumed { ledger.new.resumed ≡ ledger.old.resumed }
-    ensures memory { IfErr result (λ e. e ≡ Memory) }
 {
     match word {
         Word::Goes(_) => record_in_doubt(ledger, alloc, board),

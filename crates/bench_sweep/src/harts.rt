@@ -1,8 +1,7 @@
 //! Lines that move harts, turn by turn, so that the ledger sees each command that they make.
 
-ghost use Rattle.std.specs.Prelude.{◌≡◌, ◌≤◌, ◌<◌, ℕ, List, false, true, Some, None, length, IfOk, IfErr, OnOk};
+ghost use Rattle.std.specs.Prelude.{◌≡◌, ◌≤◌, ◌<◌, ℕ, List, false, true, Some, None, length, IfOk, OnOk};
 ghost use Rattle.board_model.specs.Shapes.{Size};
-ghost use Rattle.board_model.specs.declared.refusal.Refusal.TheVariants.{Memory};
 ghost use Rattle.script_lang.specs.Lines.{IsLineInRange};
 ghost use Rattle.script_lang.specs.declared.line.Line.TheVariants as lines;
 ghost use Rattle.bench_report.specs.Views.{machine_in, store_in};
@@ -18,20 +17,19 @@ use crate::ledgers::RunLedger;
 use crate::sites::release;
 use bench_report::{Power, after};
 use board::Board;
-use board_model::{CallWords, HartId, Refusal, Shape};
+use board_model::{CallWords, HartId, Shape};
 use crew::Crew;
 use machine::Word;
 use script_lang::Line;
 use simdisk::SimDisk;
-use std::alloc::Global;
+use std::alloc::{AllocError, Global};
 
-/// Refused `Memory` where it was refused to a suspension of that board, whose hart found -1 alone.
-fn suspended_well(board: &Board<SimDisk>) -> Result<(), Refusal>
+/// Refused where memory was refused to a suspension of that board, whose hart found -1 alone.
+fn suspended_well(board: &Board<SimDisk>) -> Result<(), AllocError>
     ensures enough { OnOk result (was_refused_memory (store_in board.now) ≡ false) }
-    ensures refused { IfErr result (λ e. e ≡ Memory) }
 {
     if board.was_refused_memory() {
-        return Err(Refusal::Memory);
+        return Err(AllocError);
     }
     Ok(())
 }
@@ -43,13 +41,12 @@ fn turn_once<C: Crew>(
     board: &mut Board<SimDisk>,
     hart: HartId,
     ledger: &mut RunLedger,
-) -> Result<Word, Refusal>
+) -> Result<Word, AllocError>
     requires hart { hart < length (machine_in board.old).harts }
     ensures harts { length (machine_in board.new).harts ≡ length (machine_in board.old).harts }
     ensures goes { IfOk result (λ word. (size : Size) (b : Bench) → OnIs size b board.old → Follows size b ledger.old
         → HartGoes size b (TurnsOnce hart b word) word board.new ledger.new) }
     ensures resumed { ledger.new.resumed ≡ ledger.old.resumed }
-    ensures memory { IfErr result (λ e. e ≡ Memory) }
 {
     let word = board.turn(alloc, crew, hart);
     suspended_well(board)?;
@@ -65,13 +62,12 @@ fn turn_many<C: Crew>(
     hart: HartId,
     count: u32,
     ledger: &mut RunLedger,
-) -> Result<Word, Refusal>
+) -> Result<Word, AllocError>
     requires hart { hart < length (machine_in board.old).harts }
     requires some { 1 ≤ count }
     ensures goes { IfOk result (λ word. (size : Size) (b : Bench) → OnIs size b board.old → Follows size b ledger.old
         → HartGoes size b (TurnsMany hart count b word) word board.new ledger.new) }
     ensures resumed { ledger.new.resumed ≡ ledger.old.resumed }
-    ensures memory { IfErr result (λ e. e ≡ Memory) }
 {
     let mut word = turn_once(alloc, crew, board, hart, ledger)?;
     let mut left = count - 1;
@@ -90,12 +86,11 @@ fn call_once<C: Crew>(
     hart: HartId,
     words: CallWords,
     ledger: &mut RunLedger,
-) -> Result<Option<Word>, Refusal>
+) -> Result<Option<Word>, AllocError>
     requires hart { hart < length (machine_in board.old).harts }
     ensures goes { IfOk result (λ said. (size : Size) (b : Bench) → OnIs size b board.old → Follows size b ledger.old
         → LineGoes size b (DoesLine size (lines.Call hart words) b) said board.new ledger.new) }
     ensures resumed { ledger.new.resumed ≡ ledger.old.resumed }
-    ensures memory { IfErr result (λ e. e ≡ Memory) }
 {
     match board.call(alloc, crew, hart, words) {
         None => Ok(None),
@@ -115,12 +110,11 @@ fn turn_in_place<C: Crew>(
     hart: HartId,
     count: u32,
     ledger: &mut RunLedger,
-) -> Result<Option<Word>, Refusal>
+) -> Result<Option<Word>, AllocError>
     requires some { 1 ≤ count }
     ensures goes { IfOk result (λ said. (size : Size) (b : Bench) → OnIs size b board.old → Follows size b ledger.old
         → LineGoes size b (DoesLine size (lines.Turn hart count) b) said board.new ledger.new) }
     ensures resumed { ledger.new.resumed ≡ ledger.old.resumed }
-    ensures memory { IfErr result (λ e. e ≡ Memory) }
 {
     if !board.machine().has(hart) {
         return Ok(None);
@@ -137,11 +131,10 @@ fn call_in_place<C: Crew>(
     hart: HartId,
     words: CallWords,
     ledger: &mut RunLedger,
-) -> Result<Option<Word>, Refusal>
+) -> Result<Option<Word>, AllocError>
     ensures goes { IfOk result (λ said. (size : Size) (b : Bench) → OnIs size b board.old → Follows size b ledger.old
         → LineGoes size b (DoesLine size (lines.Call hart words) b) said board.new ledger.new) }
     ensures resumed { ledger.new.resumed ≡ ledger.old.resumed }
-    ensures memory { IfErr result (λ e. e ≡ Memory) }
 {
     if !board.machine().has(hart) {
         return Ok(None);
@@ -157,13 +150,12 @@ fn run_in_place<C: Crew>(
     board: &mut Board<SimDisk>,
     line: &Line,
     ledger: &mut RunLedger,
-) -> Result<Option<Word>, Refusal>
+) -> Result<Option<Word>, AllocError>
     requires range { IsLineInRange shape.now line.now }
     requires of_harts { moves_harts line.now ≡ true }
     ensures goes { IfOk result (λ said. (size : Size) (b : Bench) → OnIs size b board.old → Follows size b ledger.old
         → LineGoes size b (DoesLine size line.now b) said board.new ledger.new) }
     ensures resumed { ledger.new.resumed ≡ ledger.old.resumed }
-    ensures memory { IfErr result (λ e. e ≡ Memory) }
 {
     match line {
         Line::Turn(hart, count) => turn_in_place(alloc, crew, board, *hart, *count, ledger),
@@ -172,8 +164,8 @@ fn run_in_place<C: Crew>(
     }
 }
 
-/// Runs a line of harts, and the ledger follows each turn of it. On a board that is off it does nothing. Refused
-/// `Memory` where the ledger is; then the ledger is of no use.
+/// Runs a line of harts, and the ledger follows each turn of it. On a board that is off it does nothing. Where
+/// that is refused the ledger is of no use.
 pub fn run_hart_line<C: Crew>(
     alloc: Global,
     crew: &C,
@@ -181,13 +173,12 @@ pub fn run_hart_line<C: Crew>(
     line: &Line,
     power: Power,
     ledger: &mut RunLedger,
-) -> Result<Power, Refusal>
+) -> Result<Power, AllocError>
     requires range { IsLineInRange shape.now line.now }
     requires of_harts { moves_harts line.now ≡ true }
     ensures goes { IfOk result (λ now. (size : Size) (b : Bench) (slots : List (List ℕ)) → Runs size b power slots ledger.old
         → LineMoves size line.now b now slots ledger.old ledger.new) }
     ensures resumed { ledger.new.resumed ≡ ledger.old.resumed }
-    ensures memory { IfErr result (λ e. e ≡ Memory) }
 {
     match power {
         Power::Off(off) => Ok(Power::Off(off)),

@@ -1,6 +1,6 @@
 //! The runs at a point: they are made, judged and counted.
 
-ghost use Rattle.std.specs.Prelude.{◌≡◌, ◌⊎◌, ◌≤◌, ◌<◌, ◌+◌, ◌++◌, ◌^◌, ◌∷◌, [], ℕ, List, None, Some, false, length, All, Ok, IfOk, IfErr, IfSome, OnOk};
+ghost use Rattle.std.specs.Prelude.{◌≡◌, ◌⊎◌, ◌≤◌, ◌<◌, ◌+◌, ◌++◌, ◌^◌, ◌∷◌, [], ℕ, List, None, Some, false, length, Ok, IfOk, OnOk};
 ghost use Rattle.disk.specs.Facts.{counted};
 ghost use Rattle.disk.specs.FaultState.{Unarmed};
 ghost use Rattle.disk.specs.WriteLog.{synced};
@@ -8,7 +8,6 @@ ghost use Rattle.simdisk.specs.declared.fill.Fill.{Fill as FillOf};
 ghost use Rattle.bench_report.specs.Views.{sim_log_of};
 ghost use Rattle.bench_sweep.specs.declared.rows.Row.{Row as RowOf};
 ghost use Rattle.board_model.specs.Shapes.{Size};
-ghost use Rattle.board_model.specs.declared.refusal.Refusal.TheVariants.{Memory};
 ghost use Rattle.bench_report.specs.Bench.{Bench};
 ghost use Rattle.bench_report.specs.Happens.{off};
 ghost use Rattle.bench_sweep.specs.Runs.{Runs, RunsAt, RunsCalm, Sits, SitsCalm};
@@ -25,10 +24,9 @@ use crate::runner::Runner;
 use crate::site::{Going, Site};
 use crate::sites::{Went, cut_by, cut_off, run_lines};
 use bench_report::Setting;
-use board_model::Refusal;
 use crew::Crew;
 use simdisk::Fill;
-use std::alloc::Global;
+use std::alloc::{AllocError, Global};
 
 /// What the runs at a point told, in their order, and how they were counted.
 #[derive(Drop)]
@@ -63,12 +61,11 @@ fn judge_run<C: Crew>(
     point: Point,
     fill: Option<Fill>,
     made: &mut PointRows,
-) -> Result<(), Refusal>
+) -> Result<(), AllocError>
     requires sits { Sits runner.now.setting.shape.now site.now }
     ensures kept { OnOk result ((b : Bench)
         → RunsAt runner.now.setting.shape.now b site.now
         → Keeps (IsLeftBy runner.now.setting.shape.now b site.now.off.disk) made.old made.new (cell point.caller point.number fill)) }
-    ensures refused { IfErr result (λ e. e ≡ Memory) }
 {
     let bytes = cut_fill(fill);
     let off = cut_by(&site.off, bytes)?;
@@ -96,12 +93,11 @@ fn judge_last<C: Crew>(
     point: Point,
     fill: Option<Fill>,
     made: &mut PointRows,
-) -> Result<(), Refusal>
+) -> Result<(), AllocError>
     requires sits { Sits runner.now.setting.shape.now site }
     ensures kept { OnOk result ((b : Bench)
         → RunsAt runner.now.setting.shape.now b site
         → Keeps (IsLeftBy runner.now.setting.shape.now b site.off.disk) made.old made.new (cell point.caller point.number fill)) }
-    ensures refused { IfErr result (λ e. e ≡ Memory) }
 {
     let Setting { alloc, shape, .. } = runner.setting;
     let off = cut_off(site.off, cut_fill(fill));
@@ -115,16 +111,20 @@ fn judge_last<C: Crew>(
     Ok(())
 }
 
-/// Keeps the first of these rows for another fill, which leaves the same, and counts its run. Refused `Memory` alone.
-fn repeat(once: &PointRows, point: Point, fill: Fill, made: &mut PointRows) -> Result<(), Refusal>
+/// Keeps the first of these rows for another fill, which leaves the same, and counts its run.
+fn repeat(
+    once: &PointRows,
+    point: Point,
+    fill: Fill,
+    made: &mut PointRows,
+) -> Result<(), AllocError>
     ensures kept { OnOk result ((first : RowOf) × (rest : List RowOf) × (once.now.rows.items ≡ first ∷ rest)
         × (made.new.rows.items ≡ made.old.rows.items ++ again first point.caller point.number fill ∷ [])) }
     ensures runs { OnOk result (made.new.sweep.runs ≡ counted made.old.sweep.runs 1) }
     ensures right { made.new.sweep.wrong ≡ made.old.sweep.wrong }
-    ensures refused { IfErr result (λ e. e ≡ Memory) }
 {
     let Some(first) = once.rows.first() else {
-        return Err(Refusal::Memory);
+        return Err(AllocError);
     };
     made.rows.push(Row {
         caller: point.caller,
@@ -141,13 +141,12 @@ fn judge_settled<C: Crew>(
     runner: &Runner<'_, C>,
     site: Site,
     point: Point,
-) -> Result<PointRows, Refusal>
+) -> Result<PointRows, AllocError>
     requires sits { Sits runner.now.setting.shape.now site }
     requires same { (fill : FillOf) → cut_content site.off.disk fill ≡ synced (sim_log_of site.off.disk) }
     ensures judged { IfOk result (λ made. (b : Bench)
         → RunsAt runner.now.setting.shape.now b site
         → Judged (IsLeftBy runner.now.setting.shape.now b site.off.disk) made (runs_of BenchKind.Cuts point.caller point.number)) }
-    ensures refused { IfErr result (λ e. e ≡ Memory) }
 {
     let mut once = PointRows::none(runner.setting.alloc);
     judge_last(runner, site, point, None, &mut once)?;
@@ -163,12 +162,11 @@ fn judge_each_fill<C: Crew>(
     runner: &Runner<'_, C>,
     site: Site,
     point: Point,
-) -> Result<PointRows, Refusal>
+) -> Result<PointRows, AllocError>
     requires sits { Sits runner.now.setting.shape.now site }
     ensures judged { IfOk result (λ made. (b : Bench)
         → RunsAt runner.now.setting.shape.now b site
         → Judged (IsLeftBy runner.now.setting.shape.now b site.off.disk) made (runs_of BenchKind.Cuts point.caller point.number)) }
-    ensures refused { IfErr result (λ e. e ≡ Memory) }
 {
     if site.off.disk.is_settled() {
         return judge_settled(runner, site, point);
@@ -187,14 +185,13 @@ fn run_to_cut<C: Crew>(
     runner: &Runner<'_, C>,
     from: Going,
     point: Point,
-) -> Result<PointRows, Refusal>
+) -> Result<PointRows, AllocError>
     requires lines { AreSwept runner.now.setting.shape.now runner.now.lines.now }
     requires sits { SitsCalm runner.now.setting.shape.now from }
     ensures judged { IfOk result (λ made. (b : Bench)
         → RunsCalm runner.now.setting.shape.now b from.power from.payloads from.ledger
         → Judged (RunsWith runner.now.setting.shape.now BenchKind.Cuts point.before b runner.now.lines.now) made
         (runs_of BenchKind.Cuts point.caller point.number)) }
-    ensures refused { IfErr result (λ e. e ≡ Memory) }
 {
     let armed = from.armed(BenchKind::Cuts, point);
     let went = run_lines(&runner.setting, runner.lines, false, armed)?;
@@ -208,14 +205,13 @@ fn run_past_failure<C: Crew>(
     runner: &Runner<'_, C>,
     from: Going,
     point: Point,
-) -> Result<PointRows, Refusal>
+) -> Result<PointRows, AllocError>
     requires lines { AreSwept runner.now.setting.shape.now runner.now.lines.now }
     requires sits { SitsCalm runner.now.setting.shape.now from }
     ensures judged { IfOk result (λ made. (b : Bench)
         → RunsCalm runner.now.setting.shape.now b from.power from.payloads from.ledger
         → Judged (RunsWith runner.now.setting.shape.now BenchKind.Fails point.before b runner.now.lines.now) made
         (runs_of BenchKind.Fails point.caller point.number)) }
-    ensures refused { IfErr result (λ e. e ≡ Memory) }
 {
     let armed = from.armed(BenchKind::Fails, point);
     let went = run_lines(&runner.setting, runner.lines, false, armed)?;
@@ -225,46 +221,44 @@ fn run_past_failure<C: Crew>(
     Ok(made)
 }
 
-/// Turns the board off behind lines in which an armed cut struck, or none did, as is said. Refused `Memory` where that is
-/// not so, or where the disk's record found none.
-pub fn turn_off(going: Going, struck: bool) -> Result<Site, Refusal>
+/// Turns the board off after lines in which an armed cut struck, or none did, as is said. Refused where that is not so, or
+/// where the disk's record found no memory.
+pub fn turn_off(going: Going, struck: bool) -> Result<Site, AllocError>
     ensures runs { IfOk result (λ site. (size : Size) (b : Bench)
         → Runs size b going.power going.payloads going.ledger
         → (b.fault_state.struck ≡ struck) × (b.fault_state.own ≡ 0) × RunsAt size (off b) site) }
     ensures disk { IfOk result (λ site. site.off.disk ≡ disk_at going.power) }
-    ensures refused { IfErr result (λ e. e ≡ Memory) }
 {
     if going.is_struck() != struck {
         going.release();
-        return Err(Refusal::Memory);
+        return Err(AllocError);
     }
     let site = going.into_site();
     if site.off.disk.refused() != 0 {
         site.release();
-        return Err(Refusal::Memory);
+        return Err(AllocError);
     }
     Ok(site)
 }
 
-/// Turns the board off behind all of so many lines, with nothing armed any more: the call failed. Refused `Memory` where something
+/// Turns the board off after all of so many lines, with nothing armed any more: the call failed. Refused where something
 /// is. As with a cut, only a run that was refused memory can have missed the call.
-pub fn turn_off_failed(went: Went, all: usize) -> Result<Site, Refusal>
+pub fn turn_off_failed(went: Went, all: usize) -> Result<Site, AllocError>
     ensures whole { OnOk result (all ≤ went.count) }
     ensures runs { IfOk result (λ site. (size : Size) (b : Bench)
         → Runs size b went.going.power went.going.payloads went.going.ledger
         → (b.fault_state.struck ≡ false) × (b.fault_state.own ≡ 0) × (b.fault_state.armed ≡ Unarmed) × RunsAt size (off b) site) }
-    ensures refused { IfErr result (λ e. e ≡ Memory) }
 {
     let Went { count, going } = went;
     // No cut is armed that could end the run before its last line.
     if count < all {
         going.release();
-        return Err(Refusal::Memory);
+        return Err(AllocError);
     }
     let left = turn_off(going, false)?;
     if left.off.disk.is_armed() {
         left.release();
-        return Err(Refusal::Memory);
+        return Err(AllocError);
     }
     Ok(left)
 }
@@ -275,7 +269,7 @@ pub fn run_at_point<C: Crew>(
     count: usize,
     from: Going,
     point: Point,
-) -> Result<PointRows, Refusal>
+) -> Result<PointRows, AllocError>
     requires few { count ≤ length runner.now.lines.now }
     requires lines { AreSwept runner.now.setting.shape.now runner.now.lines.now }
     requires sits { SitsCalm runner.now.setting.shape.now from }
@@ -283,7 +277,6 @@ pub fn run_at_point<C: Crew>(
         → RunsCalm runner.now.setting.shape.now b from.power from.payloads from.ledger
         → Judged (RunsWith runner.now.setting.shape.now runner.now.bench point.before b runner.now.lines.now) made
         (runs_of runner.now.bench point.caller point.number)) }
-    ensures refused { IfErr result (λ e. e ≡ Memory) }
 {
     match runner.bench {
         BenchKind::Cuts => {

@@ -16,6 +16,7 @@ mod judges;
 mod judging;
 mod ledgers;
 mod moments;
+mod plain_runs;
 mod plan;
 mod points;
 mod rows;

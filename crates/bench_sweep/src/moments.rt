@@ -1,8 +1,7 @@
 //! Moments of a run: at each the board is copied as it stands, and the copy is armed.
 
-ghost use Rattle.std.specs.Prelude.{◌≡◌, ◌≤◌, List, length, IfOk, IfErr};
+ghost use Rattle.std.specs.Prelude.{◌≡◌, ◌≤◌, List, length, IfOk};
 ghost use Rattle.board_model.specs.Shapes.{Size};
-ghost use Rattle.board_model.specs.declared.refusal.Refusal.TheVariants.{Memory};
 ghost use Rattle.bench_report.specs.Agree.{HasDisk, IsArmed, IsCopyOf};
 ghost use Rattle.bench_report.specs.Bench.{Bench};
 ghost use Rattle.bench_report.specs.Happens.{armed_with, unpowered};
@@ -18,10 +17,9 @@ use crate::points::{BenchKind, Caller, Point};
 use crate::site::{Going, Site};
 use crate::sites::run_lines;
 use bench_report::{Setting, arm_power, copy_power, disk_of};
-use board_model::Refusal;
 use crew::Crew;
 use script_lang::Line;
-use std::alloc::Global;
+use std::alloc::{AllocError, Global};
 
 /// A run that has come behind so many of its lines.
 #[derive(Drop)]
@@ -31,9 +29,8 @@ pub struct Moment {
 }
 
 impl Going {
-    /// A run that has come as far as this one, with a board and a disk of its own. This one stays as it is. Refused `Memory` where
-    /// memory is.
-    pub fn copy(&mut self, alloc: Global) -> Result<Going, Refusal>
+    /// A run that has come as far as this one, with a board and a disk of its own. This one stays as it is.
+    pub fn copy(&mut self, alloc: Global) -> Result<Going, AllocError>
         ensures stays { (size : Size) (b : Bench) → RunsCalm size b self.old.power self.old.payloads self.old.ledger
             → RunsCalm size b self.new.power self.new.payloads self.new.ledger }
         ensures same { (d : SimDisk) → HasDisk self.old.power d → HasDisk self.new.power d }
@@ -43,7 +40,6 @@ impl Going {
             → RunsCalm size b copy.power copy.payloads copy.ledger) }
         ensures alike { IfOk result (λ copy. (d e : SimDisk) → HasDisk self.old.power d → HasDisk copy.power e → IsCopyOf d e) }
         ensures resumed { IfOk result (λ copy. copy.ledger.resumed.items ≡ self.old.ledger.resumed.items) }
-        ensures refused { IfErr result (λ e. e ≡ Memory) }
     {
         let payloads = self.payloads.copy()?;
         let ledger = self.ledger.copy(alloc)?;
@@ -75,15 +71,14 @@ impl Going {
         }
     }
 
-    /// How many calls that caller has made since that site. Refused `Memory` where a disk counted back.
-    pub fn calls_since(&self, site: &Site, caller: Caller) -> Result<u64, Refusal>
+    /// How many calls that caller has made since that site. Refused where a disk counted back.
+    pub fn calls_since(&self, site: &Site, caller: Caller) -> Result<u64, AllocError>
         ensures calls { IfOk result (λ n. (d : SimDisk) × HasDisk self.now.power d × MadeCalls site.now.off.disk d caller n) }
-        ensures refused { IfErr result (λ e. e ≡ Memory) }
     {
         let before = caller.calls(&site.off.disk);
         let after = caller.calls(disk_of(&self.power));
         if after < before {
-            return Err(Refusal::Memory);
+            return Err(AllocError);
         }
         Ok(after - before)
     }
@@ -91,24 +86,23 @@ impl Going {
 
 impl Moment {
     /// The moment of a site, with none of the lines behind it.
-    pub fn at(alloc: Global, site: &Site) -> Result<Moment, Refusal>
+    pub fn at(alloc: Global, site: &Site) -> Result<Moment, AllocError>
         ensures came { IfOk result (λ at. (size : Size) (b : Bench) (lines : List ScriptLine) → RunsAt size b site.now
             → CameTold size (unpowered b) lines site.now at) }
         ensures none { IfOk result (λ at. at.count ≡ 0) }
-        ensures refused { IfErr result (λ e. e ≡ Memory) }
     {
         let copy = site.copy(alloc)?;
         let going = Going::from(copy);
         Ok(Moment { count: 0, going })
     }
 
-    /// Runs the lines on, as they are, up to the one behind so many. Refused `Memory` alone.
+    /// Runs the lines on, as they are, up to the one after so many.
     pub fn run_to<C: Crew>(
         self,
         setting: &Setting<'_, C>,
         lines: &[Line],
         to: usize,
-    ) -> Result<Moment, Refusal>
+    ) -> Result<Moment, AllocError>
         requires lines { AreSwept setting.now.shape.now lines.now }
         requires order { self.count ≤ to }
         requires few { to ≤ length lines.now }
@@ -116,7 +110,6 @@ impl Moment {
         ensures came { IfOk result (λ at. (b : Bench) (first : SiteThen)
             → CameTold setting.now.shape.now b lines.now first self → CameTold setting.now.shape.now b lines.now first at) }
         ensures few { IfOk result (λ at. at.count ≤ to) }
-        ensures refused { IfErr result (λ e. e ≡ Memory) }
     {
         if to == self.count {
             return Ok(self);
@@ -126,7 +119,7 @@ impl Moment {
         // Nothing is armed that could strike.
         if went.going.is_struck() {
             went.going.release();
-            return Err(Refusal::Memory);
+            return Err(AllocError);
         }
         Ok(Moment {
             count: count + went.count,

@@ -1,19 +1,18 @@
 //! The lines of a bench.
 
-ghost use Rattle.std.specs.Prelude.{◌≡◌, ◌⊎◌, ◌++◌, ◌∷◌, [], Some, false, OnOk, IfErr};
+ghost use Rattle.std.specs.Prelude.{◌≡◌, ◌++◌, ◌∷◌, [], Some, false, OnOk};
 ghost use Rattle.std.specs.Io.KnownBytes.{Appends};
-ghost use Rattle.board_model.specs.declared.refusal.Refusal.TheVariants.{Memory, Output};
 ghost use Rattle.bench_sweep.specs.Rows.{call_text, caller_text, fill_part, left_text, row_text, sweep_text};
 ghost use Rattle.bench_sweep.specs.Swept.{rows_text};
 
 use crate::judges::Sweep;
 use crate::points::Caller;
-use board_model::{Refusal, StateText, unwritten};
+use board_model::StateText;
 use jobs::{Part, PartText};
 use report_lines::Answer;
 use simdisk::Fill;
 use std::fmt;
-use std::io::Write;
+use std::io::{self, Write};
 
 /// One run of a bench.
 #[derive(Clone, Copy, Drop)]
@@ -125,18 +124,16 @@ impl fmt::Display for Row {
 
 /// Writes the line of a run, and hands it on: whoever reads sees it at once.
 #[tactic(auto, using(crate::proofs::Written::handed_on))]
-fn write_row<W: Write>(out: &mut W, row: Row) -> Result<(), Refusal>
+fn write_row<W: Write>(out: &mut W, row: Row) -> io::Result<()>
     ensures ok { OnOk result (Appends (W.contents out.old) (W.contents out.new) (row_text row ++ 10 ∷ [])) }
-    ensures err { IfErr result (λ e. (e ≡ Memory) ⊎ (e ≡ Output)) }
 {
-    writeln!(out, "{row}").map_err(|error| unwritten(error))?;
-    out.flush().map_err(|error| unwritten(error))
+    writeln!(out, "{row}")?;
+    out.flush()
 }
 
 /// Writes the lines of these runs.
-pub fn write_rows<W: Write>(out: &mut W, rows: &[Row]) -> Result<(), Refusal>
+pub fn write_rows<W: Write>(out: &mut W, rows: &[Row]) -> io::Result<()>
     ensures ok { OnOk result (Appends (W.contents out.old) (W.contents out.new) (rows_text false rows.now)) }
-    ensures err { IfErr result (λ e. (e ≡ Memory) ⊎ (e ≡ Output)) }
 {
     for row in rows {
         write_row(out, *row)?;
@@ -182,11 +179,10 @@ pub fn write_sweep<W: Write>(
     part: Option<Part>,
     all: u64,
     sweep: Sweep,
-) -> Result<(), Refusal>
+) -> io::Result<()>
     ensures ok { OnOk result (Appends (W.contents out.old) (W.contents out.new) (sweep_text part all sweep ++ 10 ∷ [])) }
-    ensures err { IfErr result (λ e. (e ≡ Memory) ⊎ (e ≡ Output)) }
 {
     let counts = CountsText { part, all, sweep };
-    writeln!(out, "{counts}").map_err(|error| unwritten(error))?;
-    out.flush().map_err(|error| unwritten(error))
+    writeln!(out, "{counts}")?;
+    out.flush()
 }

@@ -19,15 +19,15 @@ ghost use Rattle.bench_sweep.specs.Swept.{AreSwept, IsNotPlain, IsPlainLine, NoB
 
 use crate::begins::run_to_format;
 use crate::judging::{turn_off, turn_off_failed};
+use crate::plain_runs::{calls_between, check_plain, run_plain};
 use crate::points::{BenchKind, CALLERS, Caller, FILLS, Point, RunAt, cut_fill};
 use crate::runner::Runner;
 use crate::site::{Going, Site};
 use crate::sites::{Went, run_lines};
-use crate::sweeps::{calls_between, check_plain, run_plain};
-use bench_report::Setting;
+use bench_report::{Setting, lane_by_lane};
 use board::Payloads;
 use board_model::{BootMode, Refusal, Shape, shape_in_range};
-use crew::{Crew, Sequential};
+use crew::Crew;
 use script_lang::{
     Arming, Line, Script, fits, parse_script, scripts_read_as_written, write_script,
 };
@@ -73,9 +73,8 @@ fn fill_at(bench: BenchKind, place: u64) -> Option<Fill>
 }
 
 /// How many calls each caller made from the one site to the other.
-fn counts_of(alloc: Global, from: &Site, to: &Site) -> Result<Vec<u64>, Refusal>
+fn counts_of(alloc: Global, from: &Site, to: &Site) -> Result<Vec<u64>, AllocError>
     ensures counts { IfOk result (λ counts. AllZip (MadeCalls from.now.off.disk to.now.off.disk) callers counts.items) }
-    ensures refused { IfErr result (λ e. e ≡ Memory) }
 {
     let mut counts = Vec::new(alloc);
     for caller in CALLERS {
@@ -173,13 +172,12 @@ fn arming_of(shape: &Shape, bench: BenchKind, run: RunAt) -> Result<Arming, Refu
     Ok(arming_at(shape, bench, run))
 }
 
-/// Refused `Memory` where a run of all those lines did not end as one of that bench does: a cut struck, or all lines ran and the call
+/// Refused where a run of all those lines did not end as one of that bench does: a cut struck, or all lines ran and the call
 /// failed.
-fn check_ended(bench: BenchKind, went: Went, all: usize) -> Result<(), Refusal>
+fn check_ended(bench: BenchKind, went: Went, all: usize) -> Result<(), AllocError>
     requires few { went.count ≤ all }
     ensures ended { OnOk result ((size : Size) (b : Bench)
         → Runs size b went.going.power went.going.payloads went.going.ledger → IsEnded bench went.count all b) }
-    ensures refused { IfErr result (λ e. e ≡ Memory) }
 {
     match bench {
         BenchKind::Cuts => {
@@ -194,15 +192,18 @@ fn check_ended(bench: BenchKind, went: Went, all: usize) -> Result<(), Refusal>
 }
 
 /// Runs the lines with what the bench does in that run armed, and answers how many ran: with a cut up to the one within which it
-/// strikes, with a failure all. Refused `Memory` alone.
-fn count_armed<C: Crew>(runner: &Runner<'_, C>, site: &Site, run: RunAt) -> Result<usize, Refusal>
+/// strikes, with a failure all.
+fn count_armed<C: Crew>(
+    runner: &Runner<'_, C>,
+    site: &Site,
+    run: RunAt,
+) -> Result<usize, AllocError>
     requires lines { AreSwept runner.now.setting.shape.now runner.now.lines.now }
     requires sits { Sits runner.now.setting.shape.now site.now }
     ensures armed { IfOk result (λ count. (b : Bench)
         → RunsAt runner.now.setting.shape.now b site.now
         → RunsArmed runner.now.setting.shape.now runner.now.bench run.caller run.call (unpowered b) runner.now.lines.now count) }
     ensures few { IfOk result (λ count. count ≤ length runner.now.lines.now) }
-    ensures refused { IfErr result (λ e. e ≡ Memory) }
 {
     let point = Point {
         caller: run.caller,
@@ -357,7 +358,7 @@ fn show_plain_script<R: Threads + Sync, W: Write>(
         ⊎ ((e ≡ BadShape) × NoRow wanted.bench script.now.shape payloads.now script.now.lines.items wanted.number)) }
     ensures none { result ≡ Err BadShape → W.contents out.new ≡ W.contents out.old }
 {
-    let crew = Sequential::<R>::new([0, 1, 2, 3])?;
+    let crew = lane_by_lane::<R>();
     let setting = Setting {
         alloc,
         crew: &crew,

@@ -1,9 +1,8 @@
 //! How a run goes on from a site.
 //! A law runs nothing, and tells the prover a fact: `kept_disks`.
 
-ghost use Rattle.std.specs.Prelude.{◌≡◌, ◌≤◌, ◌<◌, Some, None, true, false, length, take, All, IfOk, IfErr, OnOk, MatchOption};
+ghost use Rattle.std.specs.Prelude.{◌≡◌, ◌≤◌, ◌<◌, Some, None, true, false, length, take, All, IfOk, OnOk, MatchOption};
 ghost use Rattle.board_model.specs.Shapes.{Size};
-ghost use Rattle.board_model.specs.declared.refusal.Refusal.TheVariants.{Memory};
 ghost use Rattle.script_lang.specs.Lines.{IsLineInRange};
 ghost use Rattle.script_lang.specs.declared.line.Line.TheVariants as lines;
 ghost use Rattle.disk.specs.Facts.{Only};
@@ -28,23 +27,22 @@ use crate::ledgers::RunLedger;
 use crate::site::{Going, Site};
 use bench_report::{OffDisk, Power, Setting, console, disk_left, line_alone, power_on, struck};
 use board::Payloads;
-use board_model::{BootMode, ConsoleCommand, Refusal, Shape};
+use board_model::{BootMode, ConsoleCommand, Shape};
 use crew::Crew;
 use script_lang::Line;
 use simdisk::{Fill, SimDisk};
-use std::alloc::Global;
+use std::alloc::{AllocError, Global};
 use store::kept_disks;
 
 /// The disk that a power cut leaves of that one, with that fill in the place of what was written since the last sync.
 /// That one stays as it is.
-pub fn cut_by(off: &OffDisk, fill: Fill) -> Result<OffDisk, Refusal>
+pub fn cut_by(off: &OffDisk, fill: Fill) -> Result<OffDisk, AllocError>
     ensures left { IfOk result (λ left. (size : Size) (b : Bench) → OffIs size b off.now.disk
         → OffIs size (unpowered b) left.disk) }
     ensures exact { IfOk result (λ left. (facts left.disk).content
         ≡ left_by_fill fill (synced (sim_log_of off.now.disk)) (sim_log_of off.now.disk).written) }
     ensures durable { IfOk result (λ left. Only (facts left.disk).content (facts left.disk).may_leave) }
     ensures calls { IfOk result (λ left. (caller : Caller) → calls_of caller left.disk ≡ calls_of caller off.now.disk) }
-    ensures refused { IfErr result (λ e. e ≡ Memory) }
 {
     kept_disks::<SimDisk>();
     let disk = off.disk.left(fill)?;
@@ -76,7 +74,7 @@ pub fn is_off(power: &Power) -> bool
 impl Site {
     /// A site to run from: its disk is the one that a power cut leaves of this one's, with that fill in the place of what
     /// was written since the last sync.
-    pub fn left(&self, alloc: Global, fill: Fill) -> Result<Site, Refusal>
+    pub fn left(&self, alloc: Global, fill: Fill) -> Result<Site, AllocError>
         ensures runs { IfOk result (λ left. (size : Size) (b : Bench) → RunsAt size b self.now
             → LeftAt size (unpowered b) left) }
         ensures exact { IfOk result (λ left. (facts left.off.disk).content
@@ -85,7 +83,6 @@ impl Site {
         ensures calls { IfOk result (λ left. (caller : Caller)
             → calls_of caller left.off.disk ≡ calls_of caller self.now.off.disk) }
         ensures resumed { IfOk result (λ left. left.ledger.resumed.items ≡ self.now.ledger.resumed.items) }
-        ensures refused { IfErr result (λ e. e ≡ Memory) }
     {
         let payloads = self.payloads.copy()?;
         let ledger = self.ledger.copy(alloc)?;
@@ -98,13 +95,12 @@ impl Site {
     }
 
     /// A site as this one is, with a disk of its own. What was not synced is left as it was at the last sync: all of the disk is durable.
-    pub fn copy(&self, alloc: Global) -> Result<Site, Refusal>
+    pub fn copy(&self, alloc: Global) -> Result<Site, AllocError>
         ensures runs { IfOk result (λ copy. (size : Size) (b : Bench) → RunsAt size b self.now
             → LeftAt size (unpowered b) copy) }
         ensures calls { IfOk result (λ copy. (caller : Caller)
             → calls_of caller copy.off.disk ≡ calls_of caller self.now.off.disk) }
         ensures resumed { IfOk result (λ copy. copy.ledger.resumed.items ≡ self.now.ledger.resumed.items) }
-        ensures refused { IfErr result (λ e. e ≡ Memory) }
     {
         self.left(alloc, Fill::Old)
     }
@@ -178,10 +174,9 @@ fn run_power_on(
     power: Power,
     payloads: &Payloads,
     ledger: &mut RunLedger,
-) -> Result<Power, Refusal>
+) -> Result<Power, AllocError>
     ensures runs { IfOk result (λ now. (b : Bench) → RunsCalm shape.now b power payloads.now ledger.old
         → LineMoves shape.now (lines.On mode) b now payloads.now ledger.old ledger.new) }
-    ensures refused { IfErr result (λ e. e ≡ Memory) }
 {
     match power {
         Power::On(board) => Ok(Power::On(board)),
@@ -205,7 +200,7 @@ fn run_still_line<C: Crew>(
     power: Power,
     payloads: &mut Payloads,
     ledger: &mut RunLedger,
-) -> Result<Power, Refusal>
+) -> Result<Power, AllocError>
     requires range { IsLineInRange setting.now.shape.now line.now }
     requires plain { IsPlainLine line.now }
     requires of_none { moves_harts line.now ≡ false }
@@ -213,7 +208,6 @@ fn run_still_line<C: Crew>(
     requires calm { IsUnstruck power }
     ensures runs { IfOk result (λ now. (b : Bench) → RunsCalm setting.now.shape.now b power payloads.old ledger.old
         → LineMoves setting.now.shape.now line.now b now payloads.new ledger.old ledger.new) }
-    ensures refused { IfErr result (λ e. e ≡ Memory) }
 {
     let (power, answer) = line_alone(setting, line, power, payloads);
     match record_answered(ledger, setting.alloc, line, answer) {
@@ -242,13 +236,12 @@ fn run_on_power<C: Crew>(
     power: Power,
     payloads: &mut Payloads,
     ledger: &mut RunLedger,
-) -> Result<Power, Refusal>
+) -> Result<Power, AllocError>
     requires range { IsLineInRange setting.now.shape.now line.now }
     requires plain { IsPlainLine line.now }
     requires calm { IsUnstruck power }
     ensures runs { IfOk result (λ now. (b : Bench) → RunsCalm setting.now.shape.now b power payloads.old ledger.old
         → LineMoves setting.now.shape.now line.now b now payloads.new ledger.old ledger.new) }
-    ensures refused { IfErr result (λ e. e ≡ Memory) }
 {
     let Setting { alloc, crew, shape } = *setting;
     match boot_of(line) {
@@ -264,13 +257,11 @@ fn run_on_power<C: Crew>(
 }
 
 /// Runs one line, and the ledger follows it. An armed cut that struck within it is not made yet.
-///
-/// Refused `Memory` where the line was, or the ledger.
 pub fn run_line<C: Crew>(
     setting: &Setting<'_, C>,
     line: &Line,
     going: Going,
-) -> Result<Going, Refusal>
+) -> Result<Going, AllocError>
     requires range { IsLineInRange setting.now.shape.now line.now }
     requires plain { IsPlainLine line.now }
     requires calm { IsUnstruck going.power }
@@ -280,7 +271,6 @@ pub fn run_line<C: Crew>(
     ensures took { IfOk result (λ now. (b : Bench)
         → RunsCalm setting.now.shape.now b going.power going.payloads going.ledger
         → LineTook setting.now.shape.now line.now (disk_at going.power) (disk_at now.power)) }
-    ensures refused { IfErr result (λ e. e ≡ Memory) }
 {
     let Going {
         power,
@@ -297,7 +287,7 @@ pub fn run_line<C: Crew>(
 
 /// Runs a line of the console, and the ledger follows it. The board stays where it is: a run of many commands would
 /// pay for moving it more than for the commands.
-fn run_command(alloc: Global, command: ConsoleCommand, going: &mut Going) -> Result<(), Refusal>
+fn run_command(alloc: Global, command: ConsoleCommand, going: &mut Going) -> Result<(), AllocError>
     ensures runs { OnOk result ((size : Size) (b : Bench)
         → RunsCalm size b going.old.power going.old.payloads going.old.ledger
         → LineMoves size (lines.Command command) b going.new.power going.new.payloads going.old.ledger going.new.ledger) }
@@ -305,7 +295,6 @@ fn run_command(alloc: Global, command: ConsoleCommand, going: &mut Going) -> Res
         → RunsCalm size b going.old.power going.old.payloads going.old.ledger
         → LineTook size (lines.Command command) (disk_at going.old.power) (disk_at going.new.power)) }
     ensures resumed { going.new.ledger.resumed ≡ going.old.ledger.resumed }
-    ensures refused { IfErr result (λ e. e ≡ Memory) }
 {
     let answer = console(command, &mut going.power);
     record_console(&mut going.ledger, alloc, command, answer.line)
@@ -320,13 +309,13 @@ pub struct Went {
 }
 
 /// Runs these lines from there on, no further than to the one in which an armed cut strikes, or where so asked to the first
-/// after which the board is off. Refused `Memory` alone.
+/// after which the board is off.
 pub fn run_lines<C: Crew>(
     setting: &Setting<'_, C>,
     lines: &[Line],
     until_off: bool,
     from: Going,
-) -> Result<Went, Refusal>
+) -> Result<Went, AllocError>
     requires ranges { All (IsLineInRange setting.now.shape.now) lines.now }
     requires plain { All IsPlainLine lines.now }
     requires calm { IsUnstruck from.power }
@@ -342,7 +331,6 @@ pub fn run_lines<C: Crew>(
         → b.fault_state.struck ≡ false → went.count ≡ length lines.now) }
     ensures few { IfOk result (λ went. went.count ≤ length lines.now) }
     ensures some { IfOk result (λ went. 0 < length lines.now → 0 < went.count) }
-    ensures refused { IfErr result (λ e. e ≡ Memory) }
 {
     let mut going = from;
     let mut count = 0;

@@ -1,6 +1,6 @@
 //! Whole benches.
 
-ghost use Rattle.std.specs.Prelude.{◌≡◌, ◌⊎◌, ◌↔◌, ◌≤◌, ◌<◌, ◌+◌, ◌^◌, ◌∷◌, ◌++◌, [], ℕ, List, Option, length, take, All, Ok, Err, IsTrue, IfOk, IfErr, OnOk};
+ghost use Rattle.std.specs.Prelude.{◌≡◌, ◌⊎◌, ◌≤◌, ◌<◌, ◌+◌, ◌^◌, ◌∷◌, ◌++◌, [], ℕ, List, Option, length, take, All, Ok, Err, IfOk, IfErr, OnOk};
 ghost use Rattle.std.specs.List.{AllZip};
 ghost use Rattle.std.specs.Io.KnownBytes.{Appends};
 ghost use Rattle.board_model.specs.declared.refusal.Refusal.{Refusal};
@@ -8,12 +8,12 @@ ghost use Rattle.board_model.specs.declared.refusal.Refusal.TheVariants.{Memory,
 ghost use Rattle.script_lang.specs.Lines.{IsLineInRange};
 ghost use Rattle.script_lang.specs.Scripts.{script_of, Script as Said};
 ghost use Rattle.bench_report.specs.Bench.{Bench};
-ghost use Rattle.bench_report.specs.Happens.{off, unpowered};
+ghost use Rattle.bench_report.specs.Happens.{unpowered};
 ghost use Rattle.bench_sweep.specs.Points.{callers, calls_of, MadeCalls};
-ghost use Rattle.bench_sweep.specs.Runs.{RunsAt, Sits, IsEnd, IsLife};
+ghost use Rattle.bench_sweep.specs.Runs.{RunsAt, Sits, IsLife};
 ghost use Rattle.bench_sweep.specs.Made.{IsRunOf};
 ghost use Rattle.bench_sweep.specs.Rows.{sweep_text};
-ghost use Rattle.bench_sweep.specs.Swept.{IsPlainLine, IsNoFormat, IsNotPlain, NoBenchRuns, AreSwept, all_points, own_points, points_from, WroteAll, IsBenchOf};
+ghost use Rattle.bench_sweep.specs.Swept.{IsPlainLine, IsNotPlain, NoBenchRuns, AreSwept, all_points, own_points, points_from, WroteAll, IsBenchOf};
 ghost use Rattle.bench_sweep.specs.Took.{RunTook};
 ghost use Rattle.jobs.specs.Parts.{window};
 ghost use Rattle.bench_sweep.specs.Reports.{Reports, ReportsAll, ReportsScript, RunsAlong, TakesPoint};
@@ -21,21 +21,23 @@ ghost use Rattle.bench_sweep.specs.Reports.{Reports, ReportsAll, ReportsScript, 
 use crate::begins::run_to_format;
 use crate::chunks::{RunsAtCalls, chunk_size, marks_of};
 use crate::judges::Sweep;
-use crate::judging::{PointRows, turn_off};
+use crate::judging::PointRows;
+use crate::plain_runs::{
+    LifeSpan, calls_between, calls_of_all, check_plain, run_plain, stretch_of,
+};
 use crate::plan::SweepPlan;
-use crate::points::{BenchKind, CALLERS, Caller};
+use crate::points::{CALLERS, Caller};
 use crate::rows::{write_rows, write_sweep};
 use crate::runner::Runner;
-use crate::site::{Going, Site};
-use crate::sites::run_lines;
-use bench_report::Setting;
+use crate::site::Site;
+use bench_report::{Setting, lane_by_lane};
 use board::Payloads;
-use board_model::Refusal;
-use crew::{Crew, Sequential};
+use board_model::{Refusal, unwritten};
+use crew::Crew;
 use jobs::{Chunk, Jobs, Part, Progress, Sink, Window, hand_on_all};
 use script_lang::{Line, Script, parse_script};
-use std::alloc::Global;
-use std::io::Write;
+use std::alloc::{AllocError, Global};
+use std::io::{self, Write};
 use std::mem::replace;
 use std::thread::Threads;
 
@@ -50,9 +52,8 @@ struct SweepReport<'a, W> {
 
 impl<'a, W: Write> SweepReport<'a, W> {
     /// Writes the lines of a point, and counts it and its runs.
-    fn take_point<P: Progress>(&mut self, made: &PointRows, progress: &P) -> Result<(), Refusal>
+    fn take_point<P: Progress>(&mut self, made: &PointRows, progress: &P) -> io::Result<()>
         ensures took { OnOk result (TakesPoint W.contents self.old made.now self.new) }
-        ensures refused { IfErr result (λ e. (e ≡ Memory) ⊎ (e ≡ Output)) }
     {
         let sweep = made.sweep;
         if !self.quiet || sweep.wrong != 0 {
@@ -74,14 +75,18 @@ impl<'a, W: Write> Sink<Chunk<PointRows>> for SweepReport<'a, W> {
 
     ghost takes = { λ old made new. (made.whole ≡ true) × TakesAll (TakesPoint W.contents) old made.rows.items new };
 
-    /// Writes the lines of the points of a chunk, in order, and tells of each that it went. Refused `Memory` behind them where the
-    /// chunk lacks some.
-    fn take<P: Progress>(&mut self, made: Chunk<PointRows>, progress: &P) -> Result<(), Refusal> {
+    /// Writes the lines of the points of a chunk, in order, and tells of each that it went. Refused after them where the chunk
+    /// lacks some.
+    fn take<P: Progress>(&mut self, made: Chunk<PointRows>, progress: &P) -> io::Result<()> {
         let Chunk { rows, whole } = made;
         for point in rows.as_slice() {
             self.take_point(point, progress)?;
         }
-        if whole { Ok(()) } else { Err(Refusal::Memory) }
+        if whole {
+            Ok(())
+        } else {
+            Err(AllocError.into())
+        }
     }
 }
 
@@ -105,7 +110,7 @@ fn run_at_calls<R: Threads + Sync, P: Progress, C: Crew + Sync, W: Write>(
     calls: Calls,
     within: Window,
     report: &mut SweepReport<'_, W>,
-) -> Result<(), Refusal>
+) -> io::Result<()>
     requires few { count ≤ length runner.now.lines.now }
     requires numbers { calls.made + calls.count < 2 ^ 64 }
     requires lines { AreSwept runner.now.setting.shape.now runner.now.lines.now }
@@ -114,7 +119,6 @@ fn run_at_calls<R: Threads + Sync, P: Progress, C: Crew + Sync, W: Write>(
         → RunsAt runner.now.setting.shape.now b site.now
         → Reports W.contents runner.now.bench (RunsAlong runner.now.setting.shape.now runner.now.bench calls.caller site.now calls.made (unpowered b) runner.now.lines.now)
         report.old report.new (window within.from within.to (points_from calls.caller (calls.made + 1) calls.count))) }
-    ensures refused { IfErr result (λ e. (e ≡ Memory) ⊎ (e ≡ Output)) }
 {
     let from = within.from.min(calls.count);
     let to = within.to.min(calls.count);
@@ -138,51 +142,6 @@ fn run_at_calls<R: Threads + Sync, P: Progress, C: Crew + Sync, W: Write>(
     hand_on_all(jobs, runner.setting.alloc, &task, 0, chunks, report)
 }
 
-/// Lines of the plain run up to the next moment at which the board is off.
-#[derive(Drop)]
-struct LifeSpan {
-    /// How many lines they are.
-    count: usize,
-    /// The board then.
-    next: Site,
-}
-
-/// The lines of the plain run from that site up to the next moment at which the board is off. Refused `Memory` alone.
-fn stretch_of<C: Crew>(runner: &Runner<'_, C>, site: &Site) -> Result<LifeSpan, Refusal>
-    requires lines { AreSwept runner.now.setting.shape.now runner.now.lines.now }
-    requires sits { Sits runner.now.setting.shape.now site.now }
-    ensures few { IfOk result (λ did. did.count ≤ length runner.now.lines.now) }
-    ensures some { IfOk result (λ did. 0 < length runner.now.lines.now → 0 < did.count) }
-    ensures sits { IfOk result (λ did. Sits runner.now.setting.shape.now did.next) }
-    ensures lives { IfOk result (λ did. (b : Bench)
-        → RunsAt runner.now.setting.shape.now b site.now
-        → IsLife runner.now.setting.shape.now b runner.now.lines.now did.count did.next) }
-    ensures took { IfOk result (λ did. RunTook runner.now.setting.shape.now (take did.count runner.now.lines.now)
-        site.now.off.disk did.next.off.disk) }
-    ensures refused { IfErr result (λ e. e ≡ Memory) }
-{
-    let copy = site.copy(runner.setting.alloc)?;
-    let plain = Going::from(copy);
-    let went = run_lines(&runner.setting, runner.lines, true, plain)?;
-    let count = went.count;
-    let next = turn_off(went.going, false)?;
-    Ok(LifeSpan { count, next })
-}
-
-/// How many calls of that caller were made from the one site to the other. A disk never counts back.
-pub fn calls_between(caller: Caller, from: &Site, to: &Site) -> Result<u64, Refusal>
-    ensures calls { IfOk result (λ n. calls_of caller to.now.off.disk ≡ calls_of caller from.now.off.disk + n) }
-    ensures below { IfOk result (λ n. calls_of caller to.now.off.disk < 2 ^ 64) }
-    ensures refused { IfErr result (λ e. e ≡ Memory) }
-{
-    let before = caller.calls(&from.off.disk);
-    let after = caller.calls(&to.off.disk);
-    if after < before {
-        return Err(Refusal::Memory);
-    }
-    Ok(after - before)
-}
-
 /// Goes over the points of that caller in the lines up to the next moment at which the board is off, as far as they lie within
 /// the window, and puts the board of that moment in the place of this one. So many calls were before them. Answers how many
 /// lines they are, and how many calls they made.
@@ -194,7 +153,7 @@ fn sweep_stretch<R: Threads + Sync, P: Progress, C: Crew + Sync, W: Write>(
     made: u64,
     within: Window,
     report: &mut SweepReport<'_, W>,
-) -> Result<(usize, u64), Refusal>
+) -> io::Result<(usize, u64)>
     requires lines { AreSwept runner.now.setting.shape.now runner.now.lines.now }
     requires sits { Sits runner.now.setting.shape.now site.old }
     requires made { made ≤ calls_of caller site.old.off.disk }
@@ -212,14 +171,13 @@ fn sweep_stretch<R: Threads + Sync, P: Progress, C: Crew + Sync, W: Write>(
         → RunsAt runner.now.setting.shape.now b site.old
         → Reports W.contents runner.now.bench (RunsAlong runner.now.setting.shape.now runner.now.bench caller site.old made (unpowered b) runner.now.lines.now)
         report.old report.new (window within.from within.to (points_from caller (made + 1) did.1))) }
-    ensures refused { IfErr result (λ e. (e ≡ Memory) ⊎ (e ≡ Output)) }
 {
     let LifeSpan { count, next } = stretch_of(runner, site)?;
     let made_here = match calls_between(caller, site, &next) {
         Ok(calls) => calls,
-        Err(refusal) => {
+        Err(refused) => {
             next.release();
-            return Err(refusal);
+            return Err(refused.into());
         }
     };
     let calls = Calls {
@@ -227,9 +185,9 @@ fn sweep_stretch<R: Threads + Sync, P: Progress, C: Crew + Sync, W: Write>(
         made,
         count: made_here,
     };
-    if let Err(refusal) = run_at_calls(jobs, runner, count, site, calls, within, report) {
+    if let Err(error) = run_at_calls(jobs, runner, count, site, calls, within, report) {
         next.release();
-        return Err(refusal);
+        return Err(error);
     }
     replace(site, next).release();
     Ok((count, made_here))
@@ -245,14 +203,13 @@ fn sweep_caller<R: Threads + Sync, P: Progress, C: Crew + Sync, W: Write>(
     all: u64,
     within: Window,
     report: &mut SweepReport<'_, W>,
-) -> Result<u64, Refusal>
+) -> io::Result<u64>
     requires lines { AreSwept runner.now.setting.shape.now runner.now.lines.now }
     requires sits { Sits runner.now.setting.shape.now begin.now }
     ensures wrote { IfOk result (λ n. (b : Bench)
         → RunsAt runner.now.setting.shape.now b begin.now
         → Reports W.contents runner.now.bench (IsRunOf runner.now.setting.shape.now runner.now.bench begin.now.off.disk (unpowered b) runner.now.lines.now)
         report.old report.new (window within.from within.to (points_from caller 1 n))) }
-    ensures refused { IfErr result (λ e. (e ≡ Memory) ⊎ (e ≡ Output)) }
 {
     let mut site = begin.copy(runner.setting.alloc)?;
     let mut from = 0;
@@ -270,9 +227,9 @@ fn sweep_caller<R: Threads + Sync, P: Progress, C: Crew + Sync, W: Write>(
                 made += calls;
                 left = left.behind(calls);
             }
-            Err(refusal) => {
+            Err(error) => {
                 site.release();
-                return Err(refusal);
+                return Err(error);
             }
         }
     }
@@ -280,59 +237,9 @@ fn sweep_caller<R: Threads + Sync, P: Progress, C: Crew + Sync, W: Write>(
     Ok(made)
 }
 
-/// Runs the lines from that site on as they are, and answers the board then, turned off. Refused `Memory` where the
-/// disk's record found none.
-pub fn run_plain<C: Crew>(runner: &Runner<'_, C>, begin: &Site) -> Result<Site, Refusal>
-    requires lines { AreSwept runner.now.setting.shape.now runner.now.lines.now }
-    requires sits { Sits runner.now.setting.shape.now begin.now }
-    ensures ends { IfOk result (λ end. (b : Bench)
-        → RunsAt runner.now.setting.shape.now b begin.now
-        → IsEnd runner.now.setting.shape.now (unpowered b) runner.now.lines.now end) }
-    ensures took { IfOk result (λ end. RunTook runner.now.setting.shape.now runner.now.lines.now begin.now.off.disk end.off.disk) }
-    ensures refused { IfErr result (λ e. e ≡ Memory) }
-{
-    let mut site = begin.copy(runner.setting.alloc)?;
-    let mut from = 0;
-    while from < runner.lines.len() {
-        let rest = Runner {
-            setting: runner.setting,
-            bench: runner.bench,
-            lines: &runner.lines[from..],
-        };
-        let lived = stretch_of(&rest, &site);
-        site.release();
-        let LifeSpan { count, next } = lived?;
-        from += count;
-        site = next;
-    }
-    if site.off.disk.refused() != 0 {
-        site.release();
-        return Err(Refusal::Memory);
-    }
-    Ok(site)
-}
-
-/// How many calls all callers made from the one site to the other. Refused `Memory` where a disk counted back, or they are more
-/// than a number holds.
-fn calls_of_all(from: &Site, to: &Site) -> Result<u64, Refusal>
-    ensures calls { IfOk result (λ n. (counts : List ℕ) × AllZip (MadeCalls from.now.off.disk to.now.off.disk) callers counts
-        × (n ≡ length (all_points callers counts))) }
-    ensures refused { IfErr result (λ e. e ≡ Memory) }
-{
-    let mut all = 0u64;
-    for caller in CALLERS {
-        let calls = calls_between(caller, from, to)?;
-        match all.checked_add(calls) {
-            Some(more) => all = more,
-            None => return Err(Refusal::Memory),
-        }
-    }
-    Ok(all)
-}
-
 /// Goes over the points of each caller in turn, over the lines from that site on, as far as they are of the part. Of each caller
-/// there are as many as it made calls up to that end of the plain run. Answers how many they are of all callers. Refused `Memory`
-/// where another run of the lines made others: then the one or the other was refused some.
+/// there are as many as it made calls up to that end of the plain run. Answers how many they are of all callers. Refused where
+/// another run of the lines made others: then the one or the other was refused some.
 fn sweep_all_callers<R: Threads + Sync, P: Progress, C: Crew + Sync, W: Write>(
     jobs: &Jobs<'_, R, P>,
     runner: &Runner<'_, C>,
@@ -340,7 +247,7 @@ fn sweep_all_callers<R: Threads + Sync, P: Progress, C: Crew + Sync, W: Write>(
     end: &Site,
     part: Option<Part>,
     report: &mut SweepReport<'_, W>,
-) -> Result<u64, Refusal>
+) -> io::Result<u64>
     requires lines { AreSwept runner.now.setting.shape.now runner.now.lines.now }
     requires sits { Sits runner.now.setting.shape.now site.now }
     ensures wrote { IfOk result (λ all. (b : Bench)
@@ -348,7 +255,6 @@ fn sweep_all_callers<R: Threads + Sync, P: Progress, C: Crew + Sync, W: Write>(
         → (counts : List ℕ) × AllZip (MadeCalls site.now.off.disk end.now.off.disk) callers counts
         × (all ≡ length (all_points callers counts)) × Reports W.contents runner.now.bench (IsRunOf runner.now.setting.shape.now runner.now.bench site.now.off.disk (unpowered b) runner.now.lines.now)
         report.old report.new (own_points part counts)) }
-    ensures refused { IfErr result (λ e. (e ≡ Memory) ⊎ (e ≡ Output)) }
 {
     let all = calls_of_all(site, end)?;
     let mut within = Window::of_part(part, all);
@@ -357,7 +263,7 @@ fn sweep_all_callers<R: Threads + Sync, P: Progress, C: Crew + Sync, W: Write>(
         let calls = calls_between(caller, site, end)?;
         let made = sweep_caller(jobs, runner, site, caller, calls, within, report)?;
         if made != calls {
-            return Err(Refusal::Memory);
+            return Err(AllocError.into());
         }
         within = within.behind(made);
     }
@@ -372,66 +278,16 @@ fn sweep_site<R: Threads + Sync, P: Progress, C: Crew + Sync, W: Write>(
     site: &Site,
     part: Option<Part>,
     report: &mut SweepReport<'_, W>,
-) -> Result<u64, Refusal>
+) -> io::Result<u64>
     requires lines { AreSwept runner.now.setting.shape.now runner.now.lines.now }
     requires sits { Sits runner.now.setting.shape.now site.now }
     ensures wrote { IfOk result (λ all. (b : Bench)
         → RunsAt runner.now.setting.shape.now b site.now
         → ReportsAll W.contents runner.now.setting.shape.now runner.now.bench part site.now.off.disk (unpowered b) runner.now.lines.now
         all report.old report.new) }
-    ensures refused { IfErr result (λ e. (e ≡ Memory) ⊎ (e ≡ Output)) }
 {
     let end = run_plain(runner, site)?;
     sweep_all_callers(jobs, runner, site, &end, part, report)
-}
-
-/// Whether a bench runs the line: it cuts nothing, lets nothing fail, and leaves the disk to the firmware.
-fn is_plain(line: &Line) -> bool
-    ensures { IsTrue result ↔ IsPlainLine line.now }
-{
-    match line {
-        Line::Cut(_) | Line::Arm(_) | Line::Poke(_, _, _) => false,
-        _ => true,
-    }
-}
-
-/// Whether a bench runs each of these lines.
-fn are_plain(lines: &[Line]) -> bool
-    ensures { IsTrue result ↔ All IsPlainLine lines.now }
-{
-    lines.iter().all(|line| is_plain(line))
-}
-
-/// Whether the line formats no disk.
-fn is_no_format(line: &Line) -> bool
-    ensures { IsTrue result ↔ IsNoFormat line.now }
-{
-    match line {
-        Line::Format => false,
-        _ => true,
-    }
-}
-
-/// Whether none of these lines formats a disk.
-fn format_none(lines: &[Line]) -> bool
-    ensures { IsTrue result ↔ All IsNoFormat lines.now }
-{
-    lines.iter().all(|line| is_no_format(line))
-}
-
-/// Refused `NotPlain` exactly where no bench runs a script of these lines.
-pub fn check_plain(lines: &[Line]) -> Result<(), Refusal>
-    ensures plain { OnOk result (All IsPlainLine lines.now) }
-    ensures runs { OnOk result (IsNotPlain lines.now → ⊥) }
-    ensures refused { IfErr result (λ e. (e ≡ NotPlain) × IsNotPlain lines.now) }
-{
-    if !are_plain(lines) {
-        return Err(Refusal::NotPlain);
-    }
-    if format_none(lines) {
-        return Err(Refusal::NotPlain);
-    }
-    Ok(())
 }
 
 /// Goes over the points of those lines, which stand in a script that begins with these payloads. Answers how many points it has in all.
@@ -442,11 +298,10 @@ fn sweep_lines<'a, R: Threads + Sync, P: Progress, C: Crew + Sync, W: Write>(
     lines: &'a [Line],
     payloads: &Payloads,
     report: &mut SweepReport<'_, W>,
-) -> Result<u64, Refusal>
+) -> io::Result<u64>
     requires lines { AreSwept setting.now.shape.now lines.now }
     ensures wrote { IfOk result (λ all. ReportsScript W.contents setting.now.shape.now plan.bench plan.part payloads.now lines.now
         all report.old report.new) }
-    ensures refused { IfErr result (λ e. (e ≡ Memory) ⊎ (e ≡ Output)) }
 {
     let (count, site) = run_to_format(setting, lines, payloads)?;
     let runner = Runner {
@@ -465,11 +320,10 @@ fn sweep_rows<'a, R: Threads + Sync, P: Progress, C: Crew + Sync, W: Write>(
     lines: &'a [Line],
     payloads: &Payloads,
     out: &mut W,
-) -> Result<(u64, Sweep), Refusal>
+) -> io::Result<(u64, Sweep)>
     requires lines { AreSwept setting.now.shape.now lines.now }
     ensures wrote { IfOk result (λ made. (last : Option (List ℕ)) → Appends (W.contents out.new) last (sweep_text plan.part made.0 made.1 ++ 10 ∷ [])
         → WroteAll plan setting.now.shape.now payloads.now lines.now (W.contents out.old) last made.1) }
-    ensures refused { IfErr result (λ e. (e ≡ Memory) ⊎ (e ≡ Output)) }
 {
     let done = Sweep {
         points: 0,
@@ -493,11 +347,10 @@ fn write_swept<'a, R: Threads + Sync, P: Progress, C: Crew + Sync, W: Write>(
     lines: &'a [Line],
     payloads: &Payloads,
     out: &mut W,
-) -> Result<Sweep, Refusal>
+) -> io::Result<Sweep>
     requires lines { AreSwept setting.now.shape.now lines.now }
     ensures wrote { IfOk result (λ sweep. WroteAll plan setting.now.shape.now payloads.now lines.now
         (W.contents out.old) (W.contents out.new) sweep) }
-    ensures refused { IfErr result (λ e. (e ≡ Memory) ⊎ (e ≡ Output)) }
 {
     let (all, done) = sweep_rows(jobs, setting, plan, lines, payloads, out)?;
     write_sweep(out, plan.part, all, done)?;
@@ -512,14 +365,13 @@ fn sweep_plain_script<R: Threads + Sync, P: Progress, W: Write>(
     script: &Script,
     payloads: &Payloads,
     out: &mut W,
-) -> Result<Sweep, Refusal>
+) -> io::Result<Sweep>
     requires ranges { All (IsLineInRange script.now.shape) script.now.lines.items }
     requires plain { All IsPlainLine script.now.lines.items }
     ensures wrote { IfOk result (λ sweep. WroteAll plan script.now.shape payloads.now script.now.lines.items
         (W.contents out.old) (W.contents out.new) sweep) }
-    ensures refused { IfErr result (λ e. (e ≡ Memory) ⊎ (e ≡ Output)) }
 {
-    let crew = Sequential::<R>::new([0, 1, 2, 3])?;
+    let crew = lane_by_lane::<R>();
     let setting = Setting {
         alloc,
         crew: &crew,
@@ -564,5 +416,8 @@ pub fn run_bench<R: Threads + Sync, P: Progress, W: Write>(
 {
     let script = parse_script(alloc, script)?;
     check_plain(&script.lines)?;
-    sweep_plain_script::<R, P, W>(jobs, alloc, plan, &script, &payloads, out)
+    match sweep_plain_script::<R, P, W>(jobs, alloc, plan, &script, &payloads, out) {
+        Ok(sweep) => Ok(sweep),
+        Err(error) => Err(unwritten(error)),
+    }
 }

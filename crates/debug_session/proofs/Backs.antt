@@ -16,7 +16,7 @@ use Rattle.debug_session.specs.Ats.{IsPlace}
 use Rattle.debug_session.specs.declared.timeline.Timeline.{Timeline}
 use Rattle.debug_session.proofs.Histories.{left_moments, place_at, place_before}
 use Rattle.debug_session.specs.Backs.{BackTo, EndsAt, FoundIn, FoundOf, IsEnd, IsRowPast, IsSeen, IsWhyBack, MayMove, PassBack, before_place, halt_back, later_place, later_turn}
-use Rattle.debug_session.specs.Firsts.{Touches, is_at_point, machine_determines_turn}
+use Rattle.debug_session.specs.Firsts.{Touches, is_at_point, one_turn}
 use Rattle.debug_session.specs.Steps.{MakesNone}
 use Rattle.debug_session.specs.declared.back.TurnPlace.{TurnPlace}
 use Rattle.debug_session.specs.declared.halts.HaltReason.{HaltReason}
@@ -93,7 +93,7 @@ module _ (size : Size) (stops : Stops) where
   ends_more : (Why : Bench → Bench → Type 0) (h : ℕ) (before all more : List Line) (b mid new : Bench) → EndsAt size stops Why h before all b mid → PassBack size stops more mid new → EndsAt size stops Why h before (all ++ more) b new
   ends_more Why h before all more b mid new e passed = record {
     after = e.after ++ more;
-    parted = ap (λ (xs : List Line). xs ++ more) e.parted ∙ append_assoc before (machine_determines_turn h ∷ e.after) more;
+    parted = ap (λ (xs : List Line). xs ++ more) e.parted ∙ append_assoc before (one_turn h ∷ e.after) more;
     there = e.there;
     mid = e.mid;
     left = e.left;
@@ -105,7 +105,7 @@ module _ (size : Size) (stops : Stops) where
   ends_behind : (Why : Bench → Bench → Type 0) (h : ℕ) (xs before all : List Line) (a b new : Bench) → Leaves size a xs b → EndsAt size stops Why h before all b new → EndsAt size stops Why h (xs ++ before) (xs ++ all) a new
   ends_behind Why h xs before all a b new left e = record {
     after = e.after;
-    parted = ap (λ (ys : List Line). xs ++ ys) e.parted ∙ sym (append_assoc xs before (machine_determines_turn h ∷ e.after));
+    parted = ap (λ (ys : List Line). xs ++ ys) e.parted ∙ sym (append_assoc xs before (one_turn h ∷ e.after));
     there = e.there;
     mid = e.mid;
     left = run_append size xs before left.0 a b e.there left.1 e.left;
@@ -118,28 +118,28 @@ module _ (size : Size) (stops : Stops) where
   ends_run Why h before all b new e =
       let rest = pass_run e.after e.mid new e.passed in
       let P : List Line → Type 0 = λ xs. Leaves size b xs new in
-      subst P (sym e.parted) (run_append size before (machine_determines_turn h ∷ e.after) e.left.0 b e.there new e.left.1 (e.turn.0 ∷ rest.0, (e.mid, e.turn.1, rest.1)))
+      subst P (sym e.parted) (run_append size before (one_turn h ∷ e.after) e.left.0 b e.there new e.left.1 (e.turn.0 ∷ rest.0, (e.mid, e.turn.1, rest.1)))
 
   -- ---- in a row of turns
   found_run : (found : Option (ℕ × Stop)) (all : List Line) (b new : Bench) → FoundIn size stops found all b new → Leaves size b all new
   found_run None all b new passed = pass_run all b new passed
-  found_run (Some f) all b new e = ends_run (IsSeen (Some f.1.halt) stops f.1.hart) f.1.hart (replicate f.0 (machine_determines_turn f.1.hart)) all b new e
+  found_run (Some f) all b new e = ends_run (IsSeen (Some f.1.halt) stops f.1.hart) f.1.hart (replicate f.0 (one_turn f.1.hart)) all b new e
 
   found_more : (found : Option (ℕ × Stop)) (all more : List Line) (b mid new : Bench) → FoundIn size stops found all b mid → PassBack size stops more mid new → FoundIn size stops found (all ++ more) b new
   found_more None all more b mid new was passed = pass_more all more b mid new was passed
-  found_more (Some f) all more b mid new was passed = ends_more (IsSeen (Some f.1.halt) stops f.1.hart) f.1.hart (replicate f.0 (machine_determines_turn f.1.hart)) all more b mid new was passed
+  found_more (Some f) all more b mid new was passed = ends_more (IsSeen (Some f.1.halt) stops f.1.hart) f.1.hart (replicate f.0 (one_turn f.1.hart)) all more b mid new was passed
 
-  pub found_turn : (found : Option (ℕ × Stop)) (h k : ℕ) (halt : Option HaltReason) (b mid new : Bench) → FoundIn size stops found (replicate k (machine_determines_turn h)) b mid → MayMove size (machine_determines_turn h) mid new × IsSeen halt stops h mid new
-      → FoundIn size stops (later_turn found k h halt) (replicate (k + 1) (machine_determines_turn h)) b new
+  pub found_turn : (found : Option (ℕ × Stop)) (h k : ℕ) (halt : Option HaltReason) (b mid new : Bench) → FoundIn size stops found (replicate k (one_turn h)) b mid → MayMove size (one_turn h) mid new × IsSeen halt stops h mid new
+      → FoundIn size stops (later_turn found k h halt) (replicate (k + 1) (one_turn h)) b new
   found_turn found h k None b mid new was did =
       let P : List Line → Type 0 = λ xs. FoundIn size stops found xs b new in
-      subst P (replicate-append-replicate k 1 (machine_determines_turn h)) (found_more found (replicate k (machine_determines_turn h)) (machine_determines_turn h ∷ []) b mid new was (new, did, refl))
+      subst P (replicate-append-replicate k 1 (one_turn h)) (found_more found (replicate k (one_turn h)) (one_turn h ∷ []) b mid new was (new, did, refl))
   found_turn found h k (Some halt) b mid new was did = record {
     after = [];
-    parted = sym (replicate-append-replicate k 1 (machine_determines_turn h));
+    parted = sym (replicate-append-replicate k 1 (one_turn h));
     there = mid;
     mid = new;
-    left = found_run found (replicate k (machine_determines_turn h)) b mid was;
+    left = found_run found (replicate k (one_turn h)) b mid was;
     turn = did.0;
     why = did.1;
     passed = refl;
@@ -158,7 +158,7 @@ module _ (size : Size) (stops : Stops) where
       → FoundOf size stops (later_place found i last) past (moments (take i past) ++ singles line) b new
   either_line found None past i line b mid new was passed = place_more found past (moments (take i past)) (singles line) b mid new was passed
   either_line found (Some f) past i line b mid new was e =
-      ends_behind (IsSeen (Some f.1.halt) stops f.1.hart) f.1.hart (moments (take i past)) (replicate f.0 (machine_determines_turn f.1.hart)) (singles line) b mid new (place_run found past (moments (take i past)) b mid was) e
+      ends_behind (IsSeen (Some f.1.halt) stops f.1.hart) f.1.hart (moments (take i past)) (replicate f.0 (one_turn f.1.hart)) (singles line) b mid new (place_run found past (moments (take i past)) b mid was) e
 
   pub found_line : (found : Option TurnPlace) (last : Option (ℕ × Stop)) (past : List Line) (i : ℕ) (d : Line) (b mid new : Bench) → i < length past → FoundOf size stops found past (moments (take i past)) b mid → FoundIn size stops last (singles (get_or past i d)) mid new
       → FoundOf size stops (later_place found i last) past (moments (take (i + 1) past)) b new
@@ -202,10 +202,10 @@ module _ (size : Size) (stops : Stops) where
       let before : List Line = before_place place past in
       let cut : List Line = front ++ some_turns h place.turns in
       let rest = place_before h place.line place.turns past cut at refl in
-      let parted : moments past ≡ before ++ machine_determines_turn h ∷ rest.0 = rest.1 ∙ ap (λ (xs : List Line). xs ++ machine_determines_turn h ∷ rest.0) (left_moments h place.line place.turns past) in
+      let parted : moments past ≡ before ++ one_turn h ∷ rest.0 = rest.1 ∙ ap (λ (xs : List Line). xs ++ one_turn h ∷ rest.0) (left_moments h place.line place.turns past) in
       let P : List Line → Type 0 = λ xs. PassBack size stops xs b last in
-      let parts = pass_split before (machine_determines_turn h ∷ rest.0) b last (subst P parted passed) in
-      let empty : replicate place.turns (machine_determines_turn h) ≡ [] = ap (λ (k : ℕ). replicate k (machine_determines_turn h)) zero in
+      let parts = pass_split before (one_turn h ∷ rest.0) b last (subst P parted passed) in
+      let empty : replicate place.turns (one_turn h) ≡ [] = ap (λ (k : ℕ). replicate k (one_turn h)) zero in
       let same : before ≡ front = ap (λ (xs : List Line). moments front ++ xs) empty ∙ append-nil (moments front) ∙ none_same front none in
       let Q : List Line → Type 0 = λ xs. All MakesNone xs in
       let R : HaltReason → Type 0 = λ halt. IsWhyBack halt stops h before parts.0 parts.2.0 in (

@@ -30,7 +30,7 @@ use Rattle.debug_session.specs.declared.halts.HaltReason.TheVariants as halts
 use Rattle.debug_session.specs.declared.stops.Stops.{Stops}
 use Rattle.debug_session.specs.declared.stops.Watchpoint.{Watchpoint}
 use Rattle.debug_session.specs.Steps.{halt_step}
-use Rattle.debug_session.specs.Firsts.{KeepsWatched, PassAll, RanBy, RanTo, ReadsAs, Stretched, ToHalt, Touches, halt_after, halt_seen, halts_all, is_at_point, is_kept, is_of_turn, is_quiet, is_unread, minds_changes, machine_determines_turn, seen_all, seen_by, TellsTouched, touched_in, touched_since}
+use Rattle.debug_session.specs.Firsts.{KeepsWatched, PassAll, RanBy, RanTo, ReadsAs, Stretched, ToHalt, Touches, halt_after, halt_seen, halts_all, is_at_point, is_kept, is_of_turn, is_quiet, is_unread, minds_changes, one_turn, seen_all, seen_by, TellsTouched, touched_in, touched_since}
 
 pub ok_more : {A E : Type 0} (r : Result A E) (P Q : A → Type 0) → ((x : A) → P x → Q x) → IfOk r P → IfOk r Q
 ok_more (Ok x) P Q more h = more x h
@@ -216,7 +216,7 @@ module _ (size : Size) (stops : Stops) where
       subst Q (replicate-append-replicate (made_in row - 1) (made_in (last_of row)) h ∙ ap (λ (k : ℕ). replicate k h) (last_made most row within)) all
 
   -- ---- with their history
-  map_turns : (n h : ℕ) → replicate n (lines.Turn h 1) ≡ map machine_determines_turn (replicate n h)
+  map_turns : (n h : ℕ) → replicate n (lines.Turn h 1) ≡ map one_turn (replicate n h)
   map_turns zero h = refl
   map_turns (suc n) h = ap (λ (xs : List Line). lines.Turn h 1 ∷ xs) (map_turns n h)
 
@@ -255,7 +255,7 @@ module _ (size : Size) (stops : Stops) where
   pub halt_more : (g h : ℕ) (halt : Option HaltReason) (first mid last : Timeline) → ToHalt size stops g None first mid → ToHalt size stops h halt mid last → ToHalt size stops h halt first last
   halt_more g h halt first mid last one two = record {
     harts = one.harts ++ two.harts;
-    grew = two.grew ∙ ap (λ (xs : List Line). xs ++ map machine_determines_turn two.harts) one.grew ∙ append_assoc (moments first.history) (map machine_determines_turn one.harts) (map machine_determines_turn two.harts) ∙ ap (λ (xs : List Line). moments first.history ++ xs) (sym (map-append machine_determines_turn one.harts two.harts));
+    grew = two.grew ∙ ap (λ (xs : List Line). xs ++ map one_turn two.harts) one.grew ∙ append_assoc (moments first.history) (map one_turn one.harts) (map one_turn two.harts) ∙ ap (λ (xs : List Line). moments first.history ++ xs) (sym (map-append one_turn one.harts two.harts));
     ran = λ b left. (let did = one.ran b left in let more = two.ran did.0 did.2 in (more.0, ran_more h halt one.harts two.harts b did.0 more.0 did.1 more.1, more.2));
   }
 

@@ -19,7 +19,7 @@ use Rattle.bench_live.proofs.Noted.{leaves_more, ranges_more}
 use Rattle.script_lang.specs.Lines.{IsLineInRange}
 use Rattle.simdisk.specs.declared.fill.Fill.TheVariants as fills
 use Rattle.debug_session.specs.declared.debugged.DebuggedBench.{DebuggedBench}
-use Rattle.board_model.specs.declared.refusal.Refusal.{Refusal}
+use Rattle.std.specs.declared.alloc.AllocError.{AllocError}
 use Rattle.debug_session.specs.declared.timeline.Timeline.{Timeline}
 use Rattle.debug_session.specs.Ats.{GoesOnBy, IsAt, IsLeft, IsNoted, Ran}
 use Rattle.debug_session.specs.Lives.{IsSound, Shows}
@@ -62,7 +62,7 @@ left_as size t begins past joins live b e f g h left =
     let S : DebuggedBench → Type 0 = λ x. Left size t.begins t.history t.joins x b in
     subst S (sym h) (subst R (sym g) (subst Q (sym f) (subst P (sym e) left)))
 
-pub line_moves : (size : Size) (line : Line) (answer : Answer) (r : Result Answer Refusal) (old new : Timeline) (after : DebuggedBench)
+pub line_moves : (size : Size) (line : Line) (answer : Answer) (r : Result Answer AllocError) (old new : Timeline) (after : DebuggedBench)
     → ((b : Bench) → Shows size b old.bench → (x : Bench) × Moves size line b answer x × Shows size x after) → new.bench ≡ after → new.begins ≡ old.begins
     → IfOk r (λ said. said ≡ answer) → OnOk r (new.history ≡ old.history ++ line ∷ []) → OnOk r (new.joins ≡ false)
     → IfOk r (λ said. (b : Bench) → IsLeft size old b → (x : Bench) × Moves size line b said x × IsLeft size new x)
@@ -72,7 +72,7 @@ line_moves size line answer (Ok said) old new after moves same begins is grew ap
     let P : Answer → Type 0 = λ a. Moves size line b a did.0 in
     (did.0, subst P (sym is) did.1, left_as size new old.begins (old.history ++ line ∷ []) false after did.0 begins grew apart same did.2)
 
-pub line_at : (size : Size) (line : Line) (answer : Answer) (r : Result Answer Refusal) (old new : Timeline) (after : DebuggedBench) → IsAt size old → IsLineInRange size line
+pub line_at : (size : Size) (line : Line) (answer : Answer) (r : Result Answer AllocError) (old new : Timeline) (after : DebuggedBench) → IsAt size old → IsLineInRange size line
     → ((b : Bench) → Shows size b old.bench → (x : Bench) × Moves size line b answer x × Shows size x after) → IsSound after → after.live.fill ≡ fill_after line old.bench.live.fill
     → new.bench ≡ after → new.begins ≡ old.begins → OnOk r (new.history ≡ old.history ++ line ∷ []) → OnOk r (new.joins ≡ false) → OnOk r (IsAt size new)
 line_at size line answer (Err e) old new after at range moves sound fill same begins grew apart = tt
@@ -90,7 +90,7 @@ noted_other : (line : Line) (answer : Answer) (was now : List Line) → ((h n : 
 noted_other (lines.Turn h n) answer was now not is = absurd (not h n refl)
 noted_other line answer was now not is = is
 
-pub ran_other : (size : Size) (line : Line) (r : Result Answer Refusal) (old new : Timeline) → ((h n : ℕ) → line ≡ lines.Turn h n → ⊥)
+pub ran_other : (size : Size) (line : Line) (r : Result Answer AllocError) (old new : Timeline) → ((h n : ℕ) → line ≡ lines.Turn h n → ⊥)
     → IfOk r (λ answer. (b : Bench) → IsLeft size old b → (after : Bench) × Moves size line b answer after × IsLeft size new after) → OnOk r (new.history ≡ old.history ++ line ∷ []) → IfOk r (λ answer. Ran size line answer old new)
 ran_other size line (Ok answer) old new not moves grew = record { moves = moves; noted = noted_other line answer old.history new.history not grew }
 ran_other size line (Err e) old new not moves grew = tt

@@ -57,14 +57,14 @@ went_more May Next n k size first mid last may one two = record {
 -- ---- turns of one hart
 
 -- one turn comes to any address
-machine_determines_turn : (size : Size) (h : ℕ) (points : List ℕ) (row : TurnRow) (b new : Bench) → IsWithin 1 row → GoesTo size h points row b new → GoesTo size h [] row b new
-machine_determines_turn size h points rows.Off b new within goes = goes
-machine_determines_turn size h points (rows.Made n word) b new within (mid, passed, last) =
+one_turn : (size : Size) (h : ℕ) (points : List ℕ) (row : TurnRow) (b new : Bench) → IsWithin 1 row → GoesTo size h points row b new → GoesTo size h [] row b new
+one_turn size h points rows.Off b new within goes = goes
+one_turn size h points (rows.Made n word) b new within (mid, passed, last) =
     let none : n - 1 ≡ 0 = omega (arith, within) in
     let P : ℕ → Type 0 = λ k. Passes size h points k b mid in
     let Q : ℕ → Type 0 = λ k. Passes size h [] k b mid in
     (mid, subst Q (sym none) (subst P none passed), last)
-machine_determines_turn size h points (rows.Lost n) b new within (mid, passed, last) =
+one_turn size h points (rows.Lost n) b new within (mid, passed, last) =
     let none : n - 1 ≡ 0 = omega (arith, within) in
     let P : ℕ → Type 0 = λ k. Passes size h points k b mid in
     let Q : ℕ → Type 0 = λ k. Passes size h [] k b mid in
@@ -89,7 +89,7 @@ step_of size h points part old new (row, turns, within, count, by) = (
   row,
   part.rests,
   within,
-  record { moves = λ b left. (let did = turns.moves b left in (did.0, did.1, did.2, did.3, machine_determines_turn size h points row b did.0 within did.4)); grew = turns.grew; busy = turns.busy },
+  record { moves = λ b left. (let did = turns.moves b left in (did.0, did.1, did.2, did.3, one_turn size h points row b did.0 within did.4)); grew = turns.grew; busy = turns.busy },
   step_ends row part.rests (pc_in h (machine_of new.bench)) part.made part.halt within count by,
 )
 

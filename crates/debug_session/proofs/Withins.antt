@@ -20,7 +20,7 @@ use Rattle.debug_session.specs.declared.forth.StepRange.{StepRange}
 use Rattle.debug_session.specs.declared.halts.HaltReason.{HaltReason}
 use Rattle.debug_session.specs.declared.halts.HaltReason.TheVariants as halts
 use Rattle.debug_session.specs.declared.stops.Watchpoint.{Watchpoint}
-use Rattle.debug_session.specs.Firsts.{Stretched, halt_after, halt_seen, halts_all, is_of_turn, machine_determines_turn}
+use Rattle.debug_session.specs.Firsts.{Stretched, halt_after, halt_seen, halts_all, is_of_turn, one_turn}
 use Rattle.debug_session.specs.Withins.{HaltsBy, LeftBy, MadeOne, StayedWithin, StaysWithin, IsSpent, StepsWithin, TurnsOnce, is_in, is_pc_in}
 
 -- ---- one turn at most
@@ -67,11 +67,11 @@ module _ (size : Size) (within : StepRange) (h : ℕ) where
   is_shown : (t : Timeline) (b : Bench) → IsLeft size t b → is_in within (pc_in h (machine_of t.bench)) ≡ is_pc_in within h b
   is_shown t b left = ap (λ (m : Option Machine). is_in within (pc_in h m)) (shown_machine size b t.bench.live.power t.bench.live.payloads left.2)
 
-  joined : (n made : ℕ) (old mid new : Timeline) → moments mid.history ≡ moments old.history ++ replicate n (machine_determines_turn h) → moments new.history ≡ moments mid.history ++ replicate made (machine_determines_turn h)
-      → moments new.history ≡ moments old.history ++ replicate (n + made) (machine_determines_turn h)
+  joined : (n made : ℕ) (old mid new : Timeline) → moments mid.history ≡ moments old.history ++ replicate n (one_turn h) → moments new.history ≡ moments mid.history ++ replicate made (one_turn h)
+      → moments new.history ≡ moments old.history ++ replicate (n + made) (one_turn h)
   joined n made old mid new one two =
-      two ∙ ap (λ (xs : List Line). xs ++ replicate made (machine_determines_turn h)) one ∙ append_assoc (moments old.history) (replicate n (machine_determines_turn h)) (replicate made (machine_determines_turn h))
-      ∙ ap (λ (xs : List Line). moments old.history ++ xs) (replicate-append-replicate n made (machine_determines_turn h))
+      two ∙ ap (λ (xs : List Line). xs ++ replicate made (one_turn h)) one ∙ append_assoc (moments old.history) (replicate n (one_turn h)) (replicate made (one_turn h))
+      ∙ ap (λ (xs : List Line). moments old.history ++ xs) (replicate-append-replicate n made (one_turn h))
 
   -- a turn more that left the pc within
   one_more : (n : ℕ) (b mid new : Bench) → StaysWithin size within h n b mid → TurnsOnce size h mid new → is_pc_in within h new ≡ true → StaysWithin size within h (n + 1) b new
@@ -102,9 +102,9 @@ module _ (size : Size) (within : StepRange) (h : ℕ) where
 
   module _ (n : ℕ) (points : List ℕ) (part : RoundPart) (first mid last : Timeline) (stayed : StayedWithin size within h n first mid) where
     -- a turn was made
-    once_grew : (row : TurnRow) → MadeTurns size h points row part.rests mid last → made_in row ≡ 1 → moments last.history ≡ moments first.history ++ replicate (n + 1) (machine_determines_turn h)
+    once_grew : (row : TurnRow) → MadeTurns size h points row part.rests mid last → made_in row ≡ 1 → moments last.history ≡ moments first.history ++ replicate (n + 1) (one_turn h)
     once_grew row turns one =
-        let P : ℕ → Type 0 = λ j. moments last.history ≡ moments first.history ++ replicate (n + j) (machine_determines_turn h) in
+        let P : ℕ → Type 0 = λ j. moments last.history ≡ moments first.history ++ replicate (n + j) (one_turn h) in
         subst P one (joined n (made_in row) first mid last stayed.grew turns.grew)
 
     -- and the hart steps on
@@ -130,7 +130,7 @@ module _ (size : Size) (within : StepRange) (h : ℕ) where
     none_made halt turns spent = record {
       count = n;
       grew = (let same : n + 0 ≡ n = omega arith in
-          let P : ℕ → Type 0 = λ j. moments last.history ≡ moments first.history ++ replicate j (machine_determines_turn h) in
+          let P : ℕ → Type 0 = λ j. moments last.history ≡ moments first.history ++ replicate j (one_turn h) in
           subst P same (joined n 0 first mid last stayed.grew turns.grew));
       ran = λ b left. (let was = stayed.ran b left in let did = turns.moves was.0 was.2 in (did.0, inl (same_bench n b was.0 did.0 did.1 was.1, spent did.0 did.2 did.3), did.2));
     }

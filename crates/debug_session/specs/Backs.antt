@@ -17,7 +17,7 @@ use Rattle.debug_session.specs.declared.halts.HaltReason.TheVariants as halts
 use Rattle.debug_session.specs.declared.halts.Stop.{Stop}
 use Rattle.debug_session.specs.declared.stops.Stops.{Stops}
 use Rattle.debug_session.specs.declared.stops.Watchpoint.{Watchpoint}
-use Rattle.debug_session.specs.Firsts.{KeepsWatched, Touches, is_at_point, machine_determines_turn}
+use Rattle.debug_session.specs.Firsts.{KeepsWatched, Touches, is_at_point, one_turn}
 use Rattle.debug_session.specs.Steps.{MakesNone}
 
 -- a line may make that of the bench
@@ -46,11 +46,11 @@ PassBack size stops (line ∷ more) b new =
 -- it the way back passes each line.
 pub record EndsAt (size : Size) (stops : Stops) (Why : Bench → Bench → Type 0) (h : ℕ) (before all : List Line) (b new : Bench) : Type 0 where
   pub after : List Line
-  pub parted : all ≡ before ++ machine_determines_turn h ∷ after
+  pub parted : all ≡ before ++ one_turn h ∷ after
   pub there : Bench
   pub mid : Bench
   pub left : Leaves size b before there
-  pub turn : MayMove size (machine_determines_turn h) there mid
+  pub turn : MayMove size (one_turn h) there mid
   pub why : Why there mid
   pub passed : PassBack size stops after mid new
 
@@ -80,11 +80,11 @@ IfEnded ways.Interrupted P = ⊤
 abbrev pub FoundIn : Size → Stops → Option (ℕ × Stop) → List Line → Bench → Bench → Type 0
 FoundIn size stops None all b new = PassBack size stops all b new
 FoundIn size stops (Some f) all b new =
-    EndsAt size stops (IsSeen (Some f.1.halt) stops f.1.hart) f.1.hart (replicate f.0 (machine_determines_turn f.1.hart)) all b new
+    EndsAt size stops (IsSeen (Some f.1.halt) stops f.1.hart) f.1.hart (replicate f.0 (one_turn f.1.hart)) all b new
 
 -- what stands before a place in a history
 abbrev pub before_place : TurnPlace → List Line → List Line
-before_place place past = moments (take place.line past) ++ replicate place.turns (machine_determines_turn place.stop.hart)
+before_place place past = moments (take place.line past) ++ replicate place.turns (one_turn place.stop.hart)
 
 -- the last turn of a history before which the way back ends, by its place; or that it ends before none
 abbrev pub FoundOf : Size → Stops → Option TurnPlace → List Line → List Line → Bench → Bench → Type 0

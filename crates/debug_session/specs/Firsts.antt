@@ -135,13 +135,13 @@ abbrev pub RanTo : Size → Stops → ℕ → Option HaltReason → List ℕ →
 RanTo size stops h None harts b new = PassAll size stops harts b new
 RanTo size stops h (Some halt) harts b new = RanBy (is_of_turn halt) size stops h halt harts b new
 
-abbrev pub machine_determines_turn : ℕ → Line
-machine_determines_turn h = lines.Turn h 1
+abbrev pub one_turn : ℕ → Line
+one_turn h = lines.Turn h 1
 
 -- Turns became part of the history, up to the first halt; where a turn is why, it is one of hart h.
 pub record ToHalt (size : Size) (stops : Stops) (h : ℕ) (halt : Option HaltReason) (old new : Timeline) : Type 0 where
   pub harts : List ℕ
-  pub grew : moments new.history ≡ moments old.history ++ map machine_determines_turn harts
+  pub grew : moments new.history ≡ moments old.history ++ map one_turn harts
   pub ran : (b : Bench) → IsLeft size old b → (after : Bench) × RanTo size stops h halt harts b after × IsLeft size new after
 
 -- ---- how the code finds it

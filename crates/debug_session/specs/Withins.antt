@@ -15,7 +15,7 @@ use Rattle.debug_session.specs.declared.forth.StepRange.{StepRange}
 use Rattle.debug_session.specs.declared.halts.HaltReason.{HaltReason}
 use Rattle.debug_session.specs.declared.session.SessionPlan.{SessionPlan}
 use Rattle.debug_session.specs.declared.halts.HaltReason.TheVariants as halts
-use Rattle.debug_session.specs.Firsts.{is_of_turn, machine_determines_turn}
+use Rattle.debug_session.specs.Firsts.{is_of_turn, one_turn}
 
 -- addresses within which a hart steps, with as many turns as a plan has
 abbrev pub within_plan : ℕ → ℕ → SessionPlan → StepRange
@@ -63,12 +63,12 @@ StepsTo size within h halt n b new =
 -- They became part of the history.
 pub record StepsWithin (size : Size) (within : StepRange) (h : ℕ) (halt : HaltReason) (old new : Timeline) : Type 0 where
   pub count : ℕ
-  pub grew : moments new.history ≡ moments old.history ++ replicate count (machine_determines_turn h)
+  pub grew : moments new.history ≡ moments old.history ++ replicate count (one_turn h)
   pub ran : (b : Bench) → IsLeft size old b → (after : Bench) × StepsTo size within h halt count b after × IsLeft size new after
 
 -- turns behind which the hart steps on became part of the history
 pub record StayedWithin (size : Size) (within : StepRange) (h count : ℕ) (old new : Timeline) : Type 0 where
-  pub grew : moments new.history ≡ moments old.history ++ replicate count (machine_determines_turn h)
+  pub grew : moments new.history ≡ moments old.history ++ replicate count (one_turn h)
   pub ran : (b : Bench) → IsLeft size old b → (after : Bench) × StaysWithin size within h count b after × IsLeft size new after
 
 -- ---- one turn at most

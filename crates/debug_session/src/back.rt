@@ -1,14 +1,13 @@
 //! Running back: where the way back ends.
 
-ghost use Rattle.std.specs.Prelude.{◌≡◌, ◌⊎◌, ◌<◌, All, replicate, take, IfOk, IfErr, IfSome, IfNone, OnOk};
+ghost use Rattle.std.specs.Prelude.{◌≡◌, ◌⊎◌, ◌<◌, All, replicate, take, IfOk, IfSome, IfNone, OnOk};
 ghost use Rattle.board_model.specs.Shapes.{Size};
-ghost use Rattle.board_model.specs.declared.refusal.Refusal.TheVariants.{Memory};
 ghost use Rattle.bench_live.specs.Notes.{AreInRange};
 ghost use Rattle.bench_live.specs.Pasts.{moments, singles};
 ghost use Rattle.bench_report.specs.Bench.{Bench, bench_with};
 ghost use Rattle.debug_session.specs.Ats.{IsAt, IsPlace};
 ghost use Rattle.debug_session.specs.Backs.{BackTo, FoundIn, FoundOf, IfEnded, IsEnd, IsRowPast, IsSeen, MayMove, StaysBack, halt_back, later_place, later_turn};
-ghost use Rattle.debug_session.specs.Firsts.{machine_determines_turn};
+ghost use Rattle.debug_session.specs.Firsts.{one_turn};
 ghost use Rattle.debug_session.specs.Steps.{MakesNone};
 ghost use Rattle.debug_session.specs.Lives.{IsSound, Shows};
 ghost use Rattle.script_lang.specs.Lines.{IsLineInRange};
@@ -19,9 +18,10 @@ use crate::replays::replay;
 use crate::stops::{Stops, Watchpoint, first_touched};
 use crate::timeline::Timeline;
 use bench_report::Setting;
-use board_model::{HartId, Refusal};
+use board_model::HartId;
 use crew::Crew;
 use script_lang::Line;
+use std::alloc::AllocError;
 use std::sync::atomic::{AtomicBool, Ordering};
 
 /// A place in a history: a line, and how many of its turns stand before it.
@@ -88,12 +88,11 @@ fn seen_back<C: Crew>(
     stops: &Stops,
     bench: &mut DebuggedBench,
     hart: HartId,
-) -> Result<Option<HaltReason>, Refusal>
+) -> Result<Option<HaltReason>, AllocError>
     requires sound { IsSound bench.old }
     ensures seen { IfOk result (λ halt. (size : Size) (b : Bench) → Shows size b bench.old → (new : Bench)
-        × (MayMove size (machine_determines_turn hart) b new × IsSeen halt stops.now hart b new) × Shows size new bench.new) }
+        × (MayMove size (one_turn hart) b new × IsSeen halt stops.now hart b new) × Shows size new bench.new) }
     ensures sound { OnOk result (IsSound bench.new) }
-    ensures refused { IfErr result (λ e. e ≡ Memory) }
 {
     let load = bench.next_load(hart);
     let stands = bench.stands_at(hart, stops.points());
@@ -139,13 +138,12 @@ fn last_halt_in<C: Crew>(
     bench: &mut DebuggedBench,
     hart: HartId,
     turns: u32,
-) -> Result<Option<(u32, Stop)>, Refusal>
+) -> Result<Option<(u32, Stop)>, AllocError>
     requires sound { IsSound bench.old }
     ensures within { IfOk result (λ found. IfSome found (λ f. (f.1.hart ≡ hart) × (f.0 < turns))) }
     ensures found { IfOk result (λ found. (size : Size) (b : Bench) → Shows size b bench.old → (new : Bench)
-        × FoundIn size stops.now found (replicate turns (machine_determines_turn hart)) b new × Shows size new bench.new) }
+        × FoundIn size stops.now found (replicate turns (one_turn hart)) b new × Shows size new bench.new) }
     ensures sound { OnOk result (IsSound bench.new) }
-    ensures refused { IfErr result (λ e. e ≡ Memory) }
 {
     let mut found = None;
     for k in 0..turns {
@@ -161,14 +159,13 @@ fn last_halt_of<C: Crew>(
     stops: &Stops,
     bench: &mut DebuggedBench,
     line: &Line,
-) -> Result<Option<(u32, Stop)>, Refusal>
+) -> Result<Option<(u32, Stop)>, AllocError>
     requires range { IsLineInRange setting.now.shape.now line.now }
     requires sound { IsSound bench.old }
     ensures row { IfOk result (λ found. IfSome found (IsRowPast line.now)) }
     ensures found { IfOk result (λ found. (b : Bench) → Shows setting.now.shape.now b bench.old → (new : Bench)
         × FoundIn setting.now.shape.now stops.now found (singles line.now) b new × Shows setting.now.shape.now new bench.new) }
     ensures sound { OnOk result (IsSound bench.new) }
-    ensures refused { IfErr result (λ e. e ≡ Memory) }
 {
     match line {
         Line::Turn(hart, count) => last_halt_in(setting, stops, bench, *hart, *count),
@@ -187,7 +184,7 @@ fn last_halt_along<C: Crew>(
     timeline: &Timeline,
     interrupt: &AtomicBool,
     bench: &mut DebuggedBench,
-) -> Result<Way, Refusal>
+) -> Result<Way, AllocError>
     requires ranges { AreInRange setting.now.shape.now timeline.now.history }
     requires shows { Shows setting.now.shape.now (bench_with timeline.now.begins) bench.old }
     requires sound { IsSound bench.old }
@@ -195,7 +192,6 @@ fn last_halt_along<C: Crew>(
         place.turns timeline.now.history))) }
     ensures found { IfOk result (λ way. IfEnded way (λ found. (last : Bench) × FoundOf setting.now.shape.now stops.now found
         timeline.now.history (moments timeline.now.history) (bench_with timeline.now.begins) last)) }
-    ensures refused { IfErr result (λ e. e ≡ Memory) }
 {
     let mut found = None;
     let lines = timeline.lines();
@@ -215,13 +211,12 @@ fn last_halt<C: Crew>(
     stops: &Stops,
     timeline: &Timeline,
     interrupt: &AtomicBool,
-) -> Result<Way, Refusal>
+) -> Result<Way, AllocError>
     requires ranges { AreInRange setting.now.shape.now timeline.now.history }
     ensures place { IfOk result (λ way. IfEnded way (λ found. IfSome found (λ place. IsPlace place.stop.hart place.line
         place.turns timeline.now.history))) }
     ensures found { IfOk result (λ way. IfEnded way (λ found. (last : Bench) × FoundOf setting.now.shape.now stops.now found
         timeline.now.history (moments timeline.now.history) (bench_with timeline.now.begins) last)) }
-    ensures refused { IfErr result (λ e. e ≡ Memory) }
 {
     let mut bench = DebuggedBench::blank(setting.alloc, setting.shape, timeline.begins())?;
     let way = last_halt_along(setting, stops, timeline, interrupt, &mut bench);
@@ -236,14 +231,13 @@ fn place_back<C: Crew>(
     stops: &Stops,
     timeline: &Timeline,
     interrupt: &AtomicBool,
-) -> Result<Way, Refusal>
+) -> Result<Way, AllocError>
     requires ranges { AreInRange setting.now.shape.now timeline.now.history }
     ensures place { IfOk result (λ way. IfEnded way (λ found. IfSome found (λ place. IsPlace place.stop.hart place.line
         place.turns timeline.now.history))) }
     ensures end { IfOk result (λ way. IfEnded way (λ found. IfSome found (λ place. IsEnd setting.now.shape.now stops.now
         place timeline.now.history (bench_with timeline.now.begins)))) }
     ensures none { IfOk result (λ way. IfEnded way (λ found. IfNone found (All MakesNone timeline.now.history))) }
-    ensures refused { IfErr result (λ e. e ≡ Memory) }
 {
     let Way::Ended(found) = last_halt(setting, stops, timeline, interrupt)? else {
         return Ok(Way::Interrupted);
@@ -263,7 +257,7 @@ pub(crate) fn go_back<C: Crew>(
     timeline: &mut Timeline,
     hart: HartId,
     interrupt: &AtomicBool,
-) -> Result<Stop, Refusal>
+) -> Result<Stop, AllocError>
     requires at { IsAt setting.now.shape.now timeline.old }
     requires hart { hart < setting.now.shape.now.harts }
     ensures at { OnOk result (IsAt setting.now.shape.now timeline.new) }
@@ -271,7 +265,6 @@ pub(crate) fn go_back<C: Crew>(
         ⊎ StaysBack stop hart timeline.old timeline.new) }
     ensures there { IfOk result (λ stop. stop.hart < setting.now.shape.now.harts) }
     ensures begins { timeline.new.begins ≡ timeline.old.begins }
-    ensures refused { IfErr result (λ e. e ≡ Memory) }
 {
     let Way::Ended(found) = place_back(setting, stops, timeline, interrupt)? else {
         return Ok(Stop {

@@ -1,16 +1,16 @@
 //! Where a history stands: how many turns and lives it has, and where one of its turns is.
 
 ghost use Rattle.std.specs.Prelude.{◌≡◌, ◌≤◌, ◌<◌, ◌+◌, ◌-◌, ℕ, take, min, IfNone, IfOk, IfErr, IfSome, OnOk};
-ghost use Rattle.board_model.specs.declared.refusal.Refusal.TheVariants.{Memory};
 ghost use Rattle.debug_session.specs.Ats.{IsAt, IsPlace};
 ghost use Rattle.script_lang.specs.declared.line.Line.TheVariants as lines;
 ghost use Rattle.debug_session.specs.Turns.{WentTo, begins_life, lives_begun, turns_made, turns_of, turns_told};
 
 use crate::timeline::Timeline;
 use bench_report::Setting;
-use board_model::{HartId, Refusal};
+use board_model::HartId;
 use crew::Crew;
 use script_lang::Line;
+use std::alloc::AllocError;
 
 /// How many turns a line makes.
 fn turns_of(line: &Line) -> u32
@@ -119,12 +119,11 @@ pub(crate) fn go_to<C: Crew>(
     setting: &Setting<'_, C>,
     timeline: &mut Timeline,
     turns: u64,
-) -> Result<bool, Refusal>
+) -> Result<bool, AllocError>
     requires at { IsAt setting.now.shape.now timeline.old }
     ensures at { OnOk result (IsAt setting.now.shape.now timeline.new) }
     ensures went { IfOk result (λ found. WentTo turns found timeline.old timeline.new) }
     ensures begins { timeline.new.begins ≡ timeline.old.begins }
-    ensures refused { IfErr result (λ e. e ≡ Memory) }
 {
     let Some(found) = turn_behind(timeline.lines(), turns) else {
         return Ok(false);

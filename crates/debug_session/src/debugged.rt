@@ -1,9 +1,8 @@
 //! The bench of a debugger between two lines.
 //! A law runs nothing, and tells the prover a fact: `rows_join`, `idle_turns_change_nothing`.
 
-ghost use Rattle.std.specs.Prelude.{◌≡◌, ◌⊎◌, ◌≤◌, ◌<◌, ◌+◌, ℕ, true, false, None, IfOk, IfErr, OnOk};
+ghost use Rattle.std.specs.Prelude.{◌≡◌, ◌⊎◌, ◌≤◌, ◌<◌, ◌+◌, ℕ, true, false, None, IfOk, OnOk};
 ghost use Rattle.board_model.specs.Shapes.{Size};
-ghost use Rattle.board_model.specs.declared.refusal.Refusal.TheVariants.{Memory};
 ghost use Rattle.bench_report.specs.Agree.{fill_after};
 ghost use Rattle.bench_report.specs.Bench.{Bench, bench_with};
 ghost use Rattle.bench_report.specs.Steps.{Moves};
@@ -17,10 +16,10 @@ ghost use Rattle.simdisk.specs.declared.fill.Fill.TheVariants as fills;
 use bench_live::{LiveBench, TurnRow, idle_turns_change_nothing, rows_join};
 use bench_report::{Answer, Power, Setting};
 use board::Payloads;
-use board_model::{HartId, Refusal, Shape};
+use board_model::{HartId, Shape};
 use crew::Crew;
 use script_lang::Line;
-use std::alloc::Global;
+use std::alloc::{AllocError, Global};
 
 /// A bench under way.
 #[derive(Drop)]
@@ -42,11 +41,14 @@ enum Next {
 
 impl DebuggedBench {
     /// The bench before its first line: a blank disk of the size that the board needs, and these payloads.
-    pub fn blank(alloc: Global, shape: &Shape, begins: &Payloads) -> Result<DebuggedBench, Refusal>
+    pub fn blank(
+        alloc: Global,
+        shape: &Shape,
+        begins: &Payloads,
+    ) -> Result<DebuggedBench, AllocError>
         ensures shows { IfOk result (Shows shape.now (bench_with begins.now)) }
         ensures sound { IfOk result IsSound }
         ensures fill { IfOk result (λ bench. bench.live.fill ≡ fills.Old) }
-        ensures refused { IfErr result (λ e. e ≡ Memory) }
     {
         let live = LiveBench::blank(alloc, shape, begins)?;
         Ok(DebuggedBench { live })
@@ -55,16 +57,19 @@ impl DebuggedBench {
     /// Lets go of a bench. That of its board's many parts is proved here, and not for each function that has a bench.
     pub(crate) fn release(self) {}
 
-    /// Runs a line, as `bench_report::line_with_cuts` does. Refused `Memory` alone, where a payload or a poke found
-    /// none; then the bench is of no use.
-    pub fn run<C: Crew>(&mut self, setting: &Setting<'_, C>, line: &Line) -> Result<Answer, Refusal>
+    /// Runs a line, as `bench_report::line_with_cuts` does. Refused where a payload or a poke found no memory; then the bench is of no
+    /// use.
+    pub fn run<C: Crew>(
+        &mut self,
+        setting: &Setting<'_, C>,
+        line: &Line,
+    ) -> Result<Answer, AllocError>
         requires range { IsLineInRange setting.now.shape.now line.now }
         requires sound { IsSound self.old }
         ensures reported { IfOk result (λ answer. (b : Bench) → Shows setting.now.shape.now b self.old
             → (new : Bench) × Moves setting.now.shape.now line.now b answer new × Shows setting.now.shape.now new self.new) }
         ensures sound { OnOk result (IsSound self.new) }
         ensures fill { self.new.live.fill ≡ fill_after line.now self.old.live.fill }
-        ensures refused { IfErr result (λ e. e ≡ Memory) }
     {
         self.live.run(setting, line)
     }

@@ -1,7 +1,6 @@
 //! Running forward: turns of one hart, and of harts in turn.
 
-ghost use Rattle.std.specs.Prelude.{◌≡◌, ◌≤◌, ◌<◌, ◌+◌, ℕ, true, false, slice_index_or, None, Some, IfOk, IfErr, IfSome, OnOk};
-ghost use Rattle.board_model.specs.declared.refusal.Refusal.TheVariants.{Memory};
+ghost use Rattle.std.specs.Prelude.{◌≡◌, ◌≤◌, ◌<◌, ◌+◌, ℕ, true, false, slice_index_or, None, Some, IfOk, OnOk};
 ghost use Rattle.bench_live.specs.declared.rows.TurnRow.{TurnRow};
 ghost use Rattle.debug_session.specs.Ats.{IsAt};
 ghost use Rattle.debug_session.specs.Steps.{IsStep, Went, halt_step};
@@ -12,17 +11,16 @@ ghost use Rattle.debug_session.specs.Lives.{machine_of, pc_in, stands_in};
 use crate::halts::{HaltReason, Stop};
 use crate::loads::Load;
 use crate::orders::{Ahead, ScriptOrder};
+use crate::rounds::{NextPart, Round};
 use crate::stops::{SeenBytes, Stops, Watchpoint, first_touched};
 use crate::timeline::Timeline;
 use bench_live::TurnRow;
 use bench_report::{Answer, Setting};
-use board_model::{HartId, Refusal, Shape};
+use board_model::HartId;
 use crew::Crew;
 use machine::{Did, Word};
+use std::alloc::AllocError;
 use std::sync::atomic::{AtomicBool, Ordering};
-
-/// The most turns of a hart before the next one's.
-const MOST_TURNS: u32 = 1_000_000;
 
 /// What came of a hart's part of a round.
 #[derive(Clone, Copy, Drop)]
@@ -41,110 +39,6 @@ pub(crate) struct StepRange {
     pub(crate) first: u64,
     pub(crate) end: u64,
     pub(crate) most: u64,
-}
-
-/// The next part of a round.
-#[derive(Clone, Copy, Drop)]
-pub(crate) struct NextPart {
-    /// The hart whose part it is.
-    pub(crate) hart: HartId,
-    /// How many turns it may have.
-    pub(crate) most: u32,
-}
-
-/// A round of harts that run in turn.
-#[derive(Clone, Copy, Drop)]
-pub(crate) struct Round {
-    /// Which may run.
-    pub(crate) harts: [bool; 8],
-    /// The number of the hart whose part is next.
-    pub(crate) place: u64,
-    /// How many turns each makes before the next one's.
-    pub(crate) quantum: u32,
-    /// How many turns may still be made.
-    pub(crate) left: u64,
-    /// How many parts without a turn came one after another.
-    pub(crate) resting: u32,
-}
-
-impl Round {
-    /// A part of that hart, where the board has it and it may run.
-    fn part_of(&self, shape: &Shape, number: u64, most: u32) -> Option<NextPart>
-        ensures hart { IfSome result (λ part. (part.hart < shape.now.harts) × (slice_index_or self.now.harts part.hart false ≡ true)) }
-        ensures most { IfSome result (λ part. (part.most ≤ self.now.left) × (part.most ≤ 1000000)) }
-    {
-        let hart = shape.hart(number)?;
-        if self.harts[hart.index()] {
-            Some(NextPart {
-                hart,
-                most: self.turns().min(most),
-            })
-        } else {
-            None
-        }
-    }
-
-    /// The part that an order has next, where its hart may run.
-    fn ahead(&self, shape: &Shape, ahead: &Option<Ahead>) -> Option<NextPart>
-        ensures hart { IfSome result (λ part. (part.hart < shape.now.harts) × (slice_index_or self.now.harts part.hart false ≡ true)) }
-        ensures most { IfSome result (λ part. (part.most ≤ self.now.left) × (part.most ≤ 1000000)) }
-    {
-        match ahead {
-            Some(Ahead::Turns(hart, turns)) => {
-                self.part_of(shape, u64::from(hart.number()), *turns)
-            }
-            _ => None,
-        }
-    }
-
-    /// The part that is next, where its hart may run: the one that an order has next, or else that of the hart whose part comes; then comes
-    /// the one behind it.
-    fn next(&mut self, shape: &Shape, ahead: &Option<Ahead>) -> Option<NextPart>
-        requires few { self.old.resting < 8 }
-        ensures hart { IfSome result (λ part. (part.hart < shape.now.harts) × (slice_index_or self.old.harts part.hart false ≡ true)) }
-        ensures most { IfSome result (λ part. (part.most ≤ self.old.left) × (part.most ≤ 1000000)) }
-        ensures harts { self.new.harts ≡ self.old.harts }
-        ensures left { self.new.left ≡ self.old.left }
-        ensures resting { self.new.resting ≡ self.old.resting + 1 }
-    {
-        self.resting += 1;
-        if let Some(part) = self.ahead(shape, ahead) {
-            return Some(part);
-        }
-        let number = self.place % u64::from(shape.harts());
-        self.place = number + 1;
-        self.part_of(shape, number, MOST_TURNS)
-    }
-
-    /// How many turns the next part may have.
-    fn turns(&self) -> u32
-        ensures left { result ≤ self.now.left }
-        ensures few { result ≤ 1000000 }
-    {
-        let most = if self.quantum < MOST_TURNS {
-            self.quantum
-        } else {
-            MOST_TURNS
-        };
-        if self.left < u64::from(most) {
-            self.left as u32
-        } else {
-            most
-        }
-    }
-
-    /// A part made so many turns.
-    fn made(&mut self, count: u32)
-        requires left { count ≤ self.old.left }
-        ensures harts { self.new.harts ≡ self.old.harts }
-        ensures left { self.new.left + count ≡ self.old.left }
-        ensures resting { self.new.resting ≤ self.old.resting }
-    {
-        self.left -= u64::from(count);
-        if 0 < count {
-            self.resting = 0;
-        }
-    }
 }
 
 /// Whether everything halts behind a turn of which this is said: the board dozes, or its life is over.
@@ -220,7 +114,7 @@ fn stretch<C: Crew>(
     hart: HartId,
     most: u32,
     told: &mut Vec<Answer>,
-) -> Result<RoundPart, Refusal>
+) -> Result<RoundPart, AllocError>
     requires at { IsAt setting.now.shape.now timeline.old }
     requires hart { hart < setting.now.shape.now.harts }
     requires most { most ≤ 1000000 }
@@ -228,7 +122,6 @@ fn stretch<C: Crew>(
     ensures made { IfOk result (λ part. Stretched setting.now.shape.now hart most points.now part.made part.rests part.halt
         timeline.old timeline.new) }
     ensures begins { timeline.new.begins ≡ timeline.old.begins }
-    ensures refused { IfErr result (λ e. e ≡ Memory) }
 {
     let (row, rests) = timeline.turns_to(setting, hart, most, points)?;
     let halt = halt_behind(timeline, points, hart, row, rests);
@@ -251,7 +144,7 @@ fn loading_turn<C: Crew>(
     hart: HartId,
     load: &Option<Load>,
     told: &mut Vec<Answer>,
-) -> Result<RoundPart, Refusal>
+) -> Result<RoundPart, AllocError>
     requires at { IsAt setting.now.shape.now timeline.old }
     requires hart { hart < setting.now.shape.now.harts }
     requires reads { ReadsAs (machine_of timeline.old.bench) hart (seen_in before.now.items) load.now }
@@ -264,7 +157,6 @@ fn loading_turn<C: Crew>(
     ensures tells { IfOk result (λ part. (part.made ≡ 0 → ⊥) → part.halt ≡ None
         → TellsTouched (machine_of timeline.new.bench) stops.now.watches.items (seen_in before.now.items)) }
     ensures begins { timeline.new.begins ≡ timeline.old.begins }
-    ensures refused { IfErr result (λ e. e ≡ Memory) }
 {
     let part = stretch(setting, stops.points(), timeline, hart, 1, told)?;
     let touched = touched_behind(timeline, part.made, *load, before);
@@ -284,7 +176,7 @@ fn watched_turn<C: Crew>(
     timeline: &mut Timeline,
     hart: HartId,
     told: &mut Vec<Answer>,
-) -> Result<RoundPart, Refusal>
+) -> Result<RoundPart, AllocError>
     requires at { IsAt setting.now.shape.now timeline.old }
     requires hart { hart < setting.now.shape.now.harts }
     requires tells { TellsTouched (machine_of timeline.old.bench) stops.now.watches.items (seen_in before.now.items) }
@@ -296,7 +188,6 @@ fn watched_turn<C: Crew>(
     ensures tells { IfOk result (λ part. (part.made ≡ 0 → ⊥) → part.halt ≡ None
         → TellsTouched (machine_of timeline.new.bench) stops.now.watches.items (seen_in before.now.items)) }
     ensures begins { timeline.new.begins ≡ timeline.old.begins }
-    ensures refused { IfErr result (λ e. e ≡ Memory) }
 {
     let load = timeline.load_among(hart, before);
     loading_turn(setting, stops, before, timeline, hart, &load, told)
@@ -310,13 +201,12 @@ fn watched_part<C: Crew>(
     hart: HartId,
     most: u32,
     told: &mut Vec<Answer>,
-) -> Result<RoundPart, Refusal>
+) -> Result<RoundPart, AllocError>
     requires at { IsAt setting.now.shape.now timeline.old }
     requires hart { hart < setting.now.shape.now.harts }
     ensures went { IfOk result (λ part. Went (λ h. h ≡ hart) part.made setting.now.shape.now timeline.old timeline.new) }
     ensures first { IfOk result (λ part. ToHalt setting.now.shape.now stops.now hart part.halt timeline.old timeline.new) }
     ensures few { IfOk result (λ part. part.made ≤ most) }
-    ensures refused { IfErr result (λ e. e ≡ Memory) }
 {
     let before = stops.watched(setting.alloc, timeline.bench())?;
     let mut sum = 0;
@@ -346,14 +236,13 @@ fn run_part<C: Crew>(
     hart: HartId,
     most: u32,
     told: &mut Vec<Answer>,
-) -> Result<RoundPart, Refusal>
+) -> Result<RoundPart, AllocError>
     requires at { IsAt setting.now.shape.now timeline.old }
     requires hart { hart < setting.now.shape.now.harts }
     requires most { most ≤ 1000000 }
     ensures went { IfOk result (λ part. Went (λ h. h ≡ hart) part.made setting.now.shape.now timeline.old timeline.new) }
     ensures first { IfOk result (λ part. ToHalt setting.now.shape.now stops.now hart part.halt timeline.old timeline.new) }
     ensures few { IfOk result (λ part. part.made ≤ most) }
-    ensures refused { IfErr result (λ e. e ≡ Memory) }
 {
     if stops.watch() {
         watched_part(setting, stops, timeline, hart, most, told)
@@ -369,7 +258,7 @@ pub(crate) fn step<C: Crew>(
     timeline: &mut Timeline,
     hart: HartId,
     told: &mut Vec<Answer>,
-) -> Result<Stop, Refusal>
+) -> Result<Stop, AllocError>
     requires at { IsAt setting.now.shape.now timeline.old }
     requires hart { hart < setting.now.shape.now.harts }
     ensures at { OnOk result (IsAt setting.now.shape.now timeline.new) }
@@ -377,7 +266,6 @@ pub(crate) fn step<C: Crew>(
     ensures first { IfOk result (λ stop. ToHalt setting.now.shape.now stops.now stop.hart (Some stop.halt) timeline.old timeline.new) }
     ensures there { IfOk result (λ stop. stop.hart ≡ hart) }
     ensures begins { timeline.new.begins ≡ timeline.old.begins }
-    ensures refused { IfErr result (λ e. e ≡ Memory) }
 {
     let before = stops.watched(setting.alloc, timeline.bench())?;
     let part = watched_turn(setting, stops, &before, timeline, hart, told)?;
@@ -415,14 +303,13 @@ pub(crate) fn step_within<C: Crew>(
     within: StepRange,
     interrupt: &AtomicBool,
     told: &mut Vec<Answer>,
-) -> Result<Stop, Refusal>
+) -> Result<Stop, AllocError>
     requires at { IsAt setting.now.shape.now timeline.old }
     requires hart { hart < setting.now.shape.now.harts }
     ensures went { OnOk result ((n : ℕ) × (n ≤ within.most) × Went (λ h. h ≡ hart) n setting.now.shape.now timeline.old timeline.new) }
     ensures first { IfOk result (λ stop. ToHalt setting.now.shape.now stops.now stop.hart (Some stop.halt) timeline.old timeline.new) }
     ensures within { IfOk result (λ stop. StepsWithin setting.now.shape.now within hart stop.halt timeline.old timeline.new) }
     ensures there { IfOk result (λ stop. stop.hart ≡ hart) }
-    ensures refused { IfErr result (λ e. e ≡ Memory) }
 {
     let before = stops.watched(setting.alloc, timeline.bench())?;
     let mut done = 0;
@@ -473,7 +360,7 @@ fn round_part<C: Crew>(
     part: NextPart,
     round: &mut Round,
     told: &mut Vec<Answer>,
-) -> Result<Option<HaltReason>, Refusal>
+) -> Result<Option<HaltReason>, AllocError>
     requires at { IsAt setting.now.shape.now timeline.old }
     requires hart { part.hart < setting.now.shape.now.harts }
     requires most { (part.most ≤ round.old.left) × (part.most ≤ 1000000) }
@@ -482,7 +369,6 @@ fn round_part<C: Crew>(
     ensures first { IfOk result (λ halt. ToHalt setting.now.shape.now stops.now part.hart halt timeline.old timeline.new) }
     ensures harts { OnOk result (round.new.harts ≡ round.old.harts) }
     ensures resting { OnOk result (round.new.resting ≤ round.old.resting) }
-    ensures refused { IfErr result (λ e. e ≡ Memory) }
 {
     let did = run_part(setting, stops, timeline, part.hart, part.most, told)?;
     round.made(did.made);
@@ -500,7 +386,7 @@ pub(crate) fn go<C: Crew>(
     round: Round,
     interrupt: &AtomicBool,
     told: &mut Vec<Answer>,
-) -> Result<Stop, Refusal>
+) -> Result<Stop, AllocError>
     requires at { IsAt setting.now.shape.now timeline.old }
     requires first { first < setting.now.shape.now.harts }
     requires rested { round.resting ≡ 0 }
@@ -508,7 +394,6 @@ pub(crate) fn go<C: Crew>(
         × Went (λ h. slice_index_or round.harts h false ≡ true) n setting.now.shape.now timeline.old timeline.new) }
     ensures first { IfOk result (λ stop. ToHalt setting.now.shape.now stops.now stop.hart (Some stop.halt) timeline.old timeline.new) }
     ensures there { IfOk result (λ stop. stop.hart < setting.now.shape.now.harts) }
-    ensures refused { IfErr result (λ e. e ≡ Memory) }
 {
     let mut round = round;
     'parts: for _ in 0..u64::MAX {

@@ -15,8 +15,10 @@ mod looks;
 mod orders;
 mod reads;
 mod replays;
+mod rounds;
 mod script;
 mod session;
+mod starts;
 mod stops;
 mod timeline;
 

@@ -1,7 +1,6 @@
 //! The order of a script, along which its session goes forward again.
 
-ghost use Rattle.std.specs.Prelude.{◌≡◌, IfErr, OnOk};
-ghost use Rattle.board_model.specs.declared.refusal.Refusal.TheVariants.{Memory};
+ghost use Rattle.std.specs.Prelude.{OnOk};
 ghost use Rattle.bench_live.specs.Notes.{AreInRange};
 ghost use Rattle.debug_session.specs.Lives.{IsSound};
 ghost use Rattle.script_lang.specs.Lines.{IsLineInRange};
@@ -9,7 +8,7 @@ ghost use Rattle.script_lang.specs.Lines.{IsLineInRange};
 use crate::debugged::DebuggedBench;
 use bench_report::Setting;
 use board::Payloads;
-use board_model::{HartId, Refusal};
+use board_model::HartId;
 use crew::Crew;
 use script_lang::{Line, LineText};
 use std::alloc::{AllocError, Global};
@@ -81,11 +80,10 @@ fn busy_of<C: Crew>(
     setting: &Setting<'_, C>,
     line: &Line,
     bench: &mut DebuggedBench,
-) -> Result<u32, Refusal>
+) -> Result<u32, AllocError>
     requires range { IsLineInRange setting.now.shape.now line.now }
     requires sound { IsSound bench.old }
     ensures sound { OnOk result (IsSound bench.new) }
-    ensures refused { IfErr result (λ e. e ≡ Memory) }
 {
     match line {
         Line::Turn(hart, count) => {
@@ -104,10 +102,9 @@ fn busy_along<C: Crew>(
     setting: &Setting<'_, C>,
     lines: &[Line],
     bench: &mut DebuggedBench,
-) -> Result<Vec<u32>, Refusal>
+) -> Result<Vec<u32>, AllocError>
     requires ranges { AreInRange setting.now.shape.now lines.now }
     requires sound { IsSound bench.old }
-    ensures refused { IfErr result (λ e. e ≡ Memory) }
 {
     let mut busy = Vec::new(setting.alloc);
     for line in lines {
@@ -122,9 +119,8 @@ fn busy_in<C: Crew>(
     setting: &Setting<'_, C>,
     begins: &Payloads,
     lines: &[Line],
-) -> Result<Vec<u32>, Refusal>
+) -> Result<Vec<u32>, AllocError>
     requires ranges { AreInRange setting.now.shape.now lines.now }
-    ensures refused { IfErr result (λ e. e ≡ Memory) }
 {
     let mut bench = DebuggedBench::blank(setting.alloc, setting.shape, begins)?;
     let busy = busy_along(setting, lines, &mut bench);
@@ -210,14 +206,13 @@ impl OrderPlace {
 }
 
 impl ScriptOrder {
-    /// The order of these lines, which a history has that begins with these payloads. Refused `Memory` alone.
+    /// The order of these lines, which a history has that begins with these payloads.
     pub(crate) fn new<C: Crew>(
         setting: &Setting<'_, C>,
         begins: &Payloads,
         history: &[Line],
-    ) -> Result<ScriptOrder, Refusal>
+    ) -> Result<ScriptOrder, AllocError>
         requires ranges { AreInRange setting.now.shape.now history.now }
-        ensures refused { IfErr result (λ e. e ≡ Memory) }
     {
         let busy = busy_in(setting, begins, history)?;
         let lines = copied(setting.alloc, history)?;

@@ -1,7 +1,6 @@
 //! A history, run again.
 
-ghost use Rattle.std.specs.Prelude.{◌≡◌, ℕ, List, IfOk, IfErr, OnOk};
-ghost use Rattle.board_model.specs.declared.refusal.Refusal.TheVariants.{Memory};
+ghost use Rattle.std.specs.Prelude.{◌≡◌, ℕ, List, IfOk, OnOk};
 ghost use Rattle.bench_report.specs.Agree.{fill_after, fills_after};
 ghost use Rattle.bench_report.specs.Bench.{Bench, bench_with};
 ghost use Rattle.bench_report.specs.Steps.{Moves};
@@ -15,16 +14,16 @@ ghost use Rattle.simdisk.specs.declared.fill.Fill.TheVariants as fills;
 use crate::debugged::DebuggedBench;
 use bench_report::Setting;
 use board::Payloads;
-use board_model::Refusal;
 use crew::Crew;
 use script_lang::Line;
+use std::alloc::AllocError;
 
 /// Runs a line: whether it is a row of turns with which a further one is one row.
 pub fn replay<C: Crew>(
     setting: &Setting<'_, C>,
     line: &Line,
     bench: &mut DebuggedBench,
-) -> Result<bool, Refusal>
+) -> Result<bool, AllocError>
     requires range { IsLineInRange setting.now.shape.now line.now }
     requires sound { IsSound bench.old }
     ensures moves { IfOk result (λ joins. (b : Bench) → Shows setting.now.shape.now b bench.old
@@ -32,7 +31,6 @@ pub fn replay<C: Crew>(
         × Shows setting.now.shape.now new bench.new × GoesOnBy setting.now.shape.now joins line.now b new) }
     ensures sound { OnOk result (IsSound bench.new) }
     ensures fill { OnOk result (bench.new.live.fill ≡ fill_after line.now bench.old.live.fill) }
-    ensures refused { IfErr result (λ e. e ≡ Memory) }
 {
     match line {
         Line::Turn(hart, count) => {
@@ -51,7 +49,7 @@ fn replay_all<C: Crew>(
     setting: &Setting<'_, C>,
     lines: &[Line],
     bench: &mut DebuggedBench,
-) -> Result<bool, Refusal>
+) -> Result<bool, AllocError>
     requires ranges { AreInRange setting.now.shape.now lines.now }
     requires sound { IsSound bench.old }
     ensures left { IfOk result (λ joins. (begins : List (List ℕ)) → Shows setting.now.shape.now (bench_with begins) bench.old
@@ -59,7 +57,6 @@ fn replay_all<C: Crew>(
         × Joins setting.now.shape.now (bench_with begins) joins lines.now b × Shows setting.now.shape.now b bench.new) }
     ensures sound { OnOk result (IsSound bench.new) }
     ensures fill { OnOk result (bench.new.live.fill ≡ fills_after lines.now bench.old.live.fill) }
-    ensures refused { IfErr result (λ e. e ≡ Memory) }
 {
     let mut joins = false;
     for line in lines {
@@ -69,18 +66,17 @@ fn replay_all<C: Crew>(
 }
 
 /// The bench behind these lines of a script that begins with these payloads, and whether a further turn of the hart
-/// of the last line is one row with it. Refused `Memory` alone.
+/// of the last line is one row with it.
 pub(crate) fn replayed<C: Crew>(
     setting: &Setting<'_, C>,
     begins: &Payloads,
     lines: &[Line],
-) -> Result<(DebuggedBench, bool), Refusal>
+) -> Result<(DebuggedBench, bool), AllocError>
     requires ranges { AreInRange setting.now.shape.now lines.now }
     ensures left { IfOk result (λ did. (b : Bench) × Leaves setting.now.shape.now (bench_with begins.now) lines.now b
         × Joins setting.now.shape.now (bench_with begins.now) did.1 lines.now b × Shows setting.now.shape.now b did.0) }
     ensures sound { IfOk result (λ did. IsSound did.0) }
     ensures fill { IfOk result (λ did. did.0.live.fill ≡ fills_after lines.now fills.Old) }
-    ensures refused { IfErr result (λ e. e ≡ Memory) }
 {
     let mut bench = DebuggedBench::blank(setting.alloc, setting.shape, begins)?;
     match replay_all(setting, lines, &mut bench) {

@@ -1,16 +1,15 @@
 //! A history as a script.
 //! A law runs nothing, and tells the prover a fact: `scripts_read_as_written`.
 
-ghost use Rattle.std.specs.Prelude.{◌≡◌, ◌≤◌, ◌++◌, IfOk, IfErr, OnOk, Ok, string_bytes};
+ghost use Rattle.std.specs.Prelude.{◌≡◌, ◌≤◌, ◌++◌, IfOk, OnOk, Ok, string_bytes};
 ghost use Rattle.board.specs.Boots.{payload_at};
-ghost use Rattle.board_model.specs.declared.refusal.Refusal.TheVariants.{Memory};
 ghost use Rattle.bench_report.specs.Bench.{no_payloads};
 ghost use Rattle.debug_session.specs.Texts.{begin_text, begins_text, history_text, lines_text};
 ghost use Rattle.script_lang.specs.Scripts.{script_of};
 ghost use Rattle.script_lang.specs.Spellings.{IsWritable};
 
 use board::Payloads;
-use board_model::{Refusal, Shape, Slot};
+use board_model::{Shape, Slot};
 use script_lang::{Line, LineText, board_line, scripts_read_as_written};
 use std::alloc::{AllocError, Global};
 
@@ -65,12 +64,11 @@ pub(crate) fn script_of(
     shape: &Shape,
     begins: &Payloads,
     lines: &[Line],
-) -> Result<String, Refusal>
+) -> Result<String, AllocError>
     ensures text { IfOk result (λ text. string_bytes text ≡ history_text shape.now begins.now lines.now) }
     // Where it begins with no payload, it is read back as these lines.
     ensures read { begins.now ≡ no_payloads → IsWritable (record { size = shape.now; lines = lines.now })
         → IfOk result (λ text. script_of (string_bytes text) ≡ Ok (record { size = shape.now; lines = lines.now })) }
-    ensures refused { IfErr result (λ e. e ≡ Memory) }
 {
     scripts_read_as_written();
     let mut text = board_line(alloc, shape)?;

@@ -1,7 +1,6 @@
 //! A board under a debugger.
 
-ghost use Rattle.std.specs.Prelude.{◌≡◌, ◌⊎◌, ◌≤◌, ◌<◌, ◌-◌, ℕ, [], length, replicate, slice_index_or, true, false, string_bytes, Ok, Some, IfOk, IfErr, OnErr, OnOk};
-ghost use Rattle.board_model.specs.declared.refusal.Refusal.TheVariants.{Memory};
+ghost use Rattle.std.specs.Prelude.{◌≡◌, ◌⊎◌, ◌≤◌, ◌<◌, ◌-◌, ℕ, [], length, replicate, slice_index_or, true, false, string_bytes, Ok, Some, IfOk, OnErr, OnOk};
 ghost use Rattle.bench_live.specs.Pasts.{IsBack, NoRow};
 ghost use Rattle.bench_report.specs.Bench.{no_payloads};
 ghost use Rattle.bench_live.specs.Notes.{AreInRange};
@@ -20,18 +19,21 @@ ghost use Rattle.script_lang.specs.Scripts.{script_of};
 ghost use Rattle.script_lang.specs.Spellings.{IsWritable};
 
 use crate::debugged::DebuggedBench;
-use crate::forth::{self, Round, StepRange};
+use crate::forth::{self, StepRange};
 use crate::halts::{HaltReason, Stop};
 use crate::orders::ScriptOrder;
+use crate::rounds::Round;
+use crate::starts::begun;
 use crate::stops::{Stops, Watchpoint};
 use crate::timeline::Timeline;
 use crate::{back, counts, script};
 use bench_report::{Answer, Setting};
 use board::Payloads;
-use board_model::{HartId, Refusal};
+use board_model::HartId;
 use crew::Crew;
 use machine::State;
 use script_lang::Line;
+use std::alloc::AllocError;
 use std::sync::atomic::AtomicBool;
 
 /// How a session goes on.
@@ -54,56 +56,14 @@ pub struct Session<'a, C> {
     stops: Stops,
 }
 
-/// Runs lines from the begin of a timeline on.
-fn run_all<C: Crew>(
-    setting: &Setting<'_, C>,
-    lines: Vec<Line>,
-    timeline: &mut Timeline,
-) -> Result<(), Refusal>
-    requires ranges { AreInRange setting.now.shape.now lines.items }
-    requires at { IsAt setting.now.shape.now timeline.old }
-    requires none { timeline.old.history ≡ [] }
-    ensures at { OnOk result (IsAt setting.now.shape.now timeline.new) }
-    ensures noted { OnOk result (AreNoted lines.items [] timeline.new.history) }
-    ensures begins { OnOk result (timeline.new.begins ≡ timeline.old.begins) }
-    ensures refused { IfErr result (λ e. e ≡ Memory) }
-{
-    for line in lines {
-        timeline.line(setting, line)?;
-    }
-    Ok(())
-}
-
-/// The timeline behind these lines.
-fn begun<C: Crew>(
-    setting: &Setting<'_, C>,
-    begins: Payloads,
-    lines: Vec<Line>,
-) -> Result<Timeline, Refusal>
-    requires ranges { AreInRange setting.now.shape.now lines.items }
-    ensures at { IfOk result (IsAt setting.now.shape.now) }
-    ensures noted { IfOk result (λ t. AreNoted lines.items [] t.history) }
-    ensures begins { IfOk result (λ t. t.begins ≡ begins) }
-    ensures refused { IfErr result (λ e. e ≡ Memory) }
-{
-    let mut timeline = Timeline::blank(setting.alloc, setting.shape, begins)?;
-    match run_all(setting, lines, &mut timeline) {
-        Ok(()) => Ok(timeline),
-        Err(e) => {
-            timeline.release();
-            Err(e)
-        }
-    }
-}
-
 impl<'a, C: Crew> Session<'a, C> {
-    /// A session behind those lines, of a script that begins with these payloads. Refused `Memory` alone.
+    /// A session behind those lines, of a script that begins with these payloads.
     pub fn new(
         setting: Setting<'a, C>,
         plan: SessionPlan,
         begins: Payloads,
         lines: Vec<Line>,
-    ) -> Result<Session<'a, C>, Refusal>
+    ) -> Result<Session<'a, C>, AllocError>
         requires ranges { AreInRange setting.shape.now lines.items }
         ensures at { IfOk result (λ s. IsAt (size_of s) (timeline_of s)) }
         ensures size { IfOk result (λ s. size_of s ≡ setting.entry.shape.now) }
@@ -112,12 +72,11 @@ impl<'a, C: Crew> Session<'a, C> {
         ensures plan { IfOk result (λ s. plan_of s ≡ plan) }
         ensures points { IfOk result (λ s. points_of s ≡ []) }
         ensures watches { IfOk result (λ s. watches_of s ≡ []) }
-        ensures refused { IfErr result (λ e. e ≡ Memory) }
     {
         let timeline = begun(&setting, begins, lines)?;
         let Ok(order) = ScriptOrder::new(&setting, timeline.begins(), timeline.lines()) else {
             timeline.release();
-            return Err(Refusal::Memory);
+            return Err(AllocError);
         };
         Ok(Session {
             setting,
@@ -165,14 +124,13 @@ impl<'a, C: Crew> Session<'a, C> {
 
     /// The text of the history as a script, without a last line feed: `sbibench` runs it to the same reports. Behind
     /// the board line a comment names each payload with which a slot begins, since no line has room for it.
-    pub fn script(&self) -> Result<String, Refusal>
+    pub fn script(&self) -> Result<String, AllocError>
         ensures text { IfOk result (λ text. string_bytes text
             ≡ history_text (size_of self.now) (begins_of self.now) (history_of self.now)) }
         ensures read { begins_of self.now ≡ no_payloads
             → IsWritable (record { size = size_of self.now; lines = history_of self.now })
             → IfOk result (λ text. script_of (string_bytes text)
             ≡ Ok (record { size = size_of self.now; lines = history_of self.now })) }
-        ensures refused { IfErr result (λ e. e ≡ Memory) }
     {
         script::script_of(
             self.setting.alloc,
@@ -191,7 +149,7 @@ impl<'a, C: Crew> Session<'a, C> {
     }
 
     /// Runs a line of the script language, which becomes part of the history: what it says.
-    pub fn line(&mut self, line: Line) -> Result<Answer, Refusal>
+    pub fn line(&mut self, line: Line) -> Result<Answer, AllocError>
         requires at { IsAt (size_of self.old) (timeline_of self.old) }
         requires range { IsLineInRange (size_of self.old) line }
         ensures at { OnOk result (IsAt (size_of self.new) (timeline_of self.new)) }
@@ -200,7 +158,6 @@ impl<'a, C: Crew> Session<'a, C> {
         ensures stops { stops_of self.new ≡ stops_of self.old }
         ensures plan { plan_of self.new ≡ plan_of self.old }
         ensures begins { begins_of self.new ≡ begins_of self.old }
-        ensures refused { IfErr result (λ e. e ≡ Memory) }
     {
         self.order
             .follow(self.setting.alloc, self.timeline.lines(), &line)?;
@@ -213,14 +170,13 @@ impl<'a, C: Crew> Session<'a, C> {
     }
 
     /// Sets a breakpoint, once.
-    pub fn set_point(&mut self, address: u64) -> Result<(), Refusal>
+    pub fn set_point(&mut self, address: u64) -> Result<(), AllocError>
         ensures points { OnOk result (points_of self.new ≡ with_point address (points_of self.old)) }
         ensures unset { OnErr result (points_of self.new ≡ points_of self.old) }
         ensures watches { watches_of self.new ≡ watches_of self.old }
         ensures timeline { timeline_of self.new ≡ timeline_of self.old }
         ensures size { size_of self.new ≡ size_of self.old }
         ensures plan { plan_of self.new ≡ plan_of self.old }
-        ensures refused { IfErr result (λ e. e ≡ Memory) }
     {
         self.stops.set_point(address)
     }
@@ -237,14 +193,13 @@ impl<'a, C: Crew> Session<'a, C> {
     }
 
     /// Watches bytes, once.
-    pub fn set_watch(&mut self, watch: Watchpoint) -> Result<(), Refusal>
+    pub fn set_watch(&mut self, watch: Watchpoint) -> Result<(), AllocError>
         ensures watches { OnOk result (watches_of self.new ≡ with_watch watch (watches_of self.old)) }
         ensures unset { OnErr result (watches_of self.new ≡ watches_of self.old) }
         ensures points { points_of self.new ≡ points_of self.old }
         ensures timeline { timeline_of self.new ≡ timeline_of self.old }
         ensures size { size_of self.new ≡ size_of self.old }
         ensures plan { plan_of self.new ≡ plan_of self.old }
-        ensures refused { IfErr result (λ e. e ≡ Memory) }
     {
         self.stops.set_watch(watch)
     }
@@ -277,7 +232,7 @@ impl<'a, C: Crew> Session<'a, C> {
 
     /// Steps a hart once: `Idle` where it has nothing to do, and `Stepped` where its turn was made. What its turn says is
     /// told where it ends everything, or where the board is off.
-    pub fn step(&mut self, hart: HartId, told: &mut Vec<Answer>) -> Result<Stop, Refusal>
+    pub fn step(&mut self, hart: HartId, told: &mut Vec<Answer>) -> Result<Stop, AllocError>
         requires at { IsAt (size_of self.old) (timeline_of self.old) }
         requires hart { hart < (size_of self.old).harts }
         ensures at { OnOk result (IsAt (size_of self.new) (timeline_of self.new)) }
@@ -289,7 +244,6 @@ impl<'a, C: Crew> Session<'a, C> {
         ensures stops { stops_of self.new ≡ stops_of self.old }
         ensures plan { plan_of self.new ≡ plan_of self.old }
         ensures begins { OnOk result (begins_of self.new ≡ begins_of self.old) }
-        ensures refused { IfErr result (λ e. e ≡ Memory) }
     {
         forth::step(&self.setting, &self.stops, &mut self.timeline, hart, told)
     }
@@ -303,7 +257,7 @@ impl<'a, C: Crew> Session<'a, C> {
         end: u64,
         interrupt: &AtomicBool,
         told: &mut Vec<Answer>,
-    ) -> Result<Stop, Refusal>
+    ) -> Result<Stop, AllocError>
         requires at { IsAt (size_of self.old) (timeline_of self.old) }
         requires hart { hart < (size_of self.old).harts }
         ensures went { OnOk result ((n : ℕ) × (n ≤ self.old.plan.most)
@@ -318,7 +272,6 @@ impl<'a, C: Crew> Session<'a, C> {
         ensures size { size_of self.new ≡ size_of self.old }
         ensures stops { stops_of self.new ≡ stops_of self.old }
         ensures plan { plan_of self.new ≡ plan_of self.old }
-        ensures refused { IfErr result (λ e. e ≡ Memory) }
     {
         let within = StepRange {
             first,
@@ -345,7 +298,7 @@ impl<'a, C: Crew> Session<'a, C> {
         harts: &[bool; 8],
         interrupt: &AtomicBool,
         told: &mut Vec<Answer>,
-    ) -> Result<Stop, Refusal>
+    ) -> Result<Stop, AllocError>
         requires at { IsAt (size_of self.old) (timeline_of self.old) }
         requires first { first < (size_of self.old).harts }
         ensures went { OnOk result ((n : ℕ) × (n ≤ self.old.plan.most)
@@ -356,7 +309,6 @@ impl<'a, C: Crew> Session<'a, C> {
         ensures size { size_of self.new ≡ size_of self.old }
         ensures stops { stops_of self.new ≡ stops_of self.old }
         ensures plan { plan_of self.new ≡ plan_of self.old }
-        ensures refused { IfErr result (λ e. e ≡ Memory) }
     {
         let most = self.plan.most;
         self.go_few(first, *harts, most, interrupt, told)
@@ -370,7 +322,7 @@ impl<'a, C: Crew> Session<'a, C> {
         most: u64,
         interrupt: &AtomicBool,
         told: &mut Vec<Answer>,
-    ) -> Result<Stop, Refusal>
+    ) -> Result<Stop, AllocError>
         requires at { IsAt (size_of self.old) (timeline_of self.old) }
         requires first { first < (size_of self.old).harts }
         ensures went { OnOk result ((n : ℕ) × (n ≤ most)
@@ -381,7 +333,6 @@ impl<'a, C: Crew> Session<'a, C> {
         ensures size { size_of self.new ≡ size_of self.old }
         ensures stops { stops_of self.new ≡ stops_of self.old }
         ensures plan { plan_of self.new ≡ plan_of self.old }
-        ensures refused { IfErr result (λ e. e ≡ Memory) }
     {
         let round = Round {
             harts,
@@ -410,7 +361,7 @@ impl<'a, C: Crew> Session<'a, C> {
         turns: u64,
         interrupt: &AtomicBool,
         told: &mut Vec<Answer>,
-    ) -> Result<Stop, Refusal>
+    ) -> Result<Stop, AllocError>
         requires at { IsAt (size_of self.old) (timeline_of self.old) }
         requires first { first < (size_of self.old).harts }
         ensures went { OnOk result ((n : ℕ) × (n ≤ turns - turns_told (history_of self.old)) × (n ≤ self.old.plan.most)
@@ -421,7 +372,6 @@ impl<'a, C: Crew> Session<'a, C> {
         ensures size { size_of self.new ≡ size_of self.old }
         ensures stops { stops_of self.new ≡ stops_of self.old }
         ensures plan { plan_of self.new ≡ plan_of self.old }
-        ensures refused { IfErr result (λ e. e ≡ Memory) }
     {
         let most = counts::turns_left(self.timeline.lines(), turns, self.plan.most);
         self.go_few(first, [true; 8], most, interrupt, told)
@@ -429,7 +379,7 @@ impl<'a, C: Crew> Session<'a, C> {
 
     /// Goes back to before the last turn of that hart, and forgets it and whatever came after, and nothing else. Where it
     /// made none nothing changes.
-    pub fn step_back(&mut self, hart: HartId) -> Result<Stop, Refusal>
+    pub fn step_back(&mut self, hart: HartId) -> Result<Stop, AllocError>
         requires at { IsAt (size_of self.old) (timeline_of self.old) }
         requires hart { hart < (size_of self.old).harts }
         ensures at { OnOk result (IsAt (size_of self.new) (timeline_of self.new)) }
@@ -441,7 +391,6 @@ impl<'a, C: Crew> Session<'a, C> {
         ensures stops { stops_of self.new ≡ stops_of self.old }
         ensures plan { plan_of self.new ≡ plan_of self.old }
         ensures begins { begins_of self.new ≡ begins_of self.old }
-        ensures refused { IfErr result (λ e. e ≡ Memory) }
     {
         let found = self.timeline.step_back(&self.setting, hart)?;
         let halt = if found {
@@ -455,7 +404,7 @@ impl<'a, C: Crew> Session<'a, C> {
     /// Goes back to before the last turn of which the hart stood at a breakpoint, or that touched a watchpoint;
     /// where there is none, to before the first turn; and forgets whatever came after. Where no turn was made nothing
     /// changes, nor where the interrupt asks that it end, which is looked at before each line of the history.
-    pub fn go_back(&mut self, hart: HartId, interrupt: &AtomicBool) -> Result<Stop, Refusal>
+    pub fn go_back(&mut self, hart: HartId, interrupt: &AtomicBool) -> Result<Stop, AllocError>
         requires at { IsAt (size_of self.old) (timeline_of self.old) }
         requires hart { hart < (size_of self.old).harts }
         ensures at { OnOk result (IsAt (size_of self.new) (timeline_of self.new)) }
@@ -466,7 +415,6 @@ impl<'a, C: Crew> Session<'a, C> {
         ensures stops { stops_of self.new ≡ stops_of self.old }
         ensures plan { plan_of self.new ≡ plan_of self.old }
         ensures begins { OnOk result (begins_of self.new ≡ begins_of self.old) }
-        ensures refused { IfErr result (λ e. e ≡ Memory) }
     {
         back::go_back(
             &self.setting,
@@ -479,7 +427,7 @@ impl<'a, C: Crew> Session<'a, C> {
 
     /// Goes back to before the turn that came behind so many of any harts, and forgets it and whatever came after: whether
     /// there was one. Where there was none nothing changes.
-    pub fn go_to(&mut self, turns: u64) -> Result<bool, Refusal>
+    pub fn go_to(&mut self, turns: u64) -> Result<bool, AllocError>
         requires at { IsAt (size_of self.old) (timeline_of self.old) }
         ensures at { OnOk result (IsAt (size_of self.new) (timeline_of self.new)) }
         ensures went { IfOk result (λ found. WentTo turns found (timeline_of self.old) (timeline_of self.new)) }
@@ -487,7 +435,6 @@ impl<'a, C: Crew> Session<'a, C> {
         ensures stops { stops_of self.new ≡ stops_of self.old }
         ensures plan { plan_of self.new ≡ plan_of self.old }
         ensures begins { begins_of self.new ≡ begins_of self.old }
-        ensures refused { IfErr result (λ e. e ≡ Memory) }
     {
         counts::go_to(&self.setting, &mut self.timeline, turns)
     }

@@ -1,16 +1,14 @@
 //! Where a debugged board halts: at addresses, and where bytes change or are read.
 
-ghost use Rattle.std.specs.Prelude.{◌≡◌, ◌↔◌, ◌+◌, [], All, IsTrue, true, false, ◌==◌, nat_lt, IfErr, IfOk, OnErr, OnOk};
+ghost use Rattle.std.specs.Prelude.{◌≡◌, ◌↔◌, ◌+◌, [], All, IsTrue, true, false, ◌==◌, nat_lt, IfOk, OnErr, OnOk};
 ghost use Rattle.debug_session.specs.Points.{with_point, with_watch, without_point, without_watch};
 ghost use Rattle.debug_session.specs.Firsts.{is_kept, is_read, is_unread, minds_changes, minds_reads, seen_all, seen_by, seen_in, touched_since};
 ghost use Rattle.debug_session.specs.Others.{first_other, other_of};
 ghost use Rattle.debug_session.specs.Lives.{machine_of};
-ghost use Rattle.board_model.specs.declared.refusal.Refusal.TheVariants.{Memory};
 
 use crate::debugged::DebuggedBench;
 use crate::loads::Load;
-use board_model::Refusal;
-use std::alloc::Global;
+use std::alloc::{AllocError, Global};
 
 /// What a watchpoint minds.
 #[derive(Clone, Copy, PartialEq, Eq, Drop)]
@@ -95,11 +93,10 @@ impl Stops {
     }
 
     /// Sets a breakpoint, once.
-    pub(crate) fn set_point(&mut self, address: u64) -> Result<(), Refusal>
+    pub(crate) fn set_point(&mut self, address: u64) -> Result<(), AllocError>
         ensures points { OnOk result (self.new.points.items ≡ with_point address self.old.points.items) }
         ensures unset { OnErr result (self.new.points.items ≡ self.old.points.items) }
         ensures watches { self.new.watches.items ≡ self.old.watches.items }
-        ensures refused { IfErr result (λ e. e ≡ Memory) }
     {
         if !self.points.contains(&address) {
             self.points.push(address)?;
@@ -116,11 +113,10 @@ impl Stops {
     }
 
     /// Watches bytes, once.
-    pub(crate) fn set_watch(&mut self, watch: Watchpoint) -> Result<(), Refusal>
+    pub(crate) fn set_watch(&mut self, watch: Watchpoint) -> Result<(), AllocError>
         ensures watches { OnOk result (self.new.watches.items ≡ with_watch watch self.old.watches.items) }
         ensures unset { OnErr result (self.new.watches.items ≡ self.old.watches.items) }
         ensures points { self.new.points.items ≡ self.old.points.items }
-        ensures refused { IfErr result (λ e. e ≡ Memory) }
     {
         if !self.watches.contains(&watch) {
             self.watches.push(watch)?;
@@ -142,9 +138,8 @@ impl Stops {
         &self,
         alloc: Global,
         bench: &DebuggedBench,
-    ) -> Result<Vec<SeenBytes>, Refusal>
+    ) -> Result<Vec<SeenBytes>, AllocError>
         ensures seen { IfOk result (λ all. seen_in all.items ≡ seen_all (machine_of bench.now) self.now.watches.items) }
-        ensures refused { IfErr result (λ e. e ≡ Memory) }
     {
         let mut all = Vec::new(alloc);
         for watch in &self.watches {

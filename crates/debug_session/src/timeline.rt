@@ -1,8 +1,7 @@
 //! The bench with its history.
 
-ghost use Rattle.std.specs.Prelude.{◌≡◌, ◌⊎◌, ◌≤◌, ◌<◌, ◌++◌, ◌∷◌, [], true, false, take, IfOk, OnOk, IfErr, MatchResult, ⊤};
+ghost use Rattle.std.specs.Prelude.{◌≡◌, ◌⊎◌, ◌≤◌, ◌<◌, ◌++◌, ◌∷◌, [], true, false, take, IfOk, OnOk, MatchResult, ⊤};
 ghost use Rattle.std.specs.Bool.{MatchBool};
-ghost use Rattle.board_model.specs.declared.refusal.Refusal.TheVariants.{Memory};
 ghost use Rattle.bench_live.specs.Pasts.{IsBack, NoRow, some_turns};
 ghost use Rattle.bench_report.specs.Bench.{Bench};
 ghost use Rattle.bench_report.specs.Steps.{Moves};
@@ -21,10 +20,10 @@ use crate::stops::SeenBytes;
 use bench_live::{LineHistory, TurnRow, note};
 use bench_report::{Answer, Setting};
 use board::Payloads;
-use board_model::{HartId, Refusal, Shape};
+use board_model::{HartId, Shape};
 use crew::Crew;
 use script_lang::Line;
-use std::alloc::Global;
+use std::alloc::{AllocError, Global};
 use std::mem::replace;
 
 /// The bench that a history leaves, with that history.
@@ -39,11 +38,10 @@ pub struct Timeline {
 
 impl Timeline {
     /// Before the first line of a script that begins with these payloads.
-    pub fn blank(alloc: Global, shape: &Shape, begins: Payloads) -> Result<Timeline, Refusal>
+    pub fn blank(alloc: Global, shape: &Shape, begins: Payloads) -> Result<Timeline, AllocError>
         ensures at { IfOk result (IsAt shape.now) }
         ensures history { IfOk result (λ t. t.history ≡ []) }
         ensures begins { IfOk result (λ t. t.begins ≡ begins) }
-        ensures refused { IfErr result (λ e. e ≡ Memory) }
     {
         let bench = DebuggedBench::blank(alloc, shape, &begins)?;
         Ok(Timeline {
@@ -88,14 +86,14 @@ impl Timeline {
         self.bench.load_among(hart, before)
     }
 
-    /// Up to so many turns of a hart, which become part of the history: what came of them. Refused `Memory` alone,
-    /// and then the timeline is of no use.
+    /// Up to so many turns of a hart, which become part of the history: what came of them. Where memory is refused the timeline is of no
+    /// use.
     fn turns<C: Crew>(
         &mut self,
         setting: &Setting<'_, C>,
         hart: HartId,
         count: u32,
-    ) -> Result<TurnRow, Refusal>
+    ) -> Result<TurnRow, AllocError>
         requires at { IsAt setting.now.shape.now self.old }
         requires hart { hart < setting.now.shape.now.harts }
         requires count { (1 ≤ count) × (count ≤ 1000000) }
@@ -103,7 +101,6 @@ impl Timeline {
         ensures ran { IfOk result (λ row. Ran setting.now.shape.now (lines.Turn hart count) (row_answer hart row) self.old
             self.new) }
         ensures begins { self.new.begins ≡ self.old.begins }
-        ensures refused { IfErr result (λ e. e ≡ Memory) }
     {
         let row = self.bench.turns(setting, hart, count);
         self.joins = note(&mut self.history, self.joins, hart, row)?;
@@ -111,7 +108,7 @@ impl Timeline {
     }
 
     /// Turns of a hart up to an address, an end, or an idle turn, as `DebuggedBench::turns_to` makes them, which become
-    /// part of the history: what came of them, and whether the next turn is idle. Refused `Memory` alone, and then
+    /// part of the history: what came of them, and whether the next turn is idle. Where memory is refused
     /// the timeline is of no use.
     pub fn turns_to<C: Crew>(
         &mut self,
@@ -119,7 +116,7 @@ impl Timeline {
         hart: HartId,
         most: u32,
         points: &[u64],
-    ) -> Result<(TurnRow, bool), Refusal>
+    ) -> Result<(TurnRow, bool), AllocError>
         requires at { IsAt setting.now.shape.now self.old }
         requires hart { hart < setting.now.shape.now.harts }
         requires most { most ≤ 1000000 }
@@ -129,7 +126,6 @@ impl Timeline {
         ensures why { IfOk result (λ did. did.1 ≡ false
             → (made_in did.0 ≡ most) ⊎ HasHalted hart points.now did.0 (machine_of self.new.bench)) }
         ensures begins { self.new.begins ≡ self.old.begins }
-        ensures refused { IfErr result (λ e. e ≡ Memory) }
     {
         let (row, rests) = self.bench.turns_to(setting, hart, most, points);
         self.joins = note(&mut self.history, self.joins, hart, row)?;
@@ -137,13 +133,12 @@ impl Timeline {
     }
 
     /// Notes a line that was run, and answered that.
-    fn noted(&mut self, line: Line, answer: Answer) -> Result<Answer, Refusal>
+    fn noted(&mut self, line: Line, answer: Answer) -> Result<Answer, AllocError>
         ensures answer { IfOk result (λ said. said ≡ answer) }
         ensures grew { OnOk result (self.new.history ≡ self.old.history ++ line ∷ []) }
         ensures apart { OnOk result (self.new.joins ≡ false) }
         ensures bench { self.new.bench ≡ self.old.bench }
         ensures begins { self.new.begins ≡ self.old.begins }
-        ensures refused { IfErr result (λ e. e ≡ Memory) }
     {
         self.history.add(line)?;
         self.joins = false;
@@ -155,7 +150,7 @@ impl Timeline {
         &mut self,
         setting: &Setting<'_, C>,
         line: Line,
-    ) -> Result<Answer, Refusal>
+    ) -> Result<Answer, AllocError>
         requires at { IsAt setting.now.shape.now self.old }
         requires range { IsLineInRange setting.now.shape.now line }
         ensures at { OnOk result (IsAt setting.now.shape.now self.new) }
@@ -163,7 +158,6 @@ impl Timeline {
             → (new : Bench) × Moves setting.now.shape.now line b answer new × IsLeft setting.now.shape.now self.new new) }
         ensures grew { OnOk result (self.new.history ≡ self.old.history ++ line ∷ []) }
         ensures begins { self.new.begins ≡ self.old.begins }
-        ensures refused { IfErr result (λ e. e ≡ Memory) }
     {
         match self.bench.run(setting, &line) {
             Ok(answer) => self.noted(line, answer),
@@ -172,14 +166,17 @@ impl Timeline {
     }
 
     /// Runs a line, which becomes part of the history: what it says. A row of turns becomes so with as many as were
-    /// made. Refused `Memory` alone, and then the timeline is of no use.
-    pub fn line<C: Crew>(&mut self, setting: &Setting<'_, C>, line: Line) -> Result<Answer, Refusal>
+    /// made. Where memory is refused the timeline is of no use.
+    pub fn line<C: Crew>(
+        &mut self,
+        setting: &Setting<'_, C>,
+        line: Line,
+    ) -> Result<Answer, AllocError>
         requires at { IsAt setting.now.shape.now self.old }
         requires range { IsLineInRange setting.now.shape.now line }
         ensures at { OnOk result (IsAt setting.now.shape.now self.new) }
         ensures ran { IfOk result (λ answer. Ran setting.now.shape.now line answer self.old self.new) }
         ensures begins { self.new.begins ≡ self.old.begins }
-        ensures refused { IfErr result (λ e. e ≡ Memory) }
     {
         match line {
             Line::Turn(hart, count) => {
@@ -191,12 +188,11 @@ impl Timeline {
     }
 
     /// Runs the history again from its begin.
-    fn again<C: Crew>(&mut self, setting: &Setting<'_, C>) -> Result<(), Refusal>
+    fn again<C: Crew>(&mut self, setting: &Setting<'_, C>) -> Result<(), AllocError>
         requires ranges { AreInRange setting.now.shape.now self.old.history }
         ensures at { OnOk result (IsAt setting.now.shape.now self.new) }
         ensures history { self.new.history ≡ self.old.history }
         ensures begins { self.new.begins ≡ self.old.begins }
-        ensures refused { IfErr result (λ e. e ≡ Memory) }
     {
         let (bench, joins) = replayed(setting, &self.begins, self.history.lines())?;
         let before = replace(&mut self.bench, bench);
@@ -206,19 +202,18 @@ impl Timeline {
     }
 
     /// Goes back to before the last turn of that hart, and forgets it and whatever came after it: whether there was
-    /// one. Where there was none nothing changes. Refused `Memory` alone, and then the timeline is of no use.
+    /// one. Where there was none nothing changes. Where memory is refused the timeline is of no use.
     #[tactic(auto, using(crate::proofs::Histories::row_cut_ranges))]
     pub fn step_back<C: Crew>(
         &mut self,
         setting: &Setting<'_, C>,
         hart: HartId,
-    ) -> Result<bool, Refusal>
+    ) -> Result<bool, AllocError>
         requires at { IsAt setting.now.shape.now self.old }
         ensures at { OnOk result (IsAt setting.now.shape.now self.new) }
         ensures back { MatchResult result (λ found. MatchBool found (IsBack hart self.old.history self.new.history)
             (NoRow hart self.old.history × (self.new ≡ self.old))) (λ e. ⊤) }
         ensures begins { self.new.begins ≡ self.old.begins }
-        ensures refused { IfErr result (λ e. e ≡ Memory) }
     {
         if !self.history.step_back(hart)? {
             return Ok(false);
@@ -228,7 +223,7 @@ impl Timeline {
     }
 
     /// Goes back to behind so many first lines and so many turns of that hart in the line behind them, of which it
-    /// has more, and forgets whatever came after. Refused `Memory` alone, and then the timeline is of no use.
+    /// has more, and forgets whatever came after. Where memory is refused the timeline is of no use.
     #[tactic(auto, using(crate::proofs::Histories::cut_ranges, crate::proofs::Histories::place_before))]
     pub fn go_back<C: Crew>(
         &mut self,
@@ -236,14 +231,13 @@ impl Timeline {
         hart: HartId,
         place: usize,
         turns: u32,
-    ) -> Result<(), Refusal>
+    ) -> Result<(), AllocError>
         requires at { IsAt setting.now.shape.now self.old }
         requires row { IsPlace hart place turns self.old.history }
         ensures at { OnOk result (IsAt setting.now.shape.now self.new) }
         ensures history { OnOk result (self.new.history ≡ take place self.old.history ++ some_turns hart turns) }
         ensures back { OnOk result (IsBefore hart self.old.history self.new.history) }
         ensures begins { self.new.begins ≡ self.old.begins }
-        ensures refused { IfErr result (λ e. e ≡ Memory) }
     {
         self.history.cut_to(hart, place, turns)?;
         self.again(setting)

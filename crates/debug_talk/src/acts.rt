@@ -15,22 +15,26 @@ use crate::stops::{idle_text, stop_text, told_of};
 use crate::talk::Talk;
 use crate::texts::{answer_text, tell};
 use bench_report::Answer;
-use board_model::{HartId, Refusal};
+use board_model::HartId;
 use crew::Crew;
 use debug_session::{HaltReason, Stop};
 use gdb_protocol::Move;
 use script_lang::{Line, LineText};
-use std::alloc::Global;
+use std::alloc::{AllocError, Global};
 use std::sync::atomic::AtomicBool;
 
 /// Tells the report of a line.
-fn tell_answer(alloc: Global, answer: &Answer, out: &mut PacketPayloads) -> Result<(), Refusal> {
+fn tell_answer(alloc: Global, answer: &Answer, out: &mut PacketPayloads) -> Result<(), AllocError> {
     let text = answer_text(alloc, answer)?;
     tell(alloc, text.as_bytes(), out)
 }
 
 /// Tells the line with which the script goes on, where there is one.
-fn tell_next(alloc: Global, line: Option<&Line>, out: &mut PacketPayloads) -> Result<(), Refusal> {
+fn tell_next(
+    alloc: Global,
+    line: Option<&Line>,
+    out: &mut PacketPayloads,
+) -> Result<(), AllocError> {
     let Some(line) = line else {
         return Ok(());
     };
@@ -47,7 +51,7 @@ impl<'a, C: Crew> Talk<'a, C> {
         packet: &[u8],
         interrupt: &AtomicBool,
         out: &mut PacketPayloads,
-    ) -> Result<Vec<u8>, Refusal>
+    ) -> Result<Vec<u8>, AllocError>
         requires at { IsAt (size_of self.old.session) (timeline_of self.old.session) }
         requires none { out.old.items ≡ [] }
         ensures at { OnOk result (IsAt (size_of self.new.session) (timeline_of self.new.session)) }
@@ -79,7 +83,7 @@ impl<'a, C: Crew> Talk<'a, C> {
     }
 
     /// `bs`
-    fn step_back(&mut self) -> Result<Vec<u8>, Refusal>
+    fn step_back(&mut self) -> Result<Vec<u8>, AllocError>
         requires at { IsAt (size_of self.old.session) (timeline_of self.old.session) }
         ensures at { OnOk result (IsAt (size_of self.new.session) (timeline_of self.new.session)) }
         ensures size { size_of self.new.session ≡ size_of self.old.session }
@@ -95,7 +99,7 @@ impl<'a, C: Crew> Talk<'a, C> {
     }
 
     /// `bc`
-    fn go_back(&mut self, interrupt: &AtomicBool) -> Result<Vec<u8>, Refusal>
+    fn go_back(&mut self, interrupt: &AtomicBool) -> Result<Vec<u8>, AllocError>
         requires at { IsAt (size_of self.old.session) (timeline_of self.old.session) }
         ensures at { OnOk result (IsAt (size_of self.new.session) (timeline_of self.new.session)) }
         ensures size { size_of self.new.session ≡ size_of self.old.session }
@@ -116,7 +120,7 @@ impl<'a, C: Crew> Talk<'a, C> {
         packet: &[u8],
         interrupt: &AtomicBool,
         out: &mut PacketPayloads,
-    ) -> Result<Vec<u8>, Refusal>
+    ) -> Result<Vec<u8>, AllocError>
         requires at { IsAt (size_of self.old.session) (timeline_of self.old.session) }
         ensures at { OnOk result (IsAt (size_of self.new.session) (timeline_of self.new.session)) }
         ensures size { size_of self.new.session ≡ size_of self.old.session }
@@ -137,7 +141,7 @@ impl<'a, C: Crew> Talk<'a, C> {
     }
 
     /// Steps a hart.
-    fn step(&mut self, hart: HartId, out: &mut PacketPayloads) -> Result<Vec<u8>, Refusal>
+    fn step(&mut self, hart: HartId, out: &mut PacketPayloads) -> Result<Vec<u8>, AllocError>
         requires at { IsAt (size_of self.old.session) (timeline_of self.old.session) }
         requires hart { hart < (size_of self.old.session).harts }
         ensures at { OnOk result (IsAt (size_of self.new.session) (timeline_of self.new.session)) }
@@ -161,7 +165,7 @@ impl<'a, C: Crew> Talk<'a, C> {
         end: u64,
         interrupt: &AtomicBool,
         out: &mut PacketPayloads,
-    ) -> Result<Vec<u8>, Refusal>
+    ) -> Result<Vec<u8>, AllocError>
         requires at { IsAt (size_of self.old.session) (timeline_of self.old.session) }
         requires hart { hart < (size_of self.old.session).harts }
         ensures at { OnOk result (IsAt (size_of self.new.session) (timeline_of self.new.session)) }
@@ -186,7 +190,7 @@ impl<'a, C: Crew> Talk<'a, C> {
         harts: &[bool; 8],
         interrupt: &AtomicBool,
         out: &mut PacketPayloads,
-    ) -> Result<Vec<u8>, Refusal>
+    ) -> Result<Vec<u8>, AllocError>
         requires at { IsAt (size_of self.old.session) (timeline_of self.old.session) }
         requires first { first < (size_of self.old.session).harts }
         ensures at { OnOk result (IsAt (size_of self.new.session) (timeline_of self.new.session)) }
@@ -208,7 +212,7 @@ impl<'a, C: Crew> Talk<'a, C> {
         stop: Stop,
         told: &Vec<Answer>,
         out: &mut PacketPayloads,
-    ) -> Result<Vec<u8>, Refusal>
+    ) -> Result<Vec<u8>, AllocError>
         requires there { stop.hart < (size_of self.old.session).harts }
         ensures same { self.new.session ≡ self.old.session }
         ensures told { IfOk result (λ v. IsTold self.old self.new v.items) }
@@ -231,7 +235,7 @@ impl<'a, C: Crew> Talk<'a, C> {
         stop: Stop,
         told: &Vec<Answer>,
         out: &mut PacketPayloads,
-    ) -> Result<Vec<u8>, Refusal>
+    ) -> Result<Vec<u8>, AllocError>
         requires there { stop.hart < (size_of self.old.session).harts }
         ensures same { self.new.session ≡ self.old.session }
         ensures told { IfOk result (λ v. IsTold self.old self.new v.items) }
@@ -250,7 +254,7 @@ impl<'a, C: Crew> Talk<'a, C> {
     }
 
     /// The board stands so from now on.
-    fn stopped_at(&mut self, stop: Stop) -> Result<Vec<u8>, Refusal>
+    fn stopped_at(&mut self, stop: Stop) -> Result<Vec<u8>, AllocError>
         requires there { stop.hart < (size_of self.old.session).harts }
         ensures same { self.new.session ≡ self.old.session }
         ensures told { IfOk result (λ v. IsTold self.old self.new v.items) }

@@ -14,11 +14,11 @@ ghost use Rattle.gdb_protocol.specs.declared.requests.GdbRequest.TheVariants as 
 
 use crate::replies::payload;
 use crate::talk::Talk;
-use board_model::{HartId, Refusal, Shape};
+use board_model::{HartId, Shape};
 use crew::Crew;
 use debug_session::{HaltReason, Session, Stop};
 use gdb_protocol::{GdbLook, GdbRequest, Move, request_of};
-use std::alloc::Global;
+use std::alloc::{AllocError, Global};
 use std::sync::atomic::AtomicBool;
 
 /// The payloads of packets to be sent, in their order.
@@ -67,12 +67,12 @@ impl<'a, C: Crew> Talk<'a, C> {
 
     /// Answers a packet: the payloads to be sent, in their order. The interrupt stops what goes on.
     ///
-    /// Refused `Memory`, and then the talk is of no use.
+    /// Where memory is refused the talk is of no use.
     pub fn answer(
         &mut self,
         packet: &[u8],
         interrupt: &AtomicBool,
-    ) -> Result<PacketPayloads, Refusal>
+    ) -> Result<PacketPayloads, AllocError>
         requires at { IsAt (size_of (session_in self.old)) (timeline_of (session_in self.old)) }
         ensures at { OnOk result (IsAt (size_of (session_in self.new)) (timeline_of (session_in self.new))) }
         ensures size { size_of (session_in self.new) ≡ size_of (session_in self.old) }
@@ -102,7 +102,7 @@ impl<'a, C: Crew> Talk<'a, C> {
     }
 
     /// Answers what looks: one payload, or none.
-    fn answer_look(&mut self, asked: GdbLook, packet: &[u8]) -> Result<PacketPayloads, Refusal>
+    fn answer_look(&mut self, asked: GdbLook, packet: &[u8]) -> Result<PacketPayloads, AllocError>
         ensures same { timeline_of self.new.session ≡ timeline_of self.old.session }
         ensures size { size_of self.new.session ≡ size_of self.old.session }
         ensures shown { OnOk result (self.new.hart ≡ hart_shown asked (size_of self.old.session) self.old.hart) }
@@ -129,7 +129,7 @@ impl<'a, C: Crew> Talk<'a, C> {
         asked: Move,
         packet: &[u8],
         interrupt: &AtomicBool,
-    ) -> Result<PacketPayloads, Refusal>
+    ) -> Result<PacketPayloads, AllocError>
         requires at { IsAt (size_of self.old.session) (timeline_of self.old.session) }
         ensures at { OnOk result (IsAt (size_of self.new.session) (timeline_of self.new.session)) }
         ensures size { size_of self.new.session ≡ size_of self.old.session }
@@ -164,7 +164,7 @@ impl<'a, C: Crew> Talk<'a, C> {
     }
 
     /// A payload with that text.
-    pub(crate) fn said(&self, text: &[u8]) -> Result<Vec<u8>, Refusal>
+    pub(crate) fn said(&self, text: &[u8]) -> Result<Vec<u8>, AllocError>
         ensures { IfOk result (λ v. v.items ≡ text.now) }
     {
         payload(self.alloc(), text)

@@ -10,10 +10,10 @@ ghost use Rattle.debug_talk.specs.Talks.{hart_or};
 
 use crate::replies::{hart_of, reply_of};
 use crate::talk::Talk;
-use board_model::Refusal;
 use crew::Crew;
 use debug_session::{WatchKind, Watchpoint};
 use gdb_protocol::{GdbLook, Watching, behind, parts};
+use std::alloc::AllocError;
 
 /// The watchpoint that a packet names. A watch on writes sees changes.
 fn watch_of(what: Watching, address: u64, count: u64) -> Watchpoint
@@ -33,7 +33,11 @@ fn watch_of(what: Watching, address: u64, count: u64) -> Watchpoint
 
 impl<'a, C: Crew> Talk<'a, C> {
     /// Answers a request that moves nothing: none where nothing is to be sent.
-    pub(crate) fn look(&mut self, asked: GdbLook, packet: &[u8]) -> Result<Option<Vec<u8>>, Refusal>
+    pub(crate) fn look(
+        &mut self,
+        asked: GdbLook,
+        packet: &[u8],
+    ) -> Result<Option<Vec<u8>>, AllocError>
         ensures same { timeline_of self.new.session ≡ timeline_of self.old.session }
         ensures size { size_of self.new.session ≡ size_of self.old.session }
         ensures shown { OnOk result (self.new.hart ≡ hart_shown asked (size_of self.old.session) self.old.hart) }
@@ -56,7 +60,7 @@ impl<'a, C: Crew> Talk<'a, C> {
     }
 
     /// Does what a request that moves nothing changes: the debugger's lists, and the talk.
-    fn follow(&mut self, asked: GdbLook, packet: &[u8]) -> Result<(), Refusal>
+    fn follow(&mut self, asked: GdbLook, packet: &[u8]) -> Result<(), AllocError>
         ensures same { timeline_of self.new.session ≡ timeline_of self.old.session }
         ensures size { size_of self.new.session ≡ size_of self.old.session }
         ensures shown { OnOk result (self.new.hart ≡ hart_shown asked (size_of self.old.session) self.old.hart) }
@@ -159,7 +163,7 @@ impl<'a, C: Crew> Talk<'a, C> {
     }
 
     /// Hears whether GDB takes `swbreak`.
-    fn hear_offers(&mut self, packet: &[u8]) -> Result<(), Refusal>
+    fn hear_offers(&mut self, packet: &[u8]) -> Result<(), AllocError>
         ensures same { self.new.session ≡ self.old.session }
         ensures talk { IsTalk self.old.last self.old.runner self.new.takes_swbreak self.old.acknowledges self.old.is_over self.new }
         ensures hart { self.new.hart ≡ self.old.hart }

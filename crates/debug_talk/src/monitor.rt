@@ -70,7 +70,7 @@ fn just_one(lines: Vec<Line>) -> Option<Line>
 }
 
 /// The line that a text is on a board of that shape, where it is just one.
-fn line_of(alloc: Global, shape: &Shape, text: &[u8]) -> Result<Option<Line>, Refusal>
+fn line_of(alloc: Global, shape: &Shape, text: &[u8]) -> Result<Option<Line>, AllocError>
     ensures line { IfOk result (λ line. line ≡ line_in shape.now text.now) }
     ensures range { IfOk result (λ line. IfSome line (IsLineInRange shape.now)) }
 {
@@ -80,17 +80,17 @@ fn line_of(alloc: Global, shape: &Shape, text: &[u8]) -> Result<Option<Line>, Re
     match parse_script(alloc, &script) {
         Ok(read) => {
             if read.shape != *shape {
-                return Err(Refusal::BadShape);
+                return Err(AllocError);
             }
             Ok(just_one(read.lines))
         }
-        Err(Refusal::Memory) => Err(Refusal::Memory),
+        Err(Refusal::Memory) => Err(AllocError),
         Err(_) => Ok(None),
     }
 }
 
 /// Runs the line that a text is, and tells its report.
-fn run_text<C: Crew>(session: &mut Session<'_, C>, text: &[u8]) -> Result<String, Refusal>
+fn run_text<C: Crew>(session: &mut Session<'_, C>, text: &[u8]) -> Result<String, AllocError>
     requires at { IsAt (size_of session.old) (timeline_of session.old) }
     ensures at { OnOk result (IsAt (size_of session.new) (timeline_of session.new)) }
     ensures size { size_of session.new ≡ size_of session.old }
@@ -103,9 +103,9 @@ fn run_text<C: Crew>(session: &mut Session<'_, C>, text: &[u8]) -> Result<String
     match line_of(alloc, session.setting().shape, text)? {
         Some(line) => {
             let answer = session.line(line)?;
-            Ok(answer_text(alloc, &answer)?)
+            answer_text(alloc, &answer)
         }
-        None => Ok(String::from_str(alloc, NO_LINE)?),
+        None => String::from_str(alloc, NO_LINE),
     }
 }
 
@@ -124,7 +124,7 @@ fn end_script(script: &mut String, lines: usize) -> Result<(), AllocError>
 }
 
 /// The history as a script; a comment behind it says where it is longer than a script may be.
-fn script_said<C: Crew>(session: &Session<'_, C>) -> Result<String, Refusal>
+fn script_said<C: Crew>(session: &Session<'_, C>) -> Result<String, AllocError>
     ensures { IfOk result (λ said. string_bytes said
         ≡ script_text (size_of session.now) (begins_of session.now) (history_of session.now)) }
 {
@@ -160,7 +160,7 @@ fn go_forth<C: Crew>(
     hart: HartId,
     turns: u64,
     interrupt: &AtomicBool,
-) -> Result<String, Refusal>
+) -> Result<String, AllocError>
     requires at { IsAt (size_of session.old) (timeline_of session.old) }
     requires there { hart < (size_of session.old).harts }
     requires few { turns_made (history_of session.old) ≤ turns }
@@ -173,7 +173,7 @@ fn go_forth<C: Crew>(
 {
     let mut told = Vec::new(session.setting().alloc);
     session.go_on_to(hart, turns, interrupt, &mut told)?;
-    Ok(report_and_when(session, hart, &told)?)
+    report_and_when(session, hart, &told)
 }
 
 /// Goes back to before the turn that came behind so many; or where none did, on until the history has so many.
@@ -182,7 +182,7 @@ fn go_over<C: Crew>(
     hart: HartId,
     turns: u64,
     interrupt: &AtomicBool,
-) -> Result<String, Refusal>
+) -> Result<String, AllocError>
     requires at { IsAt (size_of session.old) (timeline_of session.old) }
     requires there { hart < (size_of session.old).harts }
     ensures at { OnOk result (IsAt (size_of session.new) (timeline_of session.new)) }
@@ -193,7 +193,7 @@ fn go_over<C: Crew>(
         (timeline_of session.old) (timeline_of session.new) (string_bytes said)) }
 {
     if session.go_to(turns)? {
-        return Ok(when_text(session, hart)?);
+        return when_text(session, hart);
     }
     go_forth(session, hart, turns, interrupt)
 }
@@ -204,7 +204,7 @@ fn go_or_run<C: Crew>(
     hart: HartId,
     text: &[u8],
     interrupt: &AtomicBool,
-) -> Result<String, Refusal>
+) -> Result<String, AllocError>
     requires at { IsAt (size_of session.old) (timeline_of session.old) }
     requires there { hart < (size_of session.old).harts }
     ensures at { OnOk result (IsAt (size_of session.new) (timeline_of session.new)) }
@@ -226,7 +226,7 @@ fn monitored<C: Crew>(
     hart: HartId,
     text: &[u8],
     interrupt: &AtomicBool,
-) -> Result<String, Refusal>
+) -> Result<String, AllocError>
     requires at { IsAt (size_of session.old) (timeline_of session.old) }
     requires there { hart < (size_of session.old).harts }
     ensures at { OnOk result (IsAt (size_of session.new) (timeline_of session.new)) }
@@ -240,24 +240,24 @@ fn monitored<C: Crew>(
         return script_said(session);
     }
     if text.is_empty() || text == b"help".as_slice() {
-        return Ok(String::from_str(session.setting().alloc, HELP)?);
+        return String::from_str(session.setting().alloc, HELP);
     }
     if text == b"harts".as_slice() {
         return harts_text(session);
     }
     if text == b"when".as_slice() {
-        return Ok(when_text(session, hart)?);
+        return when_text(session, hart);
     }
     go_or_run(session, hart, text, interrupt)
 }
 
 /// The bytes that pairs of digits write.
-fn unhex(alloc: Global, word: &[u8]) -> Result<Option<Vec<u8>>, Refusal>
+fn unhex(alloc: Global, word: &[u8]) -> Result<Option<Vec<u8>>, AllocError>
     ensures { IfOk result (λ found. option_map (λ v. v.items) found ≡ hexed word.now) }
 {
     match hex::decode(alloc, word) {
         Ok(bytes) => Ok(Some(bytes)),
-        Err(FromHexError::OutOfMemory) => Err(Refusal::Memory),
+        Err(FromHexError::OutOfMemory) => Err(AllocError),
         Err(_) => Ok(None),
     }
 }
@@ -269,7 +269,7 @@ impl<'a, C: Crew> Talk<'a, C> {
         packet: &[u8],
         interrupt: &AtomicBool,
         out: &mut PacketPayloads,
-    ) -> Result<Vec<u8>, Refusal>
+    ) -> Result<Vec<u8>, AllocError>
         requires at { IsAt (size_of self.old.session) (timeline_of self.old.session) }
         requires none { out.old.items ≡ [] }
         ensures at { OnOk result (IsAt (size_of self.new.session) (timeline_of self.new.session)) }

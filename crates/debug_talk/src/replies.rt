@@ -12,7 +12,7 @@ ghost use Rattle.debug_talk.specs.Stops.{stop_text};
 
 use crate::stops::stop_text;
 use crate::texts::threads_object;
-use board_model::{HartId, Refusal, Shape};
+use board_model::{HartId, Shape};
 use crew::Crew;
 use debug_session::{REGISTERS, Session, Stop};
 use gdb_protocol::{
@@ -24,14 +24,14 @@ use std::alloc::{AllocError, Global};
 const PACKET_BYTES: usize = 0x4000;
 
 /// A payload with that text.
-pub(crate) fn payload(alloc: Global, text: &[u8]) -> Result<Vec<u8>, Refusal>
+pub(crate) fn payload(alloc: Global, text: &[u8]) -> Result<Vec<u8>, AllocError>
     ensures { IfOk result (λ v. v.items ≡ text.now) }
 {
-    Ok(Vec::from_slice(alloc, text)?)
+    Vec::from_slice(alloc, text)
 }
 
 /// All registers of a hart, in the order of their numbers.
-fn registers<C: Crew>(session: &mut Session<'_, C>, hart: HartId) -> Result<Vec<u8>, Refusal>
+fn registers<C: Crew>(session: &mut Session<'_, C>, hart: HartId) -> Result<Vec<u8>, AllocError>
     ensures same { session.new ≡ session.old }
     ensures text { IfOk result (λ v. v.items
         ≡ registers_text 42 (λ n. register_in hart n (machine_of_session session.old))) }
@@ -49,7 +49,7 @@ fn register<C: Crew>(
     session: &mut Session<'_, C>,
     hart: HartId,
     number: u64,
-) -> Result<Vec<u8>, Refusal>
+) -> Result<Vec<u8>, AllocError>
     ensures same { session.new ≡ session.old }
     ensures text { IfOk result (λ v. v.items
         ≡ register_reply number (register_in hart number (machine_of_session session.old))) }
@@ -65,7 +65,11 @@ fn register<C: Crew>(
 }
 
 /// Bytes of memory, where all of them lie in RAM of a board that is on; else the error 0e, and 01 where none are asked for.
-fn memory<C: Crew>(session: &Session<'_, C>, address: u64, count: u64) -> Result<Vec<u8>, Refusal>
+fn memory<C: Crew>(
+    session: &Session<'_, C>,
+    address: u64,
+    count: u64,
+) -> Result<Vec<u8>, AllocError>
     ensures { IfOk result (λ v. v.items ≡ memory_reply (memory_in address count (machine_of_session session.now))) }
 {
     let alloc = session.setting().alloc;
@@ -91,7 +95,7 @@ pub(crate) fn hart_of(shape: &Shape, thread: u64) -> Option<HartId>
 }
 
 /// Whether there is that thread.
-fn alive(alloc: Global, shape: &Shape, thread: u64) -> Result<Vec<u8>, Refusal>
+fn alive(alloc: Global, shape: &Shape, thread: u64) -> Result<Vec<u8>, AllocError>
     ensures { IfOk result (λ v. v.items ≡ thread_reply shape.now thread) }
 {
     match hart_of(shape, thread) {
@@ -101,7 +105,7 @@ fn alive(alloc: Global, shape: &Shape, thread: u64) -> Result<Vec<u8>, Refusal>
 }
 
 /// The thread that is shown.
-fn current(alloc: Global, hart: HartId) -> Result<Vec<u8>, Refusal>
+fn current(alloc: Global, hart: HartId) -> Result<Vec<u8>, AllocError>
     ensures { IfOk result (λ v. v.items ≡ codes "QC" ++ digit_of (hart + 1) ∷ []) }
 {
     let mut out = Vec::from_slice(alloc, b"QC")?;
@@ -122,12 +126,12 @@ fn threads_part<C: Crew>(
     session: &mut Session<'_, C>,
     offset: u64,
     count: u64,
-) -> Result<Vec<u8>, Refusal>
+) -> Result<Vec<u8>, AllocError>
     ensures same { session.new ≡ session.old }
     ensures text { IfOk result (λ v. v.items ≡ part_text (threads_object (size_of session.old) (bench_of session.old)) offset count) }
 {
     let text = threads_object(session)?;
-    Ok(part(session.setting().alloc, text.as_bytes(), offset, count)?)
+    part(session.setting().alloc, text.as_bytes(), offset, count)
 }
 
 /// A part of an object.
@@ -136,20 +140,20 @@ fn part_of<C: Crew>(
     object: Object,
     offset: u64,
     count: u64,
-) -> Result<Vec<u8>, Refusal>
+) -> Result<Vec<u8>, AllocError>
     ensures same { session.new ≡ session.old }
     ensures text { IfOk result (λ v. IsPart object (size_of session.old) (bench_of session.old) offset count v.items) }
 {
     let alloc = session.setting().alloc;
     match object {
-        Object::Description => Ok(part(alloc, DESCRIPTION.as_bytes(), offset, count)?),
-        Object::MemoryMap => Ok(map_part(alloc, session.setting().shape, offset, count)?),
+        Object::Description => part(alloc, DESCRIPTION.as_bytes(), offset, count),
+        Object::MemoryMap => map_part(alloc, session.setting().shape, offset, count),
         Object::Threads => threads_part(session, offset, count),
     }
 }
 
 /// What this stub can.
-fn features(alloc: Global) -> Result<Vec<u8>, Refusal>
+fn features(alloc: Global) -> Result<Vec<u8>, AllocError>
     ensures { IfOk result (λ v. v.items ≡ features_text) }
 {
     let text = format!(in alloc;
@@ -166,7 +170,7 @@ fn text_of<C: Crew>(
     last: Stop,
     takes_swbreak: bool,
     asked: GdbLook,
-) -> Result<Vec<u8>, Refusal>
+) -> Result<Vec<u8>, AllocError>
     requires sends { asked ≡ GdbLook.Kill → ⊥ }
     ensures same { session.new ≡ session.old }
     ensures replied { IfOk result (λ v. IsLookReply asked (size_of session.old) hart (bench_of session.old)
@@ -210,7 +214,7 @@ pub(crate) fn reply_of<C: Crew>(
     last: Stop,
     takes_swbreak: bool,
     asked: GdbLook,
-) -> Result<Option<Vec<u8>>, Refusal>
+) -> Result<Option<Vec<u8>>, AllocError>
     ensures same { session.new ≡ session.old }
     ensures replied { IfOk result (λ out. IsLookReply asked (size_of session.old) hart (bench_of session.old)
         (stop_text last takes_swbreak) (option_map (λ v. v.items) out)) }

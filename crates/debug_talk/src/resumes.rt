@@ -6,9 +6,9 @@ ghost use Rattle.gdb_protocol.specs.Actions.{first_asked};
 ghost use Rattle.gdb_protocol.specs.Fields.{behind_prefix};
 
 use crate::asked::VCont;
-use board_model::{Refusal, Shape};
+use board_model::Shape;
 use gdb_protocol::{ResumeAction, action_for, are_known, behind, parts};
-use std::alloc::Global;
+use std::alloc::{AllocError, Global};
 
 /// The step that a hart is to make, if it is to make one.
 fn step_of(shape: &Shape, words: &[&[u8]], number: u64) -> Option<VCont>
@@ -79,7 +79,7 @@ fn asked_in(shape: &Shape, words: &[&[u8]]) -> VCont
 }
 
 /// What the packet of a `vCont` asks.
-pub(crate) fn asked_by(alloc: Global, shape: &Shape, packet: &[u8]) -> Result<VCont, Refusal>
+pub(crate) fn asked_by(alloc: Global, shape: &Shape, packet: &[u8]) -> Result<VCont, AllocError>
     ensures { IfOk result (IsAskedBy shape.now (behind_prefix (codes "vCont;") packet.now)) }
 {
     let Some(actions) = behind(packet, b"vCont;") else {

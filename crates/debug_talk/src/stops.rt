@@ -3,7 +3,7 @@
 ghost use Rattle.std.specs.Prelude.{◌≡◌, ◌++◌, IfOk, OnOk};
 ghost use Rattle.debug_talk.specs.Stops.{reason_text, signal_text, stop_text, watch_text, watch_word};
 
-use board_model::{HartId, Refusal};
+use board_model::HartId;
 use debug_session::{HaltReason, Stop, WatchKind, Watchpoint};
 use gdb_protocol::digit;
 use std::alloc::{AllocError, Global};
@@ -79,7 +79,7 @@ fn put_stop(
 }
 
 /// The stop reply.
-pub fn stop_text(alloc: Global, stop: Stop, takes_swbreak: bool) -> Result<Vec<u8>, Refusal>
+pub fn stop_text(alloc: Global, stop: Stop, takes_swbreak: bool) -> Result<Vec<u8>, AllocError>
     ensures { IfOk result (λ v. v.items ≡ stop_text stop takes_swbreak) }
 {
     let mut out = Vec::new(alloc);

@@ -7,7 +7,7 @@ ghost use Rattle.debug_talk.specs.Texts.{HandOver, board_line, console_packet, h
 
 use crate::answers::PacketPayloads;
 use bench_report::Answer;
-use board_model::{Durable, HartId, Refusal, Shape, StateText};
+use board_model::{Durable, HartId, Shape, StateText};
 use crew::Crew;
 use debug_session::Session;
 use gdb_protocol::put_hex;
@@ -26,7 +26,7 @@ fn console_packet(alloc: Global, piece: &[u8]) -> Result<Vec<u8>, AllocError>
 }
 
 /// Text for the console, in packets that are short enough.
-pub fn tell(alloc: Global, text: &[u8], out: &mut PacketPayloads) -> Result<(), Refusal>
+pub fn tell(alloc: Global, text: &[u8], out: &mut PacketPayloads) -> Result<(), AllocError>
     ensures told { OnOk result ((told : List (List ℕ)) × HandOver text.now told
         × (map (λ v. v.items) out.new.items ≡ map (λ v. v.items) out.old.items ++ told)) }
 {
@@ -105,18 +105,18 @@ fn add_hart<C: Crew>(
     session: &Session<'_, C>,
     number: u64,
     text: &mut String,
-) -> Result<(), Refusal>
+) -> Result<(), AllocError>
     ensures { OnOk result (string_bytes text.new ≡ string_bytes text.old ++ hart_line (bench_of session.now) number) }
 {
     let Some(hart) = session.setting().shape.hart(number) else {
-        return Err(Refusal::BadShape);
+        return Err(AllocError);
     };
     let line = hart_line(session, hart)?;
-    Ok(text.push_str(line.as_str())?)
+    text.push_str(line.as_str())
 }
 
 /// Where each hart stands.
-pub fn harts_text<C: Crew>(session: &Session<'_, C>) -> Result<String, Refusal>
+pub fn harts_text<C: Crew>(session: &Session<'_, C>) -> Result<String, AllocError>
     ensures { IfOk result (λ text. string_bytes text ≡ hart_lines (size_of session.now).harts (bench_of session.now)) }
 {
     let shape = session.setting().shape;
@@ -139,16 +139,16 @@ pub fn when_text<C: Crew>(session: &Session<'_, C>, hart: HartId) -> Result<Stri
 }
 
 /// A hart as a thread, with its state.
-fn thread_line<C: Crew>(session: &mut Session<'_, C>, hart: HartId) -> Result<String, Refusal>
+fn thread_line<C: Crew>(session: &mut Session<'_, C>, hart: HartId) -> Result<String, AllocError>
     ensures same { session.new ≡ session.old }
     ensures text { IfOk result (λ text. string_bytes text ≡ thread_line (bench_of session.old) hart) }
 {
     let number = hart.number();
     let thread = number + 1;
     let state = session.state_text(hart);
-    Ok(format!(in session.setting().alloc;
+    format!(in session.setting().alloc;
         "<thread id=\"{thread:x}\" core=\"{number}\" name=\"hart {number}\">{state}</thread>\n"
-    )?)
+    )
 }
 
 /// Adds the hart of that number as a thread.
@@ -156,19 +156,19 @@ fn add_thread<C: Crew>(
     session: &mut Session<'_, C>,
     number: u64,
     text: &mut String,
-) -> Result<(), Refusal>
+) -> Result<(), AllocError>
     ensures same { session.new ≡ session.old }
     ensures text { OnOk result (string_bytes text.new ≡ string_bytes text.old ++ thread_line (bench_of session.old) number) }
 {
     let Some(hart) = session.setting().shape.hart(number) else {
-        return Err(Refusal::BadShape);
+        return Err(AllocError);
     };
     let line = thread_line(session, hart)?;
-    Ok(text.push_str(line.as_str())?)
+    text.push_str(line.as_str())
 }
 
 /// All harts as threads.
-fn thread_lines<C: Crew>(session: &mut Session<'_, C>) -> Result<String, Refusal>
+fn thread_lines<C: Crew>(session: &mut Session<'_, C>) -> Result<String, AllocError>
     ensures same { session.new ≡ session.old }
     ensures text { IfOk result (λ text. string_bytes text ≡ thread_lines (size_of session.old).harts (bench_of session.old)) }
 {
@@ -181,12 +181,10 @@ fn thread_lines<C: Crew>(session: &mut Session<'_, C>) -> Result<String, Refusal
 }
 
 /// The harts as threads, as an object of `qXfer:threads:read`.
-pub fn threads_object<C: Crew>(session: &mut Session<'_, C>) -> Result<String, Refusal>
+pub fn threads_object<C: Crew>(session: &mut Session<'_, C>) -> Result<String, AllocError>
     ensures same { session.new ≡ session.old }
     ensures text { IfOk result (λ text. string_bytes text ≡ threads_object (size_of session.old) (bench_of session.old)) }
 {
     let lines = thread_lines(session)?;
-    Ok(format!(in session.setting().alloc;
-        "<?xml version=\"1.0\"?>\n<threads>\n{lines}</threads>\n"
-    )?)
+    format!(in session.setting().alloc; "<?xml version=\"1.0\"?>\n<threads>\n{lines}</threads>\n")
 }

@@ -11,7 +11,7 @@ use crate::talk::Talk;
 use board_model::Refusal;
 use crew::Crew;
 use gdb_protocol::packets;
-use std::alloc::Global;
+use std::alloc::{AllocError, Global};
 use std::io::Write;
 use std::sync::atomic::AtomicBool;
 
@@ -39,13 +39,13 @@ pub fn acknowledge<W: Write>(acknowledges: bool, out: &mut W) -> Result<(), Refu
 /// Makes the answer to a packet: its payloads, each in its packet. The talk keeps it, to be sent, and again where that is wanted.
 /// Nothing is sent yet.
 ///
-/// Refused `Memory`, and then the talk is of no use.
+/// Where memory is refused the talk is of no use.
 pub fn prepare<C: Crew>(
     talk: &mut Talk<'_, C>,
     alloc: Global,
     packet: &[u8],
     interrupt: &AtomicBool,
-) -> Result<(), Refusal>
+) -> Result<(), AllocError>
     requires at { IsAt (size_of (session_in talk.old)) (timeline_of (session_in talk.old)) }
     ensures at { OnOk result (IsAt (size_of (session_in talk.new)) (timeline_of (session_in talk.new))) }
     ensures prepared { OnOk result ((payloads : List (List ℕ)) × IsReplied packet.now talk.old talk.new payloads) }

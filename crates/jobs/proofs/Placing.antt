@@ -1,11 +1,8 @@
 -- One element of a list is replaced, or some are put at its end.
-use Rattle.std.proofs.Common.{◌≡◌, ◌<◌, inl, inr, ℕ, Bool, true, false, if◌then◌else◌, List, [], ◌∷◌, ◌++◌, Some, Result, Ok, Err, IfOk, IfErr, All, length, slice_index_or, slice_set, sym, subst}
+use Rattle.std.proofs.Common.{◌≡◌, ◌<◌, inl, inr, ℕ, Bool, true, false, if◌then◌else◌, List, [], ◌∷◌, ◌++◌, All, length, slice_index_or, slice_set, sym, subst}
 use Rattle.std.proofs.lemmas.Bool.{cases_eq}
 use Rattle.std.proofs.lemmas.List.{get_or-set_same, get_or-set_other}
 use Rattle.std.proofs.lemmas.List.Elements.{All-same, All-push, All-append}
-use Rattle.board_model.specs.declared.refusal.Refusal.{Refusal}
-use Rattle.board_model.specs.declared.refusal.Refusal.TheVariants.{Memory}
-use Rattle.jobs.specs.Handed.{MayBeMade}
 
 -- what held of each at its place holds still
 pub set_each : {X : Type 0} (P : ℕ → X → Type 0) (xs : List X) (at : ℕ) (x : X) → at < length xs → P at x → ((i : ℕ) (d : X) → i < length xs → P i (slice_index_or xs i d)) → (i : ℕ) (d : X) → i < length xs → P i (slice_index_or (slice_set xs at x) i d)
@@ -22,8 +19,3 @@ pushed_each P false before now x is each here = All-same P now before is each
 pub joined_each : {X : Type 0} (P : X → Type 0) (done : Bool) (before others now : List X) → now ≡ (if done then before ++ others else before) → All P before → All P others → All P now
 joined_each P true before others now is each more = All-same P now (before ++ others) is (All-append P before others each more)
 joined_each P false before others now is each more = All-same P now before is each
-
--- a row, or why there is none
-pub row_placed : {Row : Type 0} (is : ℕ → Row → Type 0) (n : ℕ) (row : Result Row Refusal) → IfOk row (is n) → IfErr row (λ e. e ≡ Memory) → MayBeMade is n (Some row)
-row_placed is n (Ok row) made refused = made
-row_placed is n (Err e) made refused = refused

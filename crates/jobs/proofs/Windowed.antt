@@ -1,9 +1,8 @@
 -- The slots of a window: none has a row yet, or some have what was made for them.
-use Rattle.std.proofs.Common.{◌≡◌, ◌∙◌, ◌+◌, ◌<◌, ℕ, List, Option, None, Result, Err, IfErr, ◌⊎◌, inl, Vec, All, length, slice_index_or, ap, subst, sym}
+use Rattle.std.proofs.Common.{◌≡◌, ◌∙◌, ◌+◌, ◌<◌, ℕ, List, Option, None, Result, Vec, All, length, slice_index_or, ap, subst, sym}
 use Rattle.std.specs.Vec.{with_items}
 use Rattle.std.proofs.lemmas.List.{with_items_is}
-use Rattle.board_model.specs.declared.refusal.Refusal.{Refusal}
-use Rattle.board_model.specs.declared.refusal.Refusal.TheVariants.{Memory, Output}
+use Rattle.std.specs.declared.alloc.AllocError.{AllocError}
 use Rattle.jobs.specs.Handed.{MayBeMade}
 
 -- the slots are lent, and are what they have become
@@ -21,20 +20,13 @@ pub still_length : {X Z : Type 0} (slots back : Vec X Z) (now : List X) → back
 still_length {X} {Z} slots back now is value = ap (λ (l : List X). length l) (value ∙ ap (λ (v : Vec X Z). v.items) is)
 
 module _ {Row : Type 0} (is : ℕ → Row → Type 0) (first : ℕ) where
-  pub none_made : (items now : List (Option (Result Row Refusal))) → now ≡ items → All (λ slot. slot ≡ None) items
-      → (i : ℕ) (d : Option (Result Row Refusal)) → i < length now → MayBeMade is (first + i) (slice_index_or now i d)
+  pub none_made : (items now : List (Option (Result Row AllocError))) → now ≡ items → All (λ slot. slot ≡ None) items
+      → (i : ℕ) (d : Option (Result Row AllocError)) → i < length now → MayBeMade is (first + i) (slice_index_or now i d)
   none_made items now same none i d lt =
-      subst (λ (slot : Option (Result Row Refusal)). MayBeMade is (first + i) slot) (sym (ap (λ (l : List (Option (Result Row Refusal))). slice_index_or l i d) same ∙ none i d (subst (λ (l : List (Option (Result Row Refusal))). i < length l) same lt))) tt
+      subst (λ (slot : Option (Result Row AllocError)). MayBeMade is (first + i) slot) (sym (ap (λ (l : List (Option (Result Row AllocError))). slice_index_or l i d) same ∙ none i d (subst (λ (l : List (Option (Result Row AllocError))). i < length l) same lt))) tt
 
-  pub some_made : (lent new now : List (Option (Result Row Refusal))) → length new ≡ length lent → now ≡ new → ((i : ℕ) (d : Option (Result Row Refusal)) → i < length lent → MayBeMade is (first + i) (slice_index_or new i d))
-      → (i : ℕ) (d : Option (Result Row Refusal)) → i < length now → MayBeMade is (first + i) (slice_index_or now i d)
+  pub some_made : (lent new now : List (Option (Result Row AllocError))) → length new ≡ length lent → now ≡ new → ((i : ℕ) (d : Option (Result Row AllocError)) → i < length lent → MayBeMade is (first + i) (slice_index_or new i d))
+      → (i : ℕ) (d : Option (Result Row AllocError)) → i < length now → MayBeMade is (first + i) (slice_index_or now i d)
   some_made lent new now as_many same each i d lt =
-      subst (λ (l : List (Option (Result Row Refusal))). MayBeMade is (first + i) (slice_index_or l i d)) (sym same)
-      (each i d (subst (λ (n : ℕ). i < n) (ap (λ (l : List (Option (Result Row Refusal))). length l) same ∙ as_many) lt))
-
--- memory was refused
-pub memory_refused : {T : Type 0} (r : Result T Refusal) (y e : Refusal) → r ≡ Err y → y ≡ e → e ≡ Memory → IfErr r (λ x. (x ≡ Memory) ⊎ (x ≡ Output))
-memory_refused {T} r y e is same memory = subst (λ (x : Result T Refusal). IfErr x (λ z. (z ≡ Memory) ⊎ (z ≡ Output))) (sym is) (inl (same ∙ memory))
-
-pub only_memory : {T : Type 0} (r : Result T Refusal) (y : Refusal) → r ≡ Err y → y ≡ Memory → IfErr r (λ x. x ≡ Memory)
-only_memory {T} r y is memory = subst (λ (x : Result T Refusal). IfErr x (λ z. z ≡ Memory)) (sym is) memory
+      subst (λ (l : List (Option (Result Row AllocError))). MayBeMade is (first + i) (slice_index_or l i d)) (sym same)
+      (each i d (subst (λ (n : ℕ). i < n) (ap (λ (l : List (Option (Result Row AllocError))). length l) same ∙ as_many) lt))

@@ -1,17 +1,15 @@
 -- Rows that are handed on in order.
-use Rattle.std.specs.Prelude.{◌≡◌, ◌+◌, ◌-◌, ◌<◌, ℕ, List, [], ◌∷◌, Option, None, Some, Result, Ok, Err, length}
-use Rattle.board_model.specs.declared.refusal.Refusal.{Refusal}
-use Rattle.board_model.specs.declared.refusal.Refusal.TheVariants.{Memory}
+use Rattle.std.specs.Prelude.{◌≡◌, ◌+◌, ◌-◌, ◌<◌, ℕ, List, [], ◌∷◌, Option, None, Some, Result, IfOk, length}
+use Rattle.std.specs.declared.alloc.AllocError.{AllocError}
 use Rattle.jobs.specs.Parts.{chunk_from, chunk_to}
 
--- what a slot holds where the row of that number was made, or not yet
-abbrev pub MayBeMade : {Row : Type 0} → (ℕ → Row → Type 0) → ℕ → Option (Result Row Refusal) → Type 0
+-- what a slot holds where the row of that number was made, or memory was lacking for it, or not yet
+abbrev pub MayBeMade : {Row : Type 0} → (ℕ → Row → Type 0) → ℕ → Option (Result Row AllocError) → Type 0
 MayBeMade is n None = Unit {0}
-MayBeMade is n (Some (Ok row)) = is n row
-MayBeMade is n (Some (Err e)) = e ≡ Memory
+MayBeMade is n (Some made) = IfOk made (is n)
 
 -- a place of a window of so many rows, which begins with that number, and what was made for it
-abbrev pub IsPlaced : {Row : Type 0} → (ℕ → Row → Type 0) → ℕ → ℕ → ℕ × Result Row Refusal → Type 0
+abbrev pub IsPlaced : {Row : Type 0} → (ℕ → Row → Type 0) → ℕ → ℕ → ℕ × Result Row AllocError → Type 0
 IsPlaced is first size made = (made.0 < size) × MayBeMade is (first + made.0) (Some made.1)
 
 -- the rows of the numbers from that one on, in order

@@ -5,14 +5,13 @@ ghost use Rattle.std.specs.Thread.{IsSend, IsSync};
 ghost use Rattle.jobs.specs.Handed.{IsPlaced, MayBeMade};
 
 use crate::windows::Task;
-use board_model::Refusal;
-use std::alloc::Global;
+use std::alloc::{AllocError, Global};
 use std::sync::atomic::{AtomicU64, Ordering};
 use std::thread;
 use std::thread::Threads;
 
 /// A row that was made, or why it was not, behind its place in the window.
-type Placed<Row> = (usize, Result<Row, Refusal>);
+type Placed<Row> = (usize, Result<Row, AllocError>);
 
 /// Makes rows of a window of so many, which begins with that number: each of the first place that no thread has taken yet, as long as
 /// there is one and memory to keep it.
@@ -117,7 +116,7 @@ fn place_one<T: Task>(
     task: &T,
     first: u64,
     made: Placed<T::Row>,
-    slots: &mut [Option<Result<T::Row, Refusal>>],
+    slots: &mut [Option<Result<T::Row, AllocError>>],
 )
     requires made { IsPlaced (T.is_row task.now) first (length slots.old) made }
     requires slots { (i : ℕ) (d : _) → i < length slots.old
@@ -140,7 +139,7 @@ pub(crate) fn make_rows<R: Threads + Sync, T: Task>(
     threads: usize,
     task: &T,
     first: u64,
-    slots: &mut [Option<Result<T::Row, Refusal>>],
+    slots: &mut [Option<Result<T::Row, AllocError>>],
 )
     requires some { 0 < threads }
     requires room { first + length slots.old < 2 ^ 64 }

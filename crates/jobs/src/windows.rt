@@ -1,13 +1,12 @@
 //! Rows that several threads make, a window of them at a time.
 
-ghost use Rattle.std.specs.Prelude.{◌≡◌, ◌⊎◌, ◌+◌, ◌<◌, ◌^◌, ℕ, None, All, length, IfOk, IfErr, OnOk, slice_index_or};
-ghost use Rattle.board_model.specs.declared.refusal.Refusal.TheVariants.{Memory, Output};
+ghost use Rattle.std.specs.Prelude.{◌≡◌, ◌+◌, ◌<◌, ◌^◌, ℕ, None, All, length, IfOk, OnOk, slice_index_or};
 ghost use Rattle.jobs.specs.Handed.{MayBeMade, Handed};
 
 use crate::hands::make_rows;
 use crate::progress::Progress;
-use board_model::Refusal;
-use std::alloc::Global;
+use std::alloc::{AllocError, Global};
+use std::io;
 use std::thread::Threads;
 
 /// How many rows are made at a time for each thread, where there are several.
@@ -74,11 +73,10 @@ pub trait Task: Sync {
     /// That is a row of that number.
     ghost is_row: { Self → ℕ → Self.Row → Type 0 };
 
-    /// Makes the row of that number. Refused `Memory` alone.
-    fn row(&self, number: u64) -> Result<Self::Row, Refusal>
+    /// Makes the row of that number.
+    fn row(&self, number: u64) -> Result<Self::Row, AllocError>
         requires has { has self.now number }
-        ensures row { IfOk result (λ row. is_row self.now number row) }
-        ensures refused { IfErr result (λ e. e ≡ Memory) };
+        ensures row { IfOk result (λ row. is_row self.now number row) };
 }
 
 /// What rows are handed on to.
@@ -86,23 +84,20 @@ pub trait Sink<Row> {
     /// From the first to the second it takes that row.
     ghost takes: { Self → Row → Self → Type 0 };
 
-    /// Takes a row, pauses what tells how far the run is before it writes, and tells how many rows it stands for. Refused `Memory`
-    /// or `Output`.
-    fn take<P: Progress>(&mut self, row: Row, progress: &P) -> Result<(), Refusal>
-        ensures took { OnOk result (takes self.old row self.new) }
-        ensures refused { IfErr result (λ e. (e ≡ Memory) ⊎ (e ≡ Output)) };
+    /// Takes a row, pauses what tells how far the run is before it writes, and tells how many rows it stands for.
+    fn take<P: Progress>(&mut self, row: Row, progress: &P) -> io::Result<()>
+        ensures took { OnOk result (takes self.old row self.new) };
 }
 
 /// The row of that number: the one in its slot, or one that is made here where none is.
 fn row_in<T: Task>(
     task: &T,
     number: u64,
-    slot: &mut Option<Result<T::Row, Refusal>>,
-) -> Result<T::Row, Refusal>
+    slot: &mut Option<Result<T::Row, AllocError>>,
+) -> Result<T::Row, AllocError>
     requires has { T.has task.now number }
     requires made { MayBeMade (T.is_row task.now) number slot.old }
     ensures row { IfOk result (λ row. T.is_row task.now number row) }
-    ensures refused { IfErr result (λ e. e ≡ Memory) }
 {
     match slot.take() {
         Some(made) => made,
@@ -114,16 +109,15 @@ fn row_in<T: Task>(
 fn hand_on<P: Progress, T: Task, S: Sink<T::Row>>(
     task: &T,
     first: u64,
-    slots: &mut [Option<Result<T::Row, Refusal>>],
+    slots: &mut [Option<Result<T::Row, AllocError>>],
     sink: &mut S,
     progress: &P,
-) -> Result<(), Refusal>
+) -> io::Result<()>
     requires room { first + length slots.old < 2 ^ 64 }
     requires has { (i : ℕ) → i < length slots.old → T.has task.now (first + i) }
     requires made { (i : ℕ) (d : _) → i < length slots.old
         → MayBeMade (T.is_row task.now) (first + i) (slice_index_or slots.old i d) }
     ensures handed { OnOk result (Handed (T.is_row task.now) S.takes first (length slots.old) sink.old sink.new) }
-    ensures refused { IfErr result (λ e. (e ≡ Memory) ⊎ (e ≡ Output)) }
 {
     for i in 0..slots.len() {
         let row = row_in(task, first + i as u64, &mut slots[i])?;
@@ -136,9 +130,8 @@ fn hand_on<P: Progress, T: Task, S: Sink<T::Row>>(
 fn no_rows<Row: Drop>(
     alloc: Global,
     count: usize,
-) -> Result<Vec<Option<Result<Row, Refusal>>>, Refusal>
+) -> Result<Vec<Option<Result<Row, AllocError>>>, AllocError>
     ensures slots { IfOk result (λ v. (length v.items ≡ count) × All (λ slot. slot ≡ None) v.items) }
-    ensures refused { IfErr result (λ e. e ≡ Memory) }
 {
     let mut slots = Vec::new(alloc);
     for _ in 0..count {
@@ -156,11 +149,10 @@ fn run_window<R: Threads + Sync, P: Progress, T: Task, S: Sink<T::Row>>(
     first: u64,
     size: usize,
     sink: &mut S,
-) -> Result<(), Refusal>
+) -> io::Result<()>
     requires room { first + size < 2 ^ 64 }
     requires has { (i : ℕ) → i < size → T.has task.now (first + i) }
     ensures handed { OnOk result (Handed (T.is_row task.now) S.takes first size sink.old sink.new) }
-    ensures refused { IfErr result (λ e. (e ≡ Memory) ⊎ (e ≡ Output)) }
 {
     let mut slots = no_rows::<T::Row>(alloc, size)?;
     let threads = jobs.count.min(size);
@@ -173,8 +165,8 @@ fn run_window<R: Threads + Sync, P: Progress, T: Task, S: Sink<T::Row>>(
 /// Makes so many rows from that number on, by the threads of these jobs, and hands them on in order. A window of rows is
 /// kept at a time, which are handed on once all of them are made. The sink tells how far the run is.
 ///
-/// It ends at the first row that is refused, or that the sink refuses, with that refusal: `Memory`, or `Output` of the sink.
-/// All rows before it were handed on then, and none behind it.
+/// It ends at the first row for which there is no memory, or that the sink refuses, with that error. All rows before it were
+/// handed on then, and none after it.
 pub fn hand_on_all<R: Threads + Sync, P: Progress, T: Task, S: Sink<T::Row>>(
     jobs: &Jobs<'_, R, P>,
     alloc: Global,
@@ -182,12 +174,11 @@ pub fn hand_on_all<R: Threads + Sync, P: Progress, T: Task, S: Sink<T::Row>>(
     first: u64,
     count: u64,
     sink: &mut S,
-) -> Result<(), Refusal>
+) -> io::Result<()>
     requires room { first + count < 2 ^ 64 }
     requires has { (i : ℕ) → i < count → T.has task.now (first + i) }
     // The rows of these numbers, each of its own, were taken one after another.
     ensures handed { OnOk result (Handed (T.is_row task.now) S.takes first count sink.old sink.new) }
-    ensures refused { IfErr result (λ e. (e ≡ Memory) ⊎ (e ≡ Output)) }
 {
     let mut done = 0;
     while done < count {

@@ -1,12 +1,12 @@
 //! A report: what writes its lines, and counts them.
 
-ghost use Rattle.std.specs.Prelude.{◌≡◌, ◌⊎◌, ◌<◌, ◌^◌, IfErr, OnOk};
+ghost use Rattle.std.specs.Prelude.{◌<◌, ◌^◌, OnOk};
 ghost use Rattle.std.specs.Io.KnownBytes.{Appends};
 ghost use Rattle.report_lines.specs.Texts.{answer_text, found_line};
 ghost use Rattle.report_lines.specs.Counts.{Adds};
 
 use crate::printed::{Answer, Printed};
-use board_model::{Durable, Refusal, StateText, unwritten};
+use board_model::{Durable, StateText};
 use std::io::{self, Write};
 
 /// How many lines a run wrote, and what each power-on found (docs/SCRIPT.md, "The report").
@@ -40,14 +40,12 @@ fn write_answer<W: Write>(out: &mut W, answer: &Answer) -> io::Result<()>
 /// Writes the lines of an answer (docs/SCRIPT.md, "The report"), counts them, and keeps the state that was found, where one was. The report
 /// has fewer than 2^40 lines before.
 ///
-/// Refused `Memory` where memory was refused, to the writer too; `Output` where the writer failed else. Any part of the lines may be
-/// written then, and counted.
-pub fn add<W: Write>(out: &mut W, report: &mut Report, answer: &Answer) -> Result<(), Refusal>
+/// Where memory was refused, to the writer too, or the writer failed else, any part of the lines may be written, and counted.
+pub fn add<W: Write>(out: &mut W, report: &mut Report, answer: &Answer) -> io::Result<()>
     requires { report.old.lines < 2 ^ 40 }
     ensures ok { OnOk result (Adds (W.contents out.old) (W.contents out.new) report.old report.new answer.now) }
-    ensures err { IfErr result (λ e. (e ≡ Refusal.Output) ⊎ (e ≡ Refusal.Memory)) }
 {
-    write_answer(out, answer).map_err(|error| unwritten(error))?;
+    write_answer(out, answer)?;
     report.lines += 1;
     if let Some(durable) = answer.found {
         report.lines += 1;

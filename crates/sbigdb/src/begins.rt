@@ -117,14 +117,13 @@ fn lines_to(own: &[Line], other: Vec<Line>) -> Result<Vec<Line>, AllocError>
 }
 
 /// A script up to where a schedule of it parts from it.
-fn script_to(own: &Script, found: Script) -> Result<Script, Refusal>
+fn script_to(own: &Script, found: Script) -> Result<Script, AllocError>
     requires order { IsScheduleOf (view own.now) (view found) }
     requires own_ranges { All (IsLineInRange own.now.shape) own.now.lines.items }
     requires ranges { All (IsLineInRange found.shape) found.lines.items }
     ensures parts { IfOk result (λ script. PartsAt own.now.lines.items found.lines.items script.lines.items) }
     ensures board { IfOk result (λ script. script.shape ≡ own.now.shape) }
     ensures ranges { IfOk result (λ script. All (IsLineInRange script.shape) script.lines.items) }
-    ensures refused { IfErr result (λ e. e ≡ Memory) }
 {
     let lines = lines_to(&own.lines, found.lines)?;
     Ok(Script {
@@ -176,7 +175,8 @@ fn schedule_to<R: Threads + Sync>(
     ensures refused { IfErr result (λ e. (e ≡ Memory) ⊎ (e ≡ Output)) }
 {
     let found = schedule_found::<R>(alloc, drawn, script, payloads)?;
-    script_to(own, found)
+    let begun = script_to(own, found)?;
+    Ok(begun)
 }
 
 /// The script of a row that [`bench_sweep::show_row`] writes.
@@ -213,7 +213,8 @@ fn row_to<R: Threads + Sync>(
         ⊎ NoRow wanted.bench wanted.number script.now payloads.now e) }
 {
     let found = row_found::<R>(alloc, wanted, script, payloads)?;
-    before_strike::<R>(alloc, payloads, found)
+    let stop = before_strike::<R>(alloc, payloads, found)?;
+    Ok(stop)
 }
 
 /// A script up to where the session begins: to its end; to where what a bench finds of it, with these payloads in the slots, parts from it;

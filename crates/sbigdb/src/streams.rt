@@ -13,9 +13,9 @@ ghost use Rattle.sbigdb.specs.Responses.{AnswersAll, AnswersFrom, Begins, Respon
 use crate::listening::{Signals, Silence, hand_on, listen};
 use crate::start::Start;
 use crate::told::{PayloadScript, told_payloads};
-use bench_report::Setting;
+use bench_report::{Setting, lane_by_lane};
 use board_model::{Refusal, Shape};
-use crew::{Crew, Sequential};
+use crew::Crew;
 use crossbeam_channel::{Receiver, bounded};
 use debug_session::{Session, SessionPlan};
 use debug_talk::{Talk, acknowledge, prepare, reply_again, send_answer};
@@ -245,7 +245,7 @@ fn serve<R: Threads + Wait + Sync>(
 {
     let alloc = host.alloc();
     let (shape, told) = script_told(alloc, start)?;
-    let crew = Sequential::<R>::new([0, 1, 2, 3])?;
+    let crew = lane_by_lane::<R>();
     let setting = Setting {
         alloc,
         crew: &crew,

@@ -1,7 +1,6 @@
 //! Where what a row of a bench arms strikes in its script.
 
-ghost use Rattle.std.specs.Prelude.{◌≡◌, ◌↔◌, ◌≤◌, ◌<◌, ◌+◌, ◌++◌, ◌∷◌, [], All, None, Some, true, false, length, take, IfErr, IfOk, OnOk};
-ghost use Rattle.board_model.specs.declared.refusal.Refusal.TheVariants.{Memory};
+ghost use Rattle.std.specs.Prelude.{◌≡◌, ◌↔◌, ◌≤◌, ◌<◌, ◌+◌, ◌++◌, ◌∷◌, [], All, None, Some, true, false, length, take, IfOk, OnOk};
 ghost use Rattle.disk.specs.FaultState.{Unarmed};
 ghost use Rattle.script_lang.specs.Lines.{IsLineInRange};
 ghost use Rattle.script_lang.specs.declared.line.Line.TheVariants as lines;
@@ -11,27 +10,26 @@ ghost use Rattle.bench_report.specs.Views.{fault_state};
 ghost use Rattle.sbigdb.specs.Strikes.{ArmedBehind, RanTo, StopsBefore, count_in, hart_in};
 
 use bench_live::LiveBench;
-use bench_report::Setting;
+use bench_report::{Setting, lane_by_lane};
 use bench_schedules::run_line;
 use board::Payloads;
-use board_model::{HartId, Refusal};
-use crew::{Crew, Sequential};
+use board_model::HartId;
+use crew::Crew;
 use script_lang::{Line, Script};
 use simdisk::SimDisk;
-use std::alloc::Global;
+use std::alloc::{AllocError, Global};
 use std::thread::Threads;
 
-/// Runs lines, one after another. Refused `Memory` alone, and then the bench is of no use.
+/// Runs lines, one after another. Where memory is refused the bench is of no use.
 fn run_lines<C: Crew>(
     setting: &Setting<'_, C>,
     lines: &[Line],
     live: &mut LiveBench,
-) -> Result<(), Refusal>
+) -> Result<(), AllocError>
     requires ranges { All (IsLineInRange setting.now.shape.now) lines.now }
     requires sound { IsSound live.old }
     ensures sound { OnOk result (IsSound live.new) }
     ensures ran { OnOk result (RanTo setting.now.shape.now lines.now live.old live.new) }
-    ensures refused { IfErr result (λ e. e ≡ Memory) }
 {
     for line in lines {
         run_line(setting, line, live)?;
@@ -42,27 +40,25 @@ fn run_lines<C: Crew>(
 /// Lets go of a bench. That of its board's many parts is proved here, and not beside what is done with it.
 fn release(_live: LiveBench) {}
 
-/// Whether a cut or a failure is armed on a disk. Refused `Memory` where the disk was refused memory.
-fn is_armed_on(disk: &SimDisk) -> Result<bool, Refusal>
+/// Whether a cut or a failure is armed on a disk. Refused where the disk was refused memory.
+fn is_armed_on(disk: &SimDisk) -> Result<bool, AllocError>
     ensures told { IfOk result (λ armed. (armed ≡ false) ↔ ((fault_state disk.now).armed ≡ Unarmed)) }
-    ensures refused { IfErr result (λ e. e ≡ Memory) }
 {
     if disk.refused() != 0 {
-        return Err(Refusal::Memory);
+        return Err(AllocError);
     }
     Ok(disk.is_armed())
 }
 
 /// Runs lines from a blank disk on, with these payloads in the slots: whether behind the last a cut or a failure is armed that has not
-/// struck. Refused `Memory` alone.
+/// struck.
 fn is_armed_behind<C: Crew>(
     setting: &Setting<'_, C>,
     payloads: &Payloads,
     lines: &[Line],
-) -> Result<bool, Refusal>
+) -> Result<bool, AllocError>
     requires ranges { All (IsLineInRange setting.now.shape.now) lines.now }
     ensures told { IfOk result (λ armed. ArmedBehind armed setting.now.shape.now payloads.now lines.now) }
-    ensures refused { IfErr result (λ e. e ≡ Memory) }
 {
     let mut live = LiveBench::blank(setting.alloc, setting.shape, payloads)?;
     match run_lines(setting, lines, &mut live) {
@@ -89,29 +85,28 @@ fn place_armed(lines: &[Line]) -> usize
     lines.len()
 }
 
-/// The place of the line within which it strikes, which is found by runs of first lines, half as many each time. Refused `Memory` alone:
-/// only a run that was refused memory can have missed it.
+/// The place of the line within which it strikes, which is found by runs of first lines, half as many each time. Only a run that was
+/// refused memory can have missed it.
 fn struck_line<C: Crew>(
     setting: &Setting<'_, C>,
     payloads: &Payloads,
     lines: &[Line],
-) -> Result<usize, Refusal>
+) -> Result<usize, AllocError>
     requires ranges { All (IsLineInRange setting.now.shape.now) lines.now }
     ensures within { IfOk result (λ place. place < length lines.now) }
     ensures armed { IfOk result (λ place. ArmedBehind true setting.now.shape.now payloads.now (take place lines.now)) }
     ensures struck { IfOk result (λ place. ArmedBehind false setting.now.shape.now payloads.now (take (place + 1) lines.now)) }
-    ensures refused { IfErr result (λ e. e ≡ Memory) }
 {
     let mut low = place_armed(lines);
     let mut high = lines.len();
     if high <= low {
-        return Err(Refusal::Memory);
+        return Err(AllocError);
     }
     if !is_armed_behind(setting, payloads, &lines[..low])? {
-        return Err(Refusal::Memory);
+        return Err(AllocError);
     }
     if is_armed_behind(setting, payloads, lines)? {
-        return Err(Refusal::Memory);
+        return Err(AllocError);
     }
     while low + 1 < high {
         let middle = low + (high - low) / 2;
@@ -124,20 +119,19 @@ fn struck_line<C: Crew>(
     Ok(low)
 }
 
-/// Whether a cut or a failure is armed that has not struck, behind these lines and so many turns of a hart. Refused `Memory` alone.
+/// Whether a cut or a failure is armed that has not struck, behind these lines and so many turns of a hart.
 fn is_armed_in<C: Crew>(
     setting: &Setting<'_, C>,
     payloads: &Payloads,
     front: &mut Vec<Line>,
     hart: HartId,
     count: u32,
-) -> Result<bool, Refusal>
+) -> Result<bool, AllocError>
     requires ranges { All (IsLineInRange setting.now.shape.now) front.old.items }
     requires row { IsLineInRange setting.now.shape.now (lines.Turn hart count) }
     ensures told { IfOk result (λ armed. ArmedBehind armed setting.now.shape.now payloads.now
         (front.old.items ++ lines.Turn hart count ∷ [])) }
     ensures same { OnOk result (front.new.items ≡ front.old.items) }
-    ensures refused { IfErr result (λ e. e ≡ Memory) }
 {
     let count_before = front.len();
     front.push(Line::Turn(hart, count))?;
@@ -147,14 +141,14 @@ fn is_armed_in<C: Crew>(
 }
 
 /// How many turns of a row behind these lines are made before the one in which it strikes, found by runs of its first turns, half as many
-/// each time. Refused `Memory` alone.
+/// each time.
 fn struck_turn<C: Crew>(
     setting: &Setting<'_, C>,
     payloads: &Payloads,
     front: &mut Vec<Line>,
     hart: HartId,
     count: u32,
-) -> Result<u32, Refusal>
+) -> Result<u32, AllocError>
     requires ranges { All (IsLineInRange setting.now.shape.now) front.old.items }
     requires row { IsLineInRange setting.now.shape.now (lines.Turn hart count) }
     requires armed { ArmedBehind true setting.now.shape.now payloads.now front.old.items }
@@ -164,7 +158,6 @@ fn struck_turn<C: Crew>(
     ensures struck { IfOk result (λ k. ArmedBehind false setting.now.shape.now payloads.now
         (front.old.items ++ lines.Turn hart (k + 1) ∷ [])) }
     ensures same { OnOk result (front.new.items ≡ front.old.items) }
-    ensures refused { IfErr result (λ e. e ≡ Memory) }
 {
     let mut low = 0;
     let mut high = count;
@@ -200,9 +193,8 @@ fn count_in(line: &Line) -> u32
 }
 
 /// Puts so many turns of a hart behind lines, where there are any.
-fn add_turns(lines: &mut Vec<Line>, hart: HartId, count: u32) -> Result<(), Refusal>
+fn add_turns(lines: &mut Vec<Line>, hart: HartId, count: u32) -> Result<(), AllocError>
     ensures added { OnOk result (lines.new.items ≡ lines.old.items ++ some_turns hart count) }
-    ensures refused { IfErr result (λ e. e ≡ Memory) }
 {
     if count != 0 {
         lines.push(Line::Turn(hart, count))?;
@@ -215,11 +207,10 @@ fn lines_before<C: Crew>(
     setting: &Setting<'_, C>,
     payloads: &Payloads,
     lines: Vec<Line>,
-) -> Result<Vec<Line>, Refusal>
+) -> Result<Vec<Line>, AllocError>
     requires ranges { All (IsLineInRange setting.now.shape.now) lines.items }
     ensures stops { IfOk result (λ stop. StopsBefore setting.now.shape.now payloads.now lines.items stop.items) }
     ensures ranges { IfOk result (λ stop. All (IsLineInRange setting.now.shape.now) stop.items) }
-    ensures refused { IfErr result (λ e. e ≡ Memory) }
 {
     let place = struck_line(setting, payloads, &lines)?;
     let next = &lines[place];
@@ -237,20 +228,19 @@ fn lines_before<C: Crew>(
     }
 }
 
-/// The script of a row up to where what it arms strikes, with these payloads in the slots. Refused `Memory` alone.
+/// The script of a row up to where what it arms strikes, with these payloads in the slots.
 pub fn before_strike<R: Threads + Sync>(
     alloc: Global,
     payloads: &Payloads,
     found: Script,
-) -> Result<Script, Refusal>
+) -> Result<Script, AllocError>
     requires ranges { All (IsLineInRange found.shape) found.lines.items }
     ensures stops { IfOk result (λ stop. StopsBefore found.shape payloads.now found.lines.items stop.lines.items) }
     ensures board { IfOk result (λ stop. stop.shape ≡ found.shape) }
     ensures ranges { IfOk result (λ stop. All (IsLineInRange stop.shape) stop.lines.items) }
-    ensures refused { IfErr result (λ e. e ≡ Memory) }
 {
     let Script { shape, lines } = found;
-    let crew = Sequential::<R>::new([0, 1, 2, 3])?;
+    let crew = lane_by_lane::<R>();
     let setting = Setting {
         alloc,
         crew: &crew,

@@ -2,7 +2,7 @@ use Rattle.std.proofs.Common.{◌∙◌, sym, subst}
 use Rattle.std.proofs.lemmas.Result.{IfOk-from_err}
 use Rattle.bench_report.specs.declared.power.Power.{Power}
 use Rattle.bench_report.specs.Agree.{Agrees, HasDisk}
-use Rattle.bench_report.proofs.Alone.{struck_by, refused_as, copies_at}
+use Rattle.bench_report.proofs.Alone.{struck_by, copies_at}
 use Rattle.bench_report.proofs.copies.copy_power.Goals as goal
 
 pub returns-in_err-copy_on-in-On-clause-stays : goal.returns-in_err-copy_on-in-On-clause-stays
@@ -32,9 +32,6 @@ returns-in_err-copy_off-in-Off-clause-alike c = IfOk-from_err c.from_residual.re
 pub returns-in_err-copy_off-in-Off-clause-copy_calm : goal.returns-in_err-copy_off-in-Off-clause-copy_calm
 returns-in_err-copy_off-in-Off-clause-copy_calm c = IfOk-from_err c.from_residual.result _ c.from_residual.ensures.0
 
-pub returns-in_err-copy_off-in-Off-clause-refused : goal.returns-in_err-copy_off-in-Off-clause-refused
-returns-in_err-copy_off-in-Off-clause-refused c = refused_as c.from_residual.result c.in_err-copy_off-in-Off.field-0.0 c.from_residual.ensures.1 c.in_err-copy_off-in-Off.ensures.refused
-
 pub returns-in_ok-copy_off-in-Off-clause-stays : goal.returns-in_ok-copy_off-in-Off-clause-stays
 returns-in_ok-copy_off-in-Off-clause-stays c = λ size b h. subst (λ (p : Power). Agrees size b p) c.in-Off.is h
 
@@ -53,9 +50,6 @@ returns-in_ok-copy_off-in-Off-clause-alike c = λ d e has copied. copies_at _ _ 
 pub returns-in_ok-copy_off-in-Off-clause-copy_calm : goal.returns-in_ok-copy_off-in-Off-clause-copy_calm
 returns-in_ok-copy_off-in-Off-clause-copy_calm c = struck_by c.args.power.now _ c.in-Off.is
 
-pub returns-in_ok-copy_off-in-Off-clause-refused : goal.returns-in_ok-copy_off-in-Off-clause-refused
-returns-in_ok-copy_off-in-Off-clause-refused c = tt
-
 pub returns-in_err-copy_on-in-On-clause-same : goal.returns-in_err-copy_on-in-On-clause-same
 returns-in_err-copy_on-in-On-clause-same c = λ d has. (subst (λ (p : Power). HasDisk p d) c.in-On.is has) ∙ sym c.copy_on.ensures.same
 
@@ -71,9 +65,6 @@ returns-in_err-copy_on-in-On-clause-alike c = IfOk-from_err c.from_residual-in_e
 pub returns-in_err-copy_on-in-On-clause-copy_calm : goal.returns-in_err-copy_on-in-On-clause-copy_calm
 returns-in_err-copy_on-in-On-clause-copy_calm c = IfOk-from_err c.from_residual-in_err-copy_on-in-On.result _ c.from_residual-in_err-copy_on-in-On.ensures.0
 
-pub returns-in_err-copy_on-in-On-clause-refused : goal.returns-in_err-copy_on-in-On-clause-refused
-returns-in_err-copy_on-in-On-clause-refused c = refused_as c.from_residual-in_err-copy_on-in-On.result c.in_err-copy_on-in-On.field-0.0 c.from_residual-in_err-copy_on-in-On.ensures.1 c.in_err-copy_on-in-On.ensures.refused
-
 pub returns-in_ok-copy_on-in-On-clause-same : goal.returns-in_ok-copy_on-in-On-clause-same
 returns-in_ok-copy_on-in-On-clause-same c = λ d has. (subst (λ (p : Power). HasDisk p d) c.in-On.is has) ∙ sym c.copy_on.ensures.same
 
@@ -85,6 +76,3 @@ returns-in_ok-copy_on-in-On-clause-alike c = λ d e has copied. copies_at _ _ d 
 
 pub returns-in_ok-copy_on-in-On-clause-copy_calm : goal.returns-in_ok-copy_on-in-On-clause-copy_calm
 returns-in_ok-copy_on-in-On-clause-copy_calm c = c.in_ok-copy_on-in-On.ensures.copy_calm ∙ struck_by c.args.power.now _ c.in-On.is
-
-pub returns-in_ok-copy_on-in-On-clause-refused : goal.returns-in_ok-copy_on-in-On-clause-refused
-returns-in_ok-copy_on-in-On-clause-refused c = tt

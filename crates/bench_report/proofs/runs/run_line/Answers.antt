@@ -10,7 +10,7 @@ pub returns-in-Ok-clause-stopped : goal.returns-in-Ok-clause-stopped
 returns-in-Ok-clause-stopped g c = on_err c.add-added.result _ (λ b h. (let did = rw c.in-Ok.is at (c.line_with_cuts-after.ensures.reported b h) in inr (c.in-Ok.answer, did.0, did.1, did.3.0)))
 
 pub returns-in-Err-clause-stopped : goal.returns-in-Err-clause-stopped
-returns-in-Err-clause-stopped g c = λ b h. (let did = rw c.in-Err.is at (c.line_with_cuts-after.ensures.reported b h) in inl did.1.0)
+returns-in-Err-clause-stopped g c = λ b h. (let did = rw c.in-Err.is at (c.line_with_cuts-after.ensures.reported b h) in inl did.0)
 
 pub returns-in-Ok-clause-arms : goal.returns-in-Ok-clause-arms
 returns-in-Ok-clause-arms g c = on_ok c.add-added.result _ _ (λ adds b h. rw c.in-Ok.is at (c.line_with_cuts-after.ensures.arms b h)) c.add-added.ensures.ok

@@ -1,7 +1,6 @@
-use Rattle.std.proofs.Common.{◌∙◌, Ok, Err, refl, sym, ap}
-use Rattle.board_model.specs.declared.refusal.Refusal.{Refusal}
+use Rattle.std.proofs.Common.{◌∙◌, Ok, Err, refl, sym}
 use Rattle.bench_report.specs.Happens.{unpowered}
-use Rattle.bench_report.proofs.Alone.{arms_by, cuts_by, pokes_by, inspects_by, exact_by, enough_by, not_refused, same_refusal, some_turns, few_bytes}
+use Rattle.bench_report.proofs.Alone.{arms_by, cuts_by, pokes_by, inspects_by, exact_by, enough_by, some_turns, few_bytes}
 use Rattle.bench_report.proofs.Lines.{call_reported, row_reported}
 use Rattle.bench_report.proofs.Pokes.{poke_matches}
 use Rattle.bench_report.proofs.steps.line_alone.Goals as goal
@@ -77,9 +76,6 @@ returns-in-Format-clause-enough g c = enough_by c.args.setting.now.shape.now c.a
 pub returns-in-Format-clause-slots : goal.returns-in-Format-clause-slots
 returns-in-Format-clause-slots g c = refl
 
-pub returns-in-Format-clause-refused : goal.returns-in-Format-clause-refused
-returns-in-Format-clause-refused g c = not_refused c.answered.result.1 _ c.answered.ensures.answer
-
 pub returns-in-On-clause-arms : goal.returns-in-On-clause-arms
 returns-in-On-clause-arms g c = arms_by c.args.line.now _ c.answered-in-On.result.0 c.in-On.is tt
 
@@ -97,9 +93,6 @@ returns-in-On-clause-enough g c = enough_by c.args.setting.now.shape.now c.args.
 
 pub returns-in-On-clause-slots : goal.returns-in-On-clause-slots
 returns-in-On-clause-slots g c = refl
-
-pub returns-in-On-clause-refused : goal.returns-in-On-clause-refused
-returns-in-On-clause-refused g c = not_refused c.answered-in-On.result.1 _ c.answered-in-On.ensures.answer
 
 pub returns-in-Command-clause-arms : goal.returns-in-Command-clause-arms
 returns-in-Command-clause-arms g c = arms_by c.args.line.now _ c.console-answer.new.power c.in-Command.is tt
@@ -119,9 +112,6 @@ returns-in-Command-clause-enough g c = enough_by c.args.setting.now.shape.now c.
 pub returns-in-Command-clause-slots : goal.returns-in-Command-clause-slots
 returns-in-Command-clause-slots g c = refl
 
-pub returns-in-Command-clause-refused : goal.returns-in-Command-clause-refused
-returns-in-Command-clause-refused g c = tt
-
 pub returns-in-Cut-clause-arms : goal.returns-in-Cut-clause-arms
 returns-in-Cut-clause-arms g c = arms_by c.args.line.now _ c.cut.result c.in-Cut.is tt
 
@@ -136,9 +126,6 @@ returns-in-Cut-clause-enough g c = enough_by c.args.setting.now.shape.now c.args
 
 pub returns-in-Cut-clause-slots : goal.returns-in-Cut-clause-slots
 returns-in-Cut-clause-slots g c = refl
-
-pub returns-in-Cut-clause-refused : goal.returns-in-Cut-clause-refused
-returns-in-Cut-clause-refused g c = tt
 
 pub returns-in-Ok-clause-arms : goal.returns-in-Ok-clause-arms
 returns-in-Ok-clause-arms g c = arms_by c.args.line.now _ c.args.power c.in-Payload.is tt
@@ -158,9 +145,6 @@ returns-in-Ok-clause-enough g c = enough_by c.args.setting.now.shape.now c.args.
 pub returns-in-Ok-clause-slots : goal.returns-in-Ok-clause-slots
 returns-in-Ok-clause-slots g c = c.in-Ok.ensures.slots
 
-pub returns-in-Ok-clause-refused : goal.returns-in-Ok-clause-refused
-returns-in-Ok-clause-refused g c = tt
-
 pub returns-in-Err-clause-arms : goal.returns-in-Err-clause-arms
 returns-in-Err-clause-arms g c = arms_by c.args.line.now _ c.args.power c.in-Payload.is tt
 
@@ -178,9 +162,6 @@ returns-in-Err-clause-enough g c = enough_by c.args.setting.now.shape.now c.args
 
 pub returns-in-Err-clause-slots : goal.returns-in-Err-clause-slots
 returns-in-Err-clause-slots g c = c.in-Err.ensures.slots
-
-pub returns-in-Err-clause-refused : goal.returns-in-Err-clause-refused
-returns-in-Err-clause-refused g c = ap (λ (e : Refusal). Err e) (same_refusal c.in-Err.refusal c.in-Err.ensures.refused.0)
 
 pub returns-in-Turn-clause-arms : goal.returns-in-Turn-clause-arms
 returns-in-Turn-clause-arms g c = arms_by c.args.line.now _ c.shown.result.0 c.in-Turn.is tt
@@ -200,9 +181,6 @@ returns-in-Turn-clause-enough g c = enough_by c.args.setting.now.shape.now c.arg
 pub returns-in-Turn-clause-slots : goal.returns-in-Turn-clause-slots
 returns-in-Turn-clause-slots g c = refl
 
-pub returns-in-Turn-clause-refused : goal.returns-in-Turn-clause-refused
-returns-in-Turn-clause-refused g c = not_refused c.shown.result.1 _ c.shown.ensures.answer
-
 pub returns-in-Call-clause-arms : goal.returns-in-Call-clause-arms
 returns-in-Call-clause-arms g c = arms_by c.args.line.now _ c.shown-in-Call.result.0 c.in-Call.is tt
 
@@ -217,9 +195,6 @@ returns-in-Call-clause-inspects g c = inspects_by c.args.line.now _ c.args.power
 
 pub returns-in-Call-clause-slots : goal.returns-in-Call-clause-slots
 returns-in-Call-clause-slots g c = refl
-
-pub returns-in-Call-clause-refused : goal.returns-in-Call-clause-refused
-returns-in-Call-clause-refused g c = not_refused c.shown-in-Call.result.1 _ c.shown-in-Call.ensures.answer
 
 pub returns-in-Show-clause-arms : goal.returns-in-Show-clause-arms
 returns-in-Show-clause-arms g c = arms_by c.args.line.now _ c.shown-in-Show.result.0 c.in-Show.is tt
@@ -239,9 +214,6 @@ returns-in-Show-clause-enough g c = enough_by c.args.setting.now.shape.now c.arg
 pub returns-in-Show-clause-slots : goal.returns-in-Show-clause-slots
 returns-in-Show-clause-slots g c = refl
 
-pub returns-in-Show-clause-refused : goal.returns-in-Show-clause-refused
-returns-in-Show-clause-refused g c = not_refused c.shown-in-Show.result.1 _ c.shown-in-Show.ensures.answer
-
 pub returns-in-Arm-clause-cuts : goal.returns-in-Arm-clause-cuts
 returns-in-Arm-clause-cuts g c = cuts_by c.args.line.now _ c.args.power c.answered-in-Arm.result.0 c.in-Arm.is tt
 
@@ -256,9 +228,6 @@ returns-in-Arm-clause-enough g c = enough_by c.args.setting.now.shape.now c.args
 
 pub returns-in-Arm-clause-slots : goal.returns-in-Arm-clause-slots
 returns-in-Arm-clause-slots g c = refl
-
-pub returns-in-Arm-clause-refused : goal.returns-in-Arm-clause-refused
-returns-in-Arm-clause-refused g c = not_refused c.answered-in-Arm.result.1 _ c.answered-in-Arm.ensures.answer
 
 pub returns-in-Poke-clause-arms : goal.returns-in-Poke-clause-arms
 returns-in-Poke-clause-arms g c = arms_by c.args.line.now _ c.poke_line.result.0 c.in-Poke.is tt
@@ -278,9 +247,6 @@ returns-in-Poke-clause-enough g c = enough_by c.args.setting.now.shape.now c.arg
 pub returns-in-Poke-clause-slots : goal.returns-in-Poke-clause-slots
 returns-in-Poke-clause-slots g c = refl
 
-pub returns-in-Poke-clause-refused : goal.returns-in-Poke-clause-refused
-returns-in-Poke-clause-refused g c = c.poke_line.ensures.refused
-
 pub returns-in-Inspect-clause-arms : goal.returns-in-Inspect-clause-arms
 returns-in-Inspect-clause-arms g c = arms_by c.args.line.now _ c.answered-in-Inspect.result.0 c.in-Inspect.is tt
 
@@ -298,9 +264,6 @@ returns-in-Inspect-clause-enough g c = enough_by c.args.setting.now.shape.now c.
 
 pub returns-in-Inspect-clause-slots : goal.returns-in-Inspect-clause-slots
 returns-in-Inspect-clause-slots g c = refl
-
-pub returns-in-Inspect-clause-refused : goal.returns-in-Inspect-clause-refused
-returns-in-Inspect-clause-refused g c = not_refused c.answered-in-Inspect.result.1 _ c.answered-in-Inspect.ensures.answer
 
 pub returns-in-Wake-clause-arms : goal.returns-in-Wake-clause-arms
 returns-in-Wake-clause-arms g c = arms_by c.args.line.now _ c.answered-in-Wake.result.0 c.in-Wake.is tt
@@ -320,11 +283,8 @@ returns-in-Wake-clause-enough g c = enough_by c.args.setting.now.shape.now c.arg
 pub returns-in-Wake-clause-slots : goal.returns-in-Wake-clause-slots
 returns-in-Wake-clause-slots g c = refl
 
-pub returns-in-Wake-clause-refused : goal.returns-in-Wake-clause-refused
-returns-in-Wake-clause-refused g c = not_refused c.answered-in-Wake.result.1 _ c.answered-in-Wake.ensures.answer
-
 pub returns-in-Err-clause-reported : goal.returns-in-Err-clause-reported
-returns-in-Err-clause-reported g c = λ b h. (same_refusal c.in-Err.refusal c.in-Err.ensures.refused.0, (h.0, c.in-Err.ensures.refused.1 ∙ h.1))
+returns-in-Err-clause-reported g c = λ b h. (h.0, c.in-Err.ensures.refused ∙ h.1)
 
 pub turn_line-requires-clause-some : goal.turn_line-requires-clause-some
 turn_line-requires-clause-some g c = λ κs within. some_turns c.args.setting.now.shape.now c.args.line.now c.in-Turn.hart c.in-Turn.count c.in-Turn.is c.requires.range

@@ -13,16 +13,18 @@ run_until-requires-clause-ranges g c = λ lives within.
     let P : List Line → Type 0 = λ ls. All (IsLineInRange size) ls in
     subst P (sym c.deref.ensures.value) (c.in_ok-lines.ensures.order.ranges size c.requires.drawable.ranges)
 
-pub returns-clause-ran : goal.returns-clause-ran
-returns-clause-ran g c =
-    let own = c.args.own.now in
-    let size = c.args.runner.now.setting.shape.now in
-    let start = c.args.runner.now.payloads.now in
-    let drawable = c.requires.drawable in
-    IfOk-weaker c.run_until.result _ _
-    (λ differs ran.
-    (let P : List Line → Type 0 = λ ls. RanLike size start ls own.answers.items differs in
-    let Q : List Answer → Type 0 = λ said. RanLike size start c.deref.result.now said differs in
-    ran_of size start c.args.runner.now.lines.now c.in_ok-lines.lines.items own.answers.items differs drawable.sized c.in_ok-lines.ensures.order c.in_ok-lines.ensures.few drawable.ranges drawable.fits
-    (subst P c.deref.ensures.value (subst Q c.deref-2.ensures.value ran))))
-    c.run_until.ensures.ran
+pub returns : goal.returns
+returns g c = record {
+  ran = (
+      let own = c.args.own.now in
+      let size = c.args.runner.now.setting.shape.now in
+      let start = c.args.runner.now.payloads.now in
+      let drawable = c.requires.drawable in
+      IfOk-weaker c.run_until.result _ _
+      (λ differs ran.
+      (let P : List Line → Type 0 = λ ls. RanLike size start ls own.answers.items differs in
+      let Q : List Answer → Type 0 = λ said. RanLike size start c.deref.result.now said differs in
+      ran_of size start c.args.runner.now.lines.now c.in_ok-lines.lines.items own.answers.items differs drawable.sized c.in_ok-lines.ensures.order c.in_ok-lines.ensures.few drawable.ranges drawable.fits
+      (subst P c.deref.ensures.value (subst Q c.deref-2.ensures.value ran))))
+      c.run_until.ensures.ran);
+}

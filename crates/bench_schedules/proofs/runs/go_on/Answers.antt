@@ -26,17 +26,21 @@ loop-line-preserved g c =
           c.loop-line-test.true c.line-item.is within i.goes c.in_ok-answer.ensures.stepped c.in-Ok.ensures.alike;
     }
 
-pub returns-in-Err-clause-went : goal.returns-in-Err-clause-went
-returns-in-Err-clause-went g c =
-    let i = c.loop-line.invariant in
-    let within = place_within c.args.lines.now c.loop-line.line-index c.line-item.result c.args.own.now c.loop-line.going.place c.loop-line-test.true c.line-item.is i.few in (
-      c.in_ok-answer.ensures.sound,
-      goes_apart c.args.setting.now.shape.now c.args.lines.now c.loop-line.line-index c.args.own.now c.args.going.now c.loop-line.going c.run_line.new.live c.line-item.result c.in_ok-answer.answer c.in-Err.difference
-          c.loop-line-test.true c.line-item.is within i.goes c.in_ok-answer.ensures.stepped c.in-Err.ensures.apart,
-    )
+pub returns-in-Err : goal.returns-in-Err
+returns-in-Err g c = record {
+  went = (
+      let i = c.loop-line.invariant in
+      let within = place_within c.args.lines.now c.loop-line.line-index c.line-item.result c.args.own.now c.loop-line.going.place c.loop-line-test.true c.line-item.is i.few in (
+        c.in_ok-answer.ensures.sound,
+        goes_apart c.args.setting.now.shape.now c.args.lines.now c.loop-line.line-index c.args.own.now c.args.going.now c.loop-line.going c.run_line.new.live c.line-item.result c.in_ok-answer.answer c.in-Err.difference
+            c.loop-line-test.true c.line-item.is within i.goes c.in_ok-answer.ensures.stepped c.in-Err.ensures.apart,
+      ));
+}
 
-pub returns-clause-went : goal.returns-clause-went
-returns-clause-went g c =
-    let i = c.loop-line.invariant in
-    let P : List Line → Type 0 = λ ls. GoesAlike c.args.setting.now.shape.now ls c.args.own.now c.args.going.now c.loop-line.going in
-    (i.sound, omega (arith, i.few), subst P (take_all c.loop-line.line-index c.args.lines.now (omega (arith, c.loop-line-test.false))) i.goes)
+pub returns : goal.returns
+returns g c = record {
+  went = (
+      let i = c.loop-line.invariant in
+      let P : List Line → Type 0 = λ ls. GoesAlike c.args.setting.now.shape.now ls c.args.own.now c.args.going.now c.loop-line.going in
+      (i.sound, omega (arith, i.few), subst P (take_all c.loop-line.line-index c.args.lines.now (omega (arith, c.loop-line-test.false))) i.goes));
+}

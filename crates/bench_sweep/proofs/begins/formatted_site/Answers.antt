@@ -1,5 +1,5 @@
 use Rattle.bench_sweep.proofs.Begun.{site_runs}
 use Rattle.bench_sweep.proofs.begins.formatted_site.Goals as goal
 
-pub returns-clause-runs : goal.returns-clause-runs
-returns-clause-runs c = λ start lines g. site_runs c.args.shape.now start lines c.args.bench.power _ c.args.bench.payloads _ g c.disk_left-disk.ensures.reported c.formatted.ensures
+pub returns : goal.returns
+returns c = record { runs = (λ start lines g. site_runs c.args.shape.now start lines c.args.bench.power _ c.args.bench.payloads _ g c.disk_left-disk.ensures.reported c.formatted.ensures) }

@@ -3,7 +3,6 @@ use Rattle.bench_sweep.specs.Runs.{IsFormattedAt}
 use Rattle.bench_report.specs.Bench.{bench_with}
 use Rattle.bench_sweep.proofs.Begun.{begun_by, begins_more}
 use Rattle.std.proofs.lemmas.Result.{IfOk-from_err}
-use Rattle.board_model.proofs.Exits.{err_exit}
 use Rattle.bench_sweep.proofs.begins.run_to_format.Goals as goal
 
 pub loop-line-init : goal.loop-line-init
@@ -36,14 +35,8 @@ returns-then-formatted-clause-runs g c =
 pub returns-then-formatted-clause-few : goal.returns-then-formatted-clause-few
 returns-then-formatted-clause-few g c = let i = c.loop-line.invariant in omega (arith, i.count, c.loop-line-test.true)
 
-pub returns-clause-refused : goal.returns-clause-refused
-returns-clause-refused g c = refl
-
 pub returns-in_err-bench-clause-few : goal.returns-in_err-bench-clause-few
 returns-in_err-bench-clause-few g c = IfOk-from_err c.from_residual.result _ c.from_residual.ensures.0
-
-pub returns-in_err-bench-clause-refused : goal.returns-in_err-bench-clause-refused
-returns-in_err-bench-clause-refused g c = err_exit _ c.from_residual.result c.in_err-bench.field-0.0 c.from_residual.ensures.1 c.in_err-bench.ensures.refused
 
 pub returns-in_err-bench-clause-runs : goal.returns-in_err-bench-clause-runs
 returns-in_err-bench-clause-runs g c = IfOk-from_err c.from_residual.result _ c.from_residual.ensures.0
@@ -51,11 +44,5 @@ returns-in_err-bench-clause-runs g c = IfOk-from_err c.from_residual.result _ c.
 pub returns-in_err-site-clause-few : goal.returns-in_err-site-clause-few
 returns-in_err-site-clause-few g c = IfOk-from_err c.from_residual-in_err-site.result _ c.from_residual-in_err-site.ensures.0
 
-pub returns-in_err-site-clause-refused : goal.returns-in_err-site-clause-refused
-returns-in_err-site-clause-refused g c = err_exit _ c.from_residual-in_err-site.result c.in_err-site.field-0.0 c.from_residual-in_err-site.ensures.1 c.in_err-site.ensures.refused
-
 pub returns-in_err-site-clause-runs : goal.returns-in_err-site-clause-runs
 returns-in_err-site-clause-runs g c = IfOk-from_err c.from_residual-in_err-site.result _ c.from_residual-in_err-site.ensures.0
-
-pub returns-then-formatted-clause-refused : goal.returns-then-formatted-clause-refused
-returns-then-formatted-clause-refused g c = tt

@@ -1,5 +1,4 @@
 use Rattle.std.proofs.lemmas.Result.{IfOk-from_err}
-use Rattle.board_model.proofs.Exits.{err_exit}
 use Rattle.bench_sweep.proofs.chunks.mark_next.Goals as goal
 
 pub run_to-requires-clause-sits : goal.run_to-requires-clause-sits
@@ -14,14 +13,8 @@ returns-in-Err-clause-few g c = tt
 pub returns-in-Err-clause-sits : goal.returns-in-Err-clause-sits
 returns-in-Err-clause-sits g c = tt
 
-pub returns-in-Ok-clause-refused : goal.returns-in-Ok-clause-refused
-returns-in-Ok-clause-refused g c = tt
-
 pub returns-in_err-moment-clause-few : goal.returns-in_err-moment-clause-few
 returns-in_err-moment-clause-few g c = IfOk-from_err c.from_residual.result _ c.from_residual.ensures.0
-
-pub returns-in_err-moment-clause-refused : goal.returns-in_err-moment-clause-refused
-returns-in_err-moment-clause-refused g c = err_exit _ c.from_residual.result c.in_err-moment.field-0.0 c.from_residual.ensures.1 c.in_err-moment.ensures.refused
 
 pub returns-in_err-moment-clause-sits : goal.returns-in_err-moment-clause-sits
 returns-in_err-moment-clause-sits g c = IfOk-from_err c.from_residual.result _ c.from_residual.ensures.0

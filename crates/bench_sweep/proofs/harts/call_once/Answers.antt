@@ -1,7 +1,6 @@
 use Rattle.bench_sweep.proofs.Turned.{call_unmade, call_made}
 use Rattle.std.proofs.Common.{refl}
 use Rattle.std.proofs.lemmas.Result.{IfOk-from_err}
-use Rattle.board_model.proofs.Exits.{err_exit}
 use Rattle.bench_sweep.proofs.harts.call_once.Goals as goal
 
 pub returns-in-None-clause-goes : goal.returns-in-None-clause-goes
@@ -13,17 +12,11 @@ returns-in_ok-record_hart-in-Some-clause-goes g c = λ size b was told.
     call_made size b c.args.board.now c.call.new.self c.args.hart c.args.words c.args.ledger.now c.requires.hart was told c.in-Some.word c.record_hart.new.ledger c.in_ok-suspended_well-in-Some.ensures.enough c.in-Some.ensures.calls
     (λ n follows moved. c.in_ok-record_hart-in-Some.ensures.kept size b n follows moved)
 
-pub returns-in-None-clause-memory : goal.returns-in-None-clause-memory
-returns-in-None-clause-memory g c = tt
-
 pub returns-in-None-clause-resumed : goal.returns-in-None-clause-resumed
 returns-in-None-clause-resumed g c = refl
 
 pub returns-in_err-record_hart-in-Some-clause-goes : goal.returns-in_err-record_hart-in-Some-clause-goes
 returns-in_err-record_hart-in-Some-clause-goes g c = IfOk-from_err c.from_residual-in_err-record_hart-in-Some.result _ c.from_residual-in_err-record_hart-in-Some.ensures.0
-
-pub returns-in_err-record_hart-in-Some-clause-memory : goal.returns-in_err-record_hart-in-Some-clause-memory
-returns-in_err-record_hart-in-Some-clause-memory g c = err_exit _ c.from_residual-in_err-record_hart-in-Some.result c.in_err-record_hart-in-Some.field-0.0 c.from_residual-in_err-record_hart-in-Some.ensures.1 c.in_err-record_hart-in-Some.ensures.memory
 
 pub returns-in_err-record_hart-in-Some-clause-resumed : goal.returns-in_err-record_hart-in-Some-clause-resumed
 returns-in_err-record_hart-in-Some-clause-resumed g c = c.record_hart.ensures.resumed
@@ -31,14 +24,8 @@ returns-in_err-record_hart-in-Some-clause-resumed g c = c.record_hart.ensures.re
 pub returns-in_err-suspended_well-in-Some-clause-goes : goal.returns-in_err-suspended_well-in-Some-clause-goes
 returns-in_err-suspended_well-in-Some-clause-goes g c = IfOk-from_err c.from_residual.result _ c.from_residual.ensures.0
 
-pub returns-in_err-suspended_well-in-Some-clause-memory : goal.returns-in_err-suspended_well-in-Some-clause-memory
-returns-in_err-suspended_well-in-Some-clause-memory g c = err_exit _ c.from_residual.result c.in_err-suspended_well-in-Some.field-0.0 c.from_residual.ensures.1 c.in_err-suspended_well-in-Some.ensures.refused
-
 pub returns-in_err-suspended_well-in-Some-clause-resumed : goal.returns-in_err-suspended_well-in-Some-clause-resumed
 returns-in_err-suspended_well-in-Some-clause-resumed g c = refl
-
-pub returns-in_ok-record_hart-in-Some-clause-memory : goal.returns-in_ok-record_hart-in-Some-clause-memory
-returns-in_ok-record_hart-in-Some-clause-memory g c = tt
 
 pub returns-in_ok-record_hart-in-Some-clause-resumed : goal.returns-in_ok-record_hart-in-Some-clause-resumed
 returns-in_ok-record_hart-in-Some-clause-resumed g c = c.record_hart.ensures.resumed

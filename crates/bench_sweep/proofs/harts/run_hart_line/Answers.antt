@@ -22,20 +22,11 @@ returns-in-Err-clause-goes g c = tt
 pub returns-in-Err-clause-resumed : goal.returns-in-Err-clause-resumed
 returns-in-Err-clause-resumed g c = c.run_in_place.ensures.resumed
 
-pub returns-in-Off-clause-memory : goal.returns-in-Off-clause-memory
-returns-in-Off-clause-memory g c = tt
-
 pub returns-in-Off-clause-resumed : goal.returns-in-Off-clause-resumed
 returns-in-Off-clause-resumed g c = refl
 
-pub returns-in-Ok-None-clause-memory : goal.returns-in-Ok-None-clause-memory
-returns-in-Ok-None-clause-memory g c = tt
-
 pub returns-in-Ok-None-clause-resumed : goal.returns-in-Ok-None-clause-resumed
 returns-in-Ok-None-clause-resumed g c = c.run_in_place.ensures.resumed
-
-pub returns-in-Ok-Some-clause-memory : goal.returns-in-Ok-Some-clause-memory
-returns-in-Ok-Some-clause-memory g c = tt
 
 pub returns-in-Ok-Some-clause-resumed : goal.returns-in-Ok-Some-clause-resumed
 returns-in-Ok-Some-clause-resumed g c = c.run_in_place.ensures.resumed

@@ -6,14 +6,8 @@ returns-in-Turn-clause-goes g c = rw c.in-Turn.is c.turn_in_place.ensures.goes
 pub returns-in-Call-clause-goes : goal.returns-in-Call-clause-goes
 returns-in-Call-clause-goes g c = rw c.in-Call.is c.call_in_place.ensures.goes
 
-pub returns-in-Call-clause-memory : goal.returns-in-Call-clause-memory
-returns-in-Call-clause-memory g c = c.call_in_place.ensures.memory
-
 pub returns-in-Call-clause-resumed : goal.returns-in-Call-clause-resumed
 returns-in-Call-clause-resumed g c = c.call_in_place.ensures.resumed
-
-pub returns-in-Turn-clause-memory : goal.returns-in-Turn-clause-memory
-returns-in-Turn-clause-memory g c = c.turn_in_place.ensures.memory
 
 pub returns-in-Turn-clause-resumed : goal.returns-in-Turn-clause-resumed
 returns-in-Turn-clause-resumed g c = c.turn_in_place.ensures.resumed

@@ -6,7 +6,6 @@ use Rattle.bench_report.specs.Views.{machine_in}
 use Rattle.bench_sweep.specs.Lines.{TurnsMany}
 use Rattle.bench_sweep.proofs.Turned.{hart_line, turn_line, turn_lacks}
 use Rattle.std.proofs.lemmas.Result.{IfOk-from_err}
-use Rattle.board_model.proofs.Exits.{err_exit}
 use Rattle.bench_sweep.proofs.harts.turn_in_place.Goals as goal
 
 pub returns-then-not-has-clause-goes : goal.returns-then-not-has-clause-goes
@@ -28,14 +27,8 @@ returns-clause-goes g c = λ size b was told.
 pub returns-in_err-word-clause-goes : goal.returns-in_err-word-clause-goes
 returns-in_err-word-clause-goes g c = IfOk-from_err c.from_residual.result _ c.from_residual.ensures.0
 
-pub returns-in_err-word-clause-memory : goal.returns-in_err-word-clause-memory
-returns-in_err-word-clause-memory g c = err_exit _ c.from_residual.result c.in_err-word.field-0.0 c.from_residual.ensures.1 c.in_err-word.ensures.memory
-
 pub returns-in_err-word-clause-resumed : goal.returns-in_err-word-clause-resumed
 returns-in_err-word-clause-resumed g c = c.turn_many.ensures.resumed
-
-pub returns-then-not-has-clause-memory : goal.returns-then-not-has-clause-memory
-returns-then-not-has-clause-memory g c = tt
 
 pub returns-then-not-has-clause-resumed : goal.returns-then-not-has-clause-resumed
 returns-then-not-has-clause-resumed g c = refl

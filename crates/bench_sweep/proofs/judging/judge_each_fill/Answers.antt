@@ -5,7 +5,6 @@ use Rattle.bench_sweep.specs.Swept.{cell}
 use Rattle.bench_sweep.proofs.Rowed.{judged_none, judged_more, judged_as}
 use Rattle.bench_sweep.proofs.Written.{map_more}
 use Rattle.std.proofs.lemmas.Result.{IfOk-from_err}
-use Rattle.board_model.proofs.Exits.{err_exit}
 use Rattle.bench_sweep.proofs.judging.judge_each_fill.Goals as goal
 
 pub loop-fill-init : goal.loop-fill-init
@@ -19,12 +18,14 @@ loop-fill-preserved g c = λ b r.
     judged_as _ _ _ _ (sym (map_more (λ (fill : Fill). cell c.args.point.caller c.args.point.number (Some fill)) _ c.loop-fill.fill-index _ (Byte 0) c.loop-fill-test.true refl))
     (judged_more _ _ _ _ _ (c.loop-fill.invariant b r) (c.in_ok-judge_run.ensures.kept b r))
 
-pub returns-clause-judged : goal.returns-clause-judged
-returns-clause-judged g c = λ b r.
-    let all : c.loop-fill.fill-index ≡ 4 = omega arith in
-    judged_more _ _ _ _ _
-    (judged_as _ _ _ _ (ap (λ (k : ℕ). map (λ (fill : Fill). cell c.args.point.caller c.args.point.number (Some fill)) (take k (Byte 0 ∷ Byte 255 ∷ Alternating ∷ Old ∷ []))) all) (c.loop-fill.invariant b r))
-    (c.in_ok-judge_last.ensures.kept b r)
+pub returns : goal.returns
+returns g c = record {
+  judged = (λ b r.
+      let all : c.loop-fill.fill-index ≡ 4 = omega arith in
+      judged_more _ _ _ _ _
+      (judged_as _ _ _ _ (ap (λ (k : ℕ). map (λ (fill : Fill). cell c.args.point.caller c.args.point.number (Some fill)) (take k (Byte 0 ∷ Byte 255 ∷ Alternating ∷ Old ∷ []))) all) (c.loop-fill.invariant b r))
+      (c.in_ok-judge_last.ensures.kept b r));
+}
 
 pub judge_last-requires-clause-sits : goal.judge_last-requires-clause-sits
 judge_last-requires-clause-sits g c κs within = c.requires.sits
@@ -35,20 +36,11 @@ judge_run-requires-clause-sits g c κs within = c.requires.sits
 pub judge_settled-requires-clause-sits : goal.judge_settled-requires-clause-sits
 judge_settled-requires-clause-sits g c κs within = c.requires.sits
 
-pub returns-in_err-judge_last-clause-judged : goal.returns-in_err-judge_last-clause-judged
-returns-in_err-judge_last-clause-judged g c = IfOk-from_err c.from_residual-in_err-judge_last.result _ c.from_residual-in_err-judge_last.ensures.0
+pub returns-in_err-judge_last : goal.returns-in_err-judge_last
+returns-in_err-judge_last g c = record { judged = (IfOk-from_err c.from_residual-in_err-judge_last.result _ c.from_residual-in_err-judge_last.ensures.0) }
 
-pub returns-in_err-judge_last-clause-refused : goal.returns-in_err-judge_last-clause-refused
-returns-in_err-judge_last-clause-refused g c = err_exit _ c.from_residual-in_err-judge_last.result c.in_err-judge_last.field-0.0 c.from_residual-in_err-judge_last.ensures.1 c.in_err-judge_last.ensures.refused
+pub returns-in_err-judge_run : goal.returns-in_err-judge_run
+returns-in_err-judge_run g c = record { judged = (IfOk-from_err c.from_residual.result _ c.from_residual.ensures.0) }
 
-pub returns-in_err-judge_run-clause-judged : goal.returns-in_err-judge_run-clause-judged
-returns-in_err-judge_run-clause-judged g c = IfOk-from_err c.from_residual.result _ c.from_residual.ensures.0
-
-pub returns-in_err-judge_run-clause-refused : goal.returns-in_err-judge_run-clause-refused
-returns-in_err-judge_run-clause-refused g c = err_exit _ c.from_residual.result c.in_err-judge_run.field-0.0 c.from_residual.ensures.1 c.in_err-judge_run.ensures.refused
-
-pub returns-then-is_settled-clause-judged : goal.returns-then-is_settled-clause-judged
-returns-then-is_settled-clause-judged g c = c.judge_settled.ensures.judged
-
-pub returns-then-is_settled-clause-refused : goal.returns-then-is_settled-clause-refused
-returns-then-is_settled-clause-refused g c = c.judge_settled.ensures.refused
+pub returns-then-is_settled : goal.returns-then-is_settled
+returns-then-is_settled g c = record { judged = (c.judge_settled.ensures.judged) }

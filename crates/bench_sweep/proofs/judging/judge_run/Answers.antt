@@ -9,7 +9,6 @@ use Rattle.bench_report.specs.declared.power.Power.TheVariants.{Off}
 use Rattle.bench_sweep.specs.Made.{cut_content}
 use Rattle.bench_sweep.proofs.Left.{left_by}
 use Rattle.std.proofs.lemmas.Result.{IfOk-from_err}
-use Rattle.board_model.proofs.Exits.{err_exit, err_said}
 use Rattle.bench_sweep.proofs.judging.judge_run.Goals as goal
 
 pub count_run-requires : goal.count_run-requires
@@ -18,42 +17,35 @@ count_run-requires g c =
     let sits = c.requires.sits in
     (c.args.site.now.payloads, unpowered sits.0, left_by size sits.0 c.args.site.now.off c.in_ok-off.off c.args.site.now.payloads _ c.args.site.now.ledger c.args.site.now.ledger sits.1 (c.in_ok-off.ensures.left size sits.0 sits.1.agrees) refl (λ k t. t))
 
-pub returns-clause-kept : goal.returns-clause-kept
-returns-clause-kept g c = λ b r.
-    let size = c.args.runner.now.setting.shape.now in
-    let disk = c.args.site.now.off.disk in
-    let did = c.in_ok-left.ensures in
-    let looked = did.says (unpowered b) (c.in_ok-off.ensures.left size b r.agrees) in
-    let O : Fill → Type 0 = λ fill. OpensOf (cut_content disk fill) c.in_ok-left.left in
-    let P : Content → Type 0 = λ content. OpensOf content c.in_ok-left.left in record {
-      row = record { caller = c.args.point.caller; number = c.args.point.number; fill = c.args.fill; left = c.in_ok-left.left };
-      is = record {
-        stands = (Off c.args.site.now.off, r.agrees, refl);
-        after = looked.0;
-        says = looked.1;
-        finds = (durable_of (state_in did.judged.plain), did.judged.says);
-        opens = subst O c.cut_fill-bytes.ensures (subst P c.in_ok-off.ensures.exact did.exact);
-      };
-      cell = refl;
-      rows = c.in_ok-push.ensures.items;
-      runs = did.runs;
-      right = did.right;
-    }
+pub returns : goal.returns
+returns g c = record {
+  kept = (λ b r.
+      let size = c.args.runner.now.setting.shape.now in
+      let disk = c.args.site.now.off.disk in
+      let did = c.in_ok-left.ensures in
+      let looked = did.says (unpowered b) (c.in_ok-off.ensures.left size b r.agrees) in
+      let O : Fill → Type 0 = λ fill. OpensOf (cut_content disk fill) c.in_ok-left.left in
+      let P : Content → Type 0 = λ content. OpensOf content c.in_ok-left.left in record {
+        row = record { caller = c.args.point.caller; number = c.args.point.number; fill = c.args.fill; left = c.in_ok-left.left };
+        is = record {
+          stands = (Off c.args.site.now.off, r.agrees, refl);
+          after = looked.0;
+          says = looked.1;
+          finds = (durable_of (state_in did.judged.plain), did.judged.says);
+          opens = subst O c.cut_fill-bytes.ensures (subst P c.in_ok-off.ensures.exact did.exact);
+        };
+        cell = refl;
+        rows = c.in_ok-push.ensures.items;
+        runs = did.runs;
+        right = did.right;
+      });
+}
 
-pub returns-in_err-left-clause-kept : goal.returns-in_err-left-clause-kept
-returns-in_err-left-clause-kept g c = IfOk-from_err c.from_residual-in_err-left.result _ c.from_residual-in_err-left.ensures.0
+pub returns-in_err-left : goal.returns-in_err-left
+returns-in_err-left g c = record { kept = (IfOk-from_err c.from_residual-in_err-left.result _ c.from_residual-in_err-left.ensures.0) }
 
-pub returns-in_err-left-clause-refused : goal.returns-in_err-left-clause-refused
-returns-in_err-left-clause-refused g c = err_exit _ c.from_residual-in_err-left.result c.in_err-left.field-0.0 c.from_residual-in_err-left.ensures.1 c.in_err-left.ensures.refused
+pub returns-in_err-off : goal.returns-in_err-off
+returns-in_err-off g c = record { kept = (IfOk-from_err c.from_residual.result _ c.from_residual.ensures.0) }
 
-pub returns-in_err-off-clause-kept : goal.returns-in_err-off-clause-kept
-returns-in_err-off-clause-kept g c = IfOk-from_err c.from_residual.result _ c.from_residual.ensures.0
-
-pub returns-in_err-off-clause-refused : goal.returns-in_err-off-clause-refused
-returns-in_err-off-clause-refused g c = err_exit _ c.from_residual.result c.in_err-off.field-0.0 c.from_residual.ensures.1 c.in_err-off.ensures.refused
-
-pub returns-in_err-push-clause-kept : goal.returns-in_err-push-clause-kept
-returns-in_err-push-clause-kept g c = IfOk-from_err c.from_residual-in_err-push.result _ c.from_residual-in_err-push.ensures.0
-
-pub returns-in_err-push-clause-refused : goal.returns-in_err-push-clause-refused
-returns-in_err-push-clause-refused g c = err_said _ _ c.from_residual-in_err-push.result c.from_residual-in_err-push.ensures.1 (λ y is. is)
+pub returns-in_err-push : goal.returns-in_err-push
+returns-in_err-push g c = record { kept = (IfOk-from_err c.from_residual-in_err-push.result _ c.from_residual-in_err-push.ensures.0) }

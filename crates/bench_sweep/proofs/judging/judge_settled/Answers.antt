@@ -23,7 +23,9 @@ loop-fill-preserved g c = λ b r.
     judged_as _ _ _ _ (sym (map_more (λ (fill : Fill). cell c.args.point.caller c.args.point.number (Some fill)) _ c.loop-fill.fill-index _ (Byte 0) c.loop-fill-test.true refl))
     (judged_more _ _ _ _ _ (c.loop-fill.invariant b r) kept)
 
-pub returns-clause-judged : goal.returns-clause-judged
-returns-clause-judged g c = λ b r.
-    let all : c.loop-fill.fill-index ≡ 5 = omega arith in
-    judged_as _ _ _ _ (ap (λ (k : ℕ). map (λ (fill : Fill). cell c.args.point.caller c.args.point.number (Some fill)) (take k (Byte 0 ∷ Byte 255 ∷ Alternating ∷ Old ∷ New ∷ []))) all) (c.loop-fill.invariant b r)
+pub returns : goal.returns
+returns g c = record {
+  judged = (λ b r.
+      let all : c.loop-fill.fill-index ≡ 5 = omega arith in
+      judged_as _ _ _ _ (ap (λ (k : ℕ). map (λ (fill : Fill). cell c.args.point.caller c.args.point.number (Some fill)) (take k (Byte 0 ∷ Byte 255 ∷ Alternating ∷ Old ∷ New ∷ []))) all) (c.loop-fill.invariant b r));
+}

@@ -6,7 +6,6 @@ use Rattle.bench_sweep.proofs.Left.{unstruck}
 use Rattle.bench_sweep.proofs.Made.{runs_with}
 use Rattle.bench_sweep.proofs.Rowed.{judged_none, judged_more, judged_at}
 use Rattle.std.proofs.lemmas.Result.{IfOk-from_err}
-use Rattle.board_model.proofs.Exits.{err_exit}
 use Rattle.bench_sweep.proofs.judging.run_past_failure.Goals as goal
 
 pub run_lines-requires-clause-calm : goal.run_lines-requires-clause-calm
@@ -25,33 +24,26 @@ judge_last-requires-clause-sits g c κs within =
     let left = c.in_ok-left.ensures.runs size ran.bench ran.runs in
     (off ran.bench, left.3)
 
-pub returns-clause-judged : goal.returns-clause-judged
-returns-clause-judged g c = λ b l.
-    let size = c.args.runner.now.setting.shape.now in
-    let lines = c.args.runner.now.lines.now in
-    let calm = c.armed-armed.ensures.runs size b l in
-    let ran = c.in_ok-went.ensures.ran (armed_with (fault_at Fails c.args.point.caller c.args.point.call) b) calm in
-    let left = c.in_ok-left.ensures.runs size ran.bench ran.runs in
-    let all : c.in_ok-went.went.count ≡ length lines = omega (arith, c.in_ok-went.ensures.few, c.in_ok-left.ensures.whole) in
-    let none = c.none-made.ensures in
-    judged_at Fails c.args.point.caller c.args.point.number _ _ _
-    (λ row caller number is. runs_with size Fails c.args.point b lines c.in_ok-went.went.count _ _ _ _ c.in_ok-went.ensures.few ran (all, left.0, left.1, left.2) c.in_ok-left.left.off.disk row caller number is)
-    (judged_more _ _ _ [] _ (judged_none _ _ none.rows none.runs none.right) (c.in_ok-judge_last.ensures.kept (off ran.bench) left.3))
+pub returns : goal.returns
+returns g c = record {
+  judged = (λ b l.
+      let size = c.args.runner.now.setting.shape.now in
+      let lines = c.args.runner.now.lines.now in
+      let calm = c.armed-armed.ensures.runs size b l in
+      let ran = c.in_ok-went.ensures.ran (armed_with (fault_at Fails c.args.point.caller c.args.point.call) b) calm in
+      let left = c.in_ok-left.ensures.runs size ran.bench ran.runs in
+      let all : c.in_ok-went.went.count ≡ length lines = omega (arith, c.in_ok-went.ensures.few, c.in_ok-left.ensures.whole) in
+      let none = c.none-made.ensures in
+      judged_at Fails c.args.point.caller c.args.point.number _ _ _
+      (λ row caller number is. runs_with size Fails c.args.point b lines c.in_ok-went.went.count _ _ _ _ c.in_ok-went.ensures.few ran (all, left.0, left.1, left.2) c.in_ok-left.left.off.disk row caller number is)
+      (judged_more _ _ _ [] _ (judged_none _ _ none.rows none.runs none.right) (c.in_ok-judge_last.ensures.kept (off ran.bench) left.3)));
+}
 
-pub returns-in_err-judge_last-clause-judged : goal.returns-in_err-judge_last-clause-judged
-returns-in_err-judge_last-clause-judged g c = IfOk-from_err c.from_residual-in_err-judge_last.result _ c.from_residual-in_err-judge_last.ensures.0
+pub returns-in_err-judge_last : goal.returns-in_err-judge_last
+returns-in_err-judge_last g c = record { judged = (IfOk-from_err c.from_residual-in_err-judge_last.result _ c.from_residual-in_err-judge_last.ensures.0) }
 
-pub returns-in_err-judge_last-clause-refused : goal.returns-in_err-judge_last-clause-refused
-returns-in_err-judge_last-clause-refused g c = err_exit _ c.from_residual-in_err-judge_last.result c.in_err-judge_last.field-0.0 c.from_residual-in_err-judge_last.ensures.1 c.in_err-judge_last.ensures.refused
+pub returns-in_err-left : goal.returns-in_err-left
+returns-in_err-left g c = record { judged = (IfOk-from_err c.from_residual-in_err-left.result _ c.from_residual-in_err-left.ensures.0) }
 
-pub returns-in_err-left-clause-judged : goal.returns-in_err-left-clause-judged
-returns-in_err-left-clause-judged g c = IfOk-from_err c.from_residual-in_err-left.result _ c.from_residual-in_err-left.ensures.0
-
-pub returns-in_err-left-clause-refused : goal.returns-in_err-left-clause-refused
-returns-in_err-left-clause-refused g c = err_exit _ c.from_residual-in_err-left.result c.in_err-left.field-0.0 c.from_residual-in_err-left.ensures.1 c.in_err-left.ensures.refused
-
-pub returns-in_err-went-clause-judged : goal.returns-in_err-went-clause-judged
-returns-in_err-went-clause-judged g c = IfOk-from_err c.from_residual.result _ c.from_residual.ensures.0
-
-pub returns-in_err-went-clause-refused : goal.returns-in_err-went-clause-refused
-returns-in_err-went-clause-refused g c = err_exit _ c.from_residual.result c.in_err-went.field-0.0 c.from_residual.ensures.1 c.in_err-went.ensures.refused
+pub returns-in_err-went : goal.returns-in_err-went
+returns-in_err-went g c = record { judged = (IfOk-from_err c.from_residual.result _ c.from_residual.ensures.0) }

@@ -16,7 +16,9 @@ loop-row-preserved g c =
     subst A (rows_one_more c.args.rows.now c.loop-row.row-index c.row-item.result c.row-item.result c.loop-row-test.true c.row-item.is)
     (appended _ _ _ _ _ c.loop-row.invariant c.in_ok-write_row.ensures.ok)
 
-pub returns-clause-ok : goal.returns-clause-ok
-returns-clause-ok g c =
-    let A : List Row → Type 0 = λ rows. Appends (g.W.Write.contents c.args.out.now) (g.W.Write.contents c.loop-row.out) (rows_text false rows) in
-    subst A (take_all c.loop-row.row-index c.args.rows.now (omega (arith, c.loop-row-test.false))) c.loop-row.invariant
+pub returns : goal.returns
+returns g c = record {
+  ok = (
+      let A : List Row → Type 0 = λ rows. Appends (g.W.Write.contents c.args.out.now) (g.W.Write.contents c.loop-row.out) (rows_text false rows) in
+      subst A (take_all c.loop-row.row-index c.args.rows.now (omega (arith, c.loop-row-test.false))) c.loop-row.invariant);
+}

@@ -18,8 +18,10 @@ loop-caller-preserved c =
     subst N (sym c.in_ok-push.ensures.items)
     (subst C (sym (take_more callers i Disk c.loop-caller-test.true)) (zip_more _ (take i callers) c.loop-caller.counts.items _ n c.loop-caller.invariant c.in_ok-calls.ensures.calls))
 
-pub returns-clause-counts : goal.returns-clause-counts
-returns-clause-counts c =
-    let all : c.loop-caller.caller-index ≡ 5 = omega arith in
-    let Z : ℕ → Type 0 = λ k. AllZip (MadeCalls c.args.from.now.off.disk c.args.to.now.off.disk) (take k callers) c.loop-caller.counts.items in
-    subst Z all c.loop-caller.invariant
+pub returns : goal.returns
+returns c = record {
+  counts = (
+      let all : c.loop-caller.caller-index ≡ 5 = omega arith in
+      let Z : ℕ → Type 0 = λ k. AllZip (MadeCalls c.args.from.now.off.disk c.args.to.now.off.disk) (take k callers) c.loop-caller.counts.items in
+      subst Z all c.loop-caller.invariant);
+}

@@ -5,7 +5,7 @@ use Rattle.bench_report.specs.Happens.{unpowered}
 use Rattle.script_lang.specs.Lines.{IsLineInRange}
 use Rattle.bench_sweep.specs.Shown.{run_cell}
 use Rattle.bench_sweep.proofs.ShownRows.{refused_so, shows_from, shows_none}
-use Rattle.board_model.proofs.Exits.{err_exit}
+use Rattle.board_model.proofs.Exits.{err_said}
 use Rattle.bench_sweep.proofs.shown.show_from.Goals as goal
 
 pub write_shown-requires-clause-back : goal.write_shown-requires-clause-back
@@ -50,7 +50,7 @@ pub returns-in_err-arming-clause-shown : goal.returns-in_err-arming-clause-shown
 returns-in_err-arming-clause-shown g c = IfOk-from_err c.from_residual-in_err-arming.result _ c.from_residual-in_err-arming.ensures.0
 
 pub returns-in_err-count-clause-refused : goal.returns-in_err-count-clause-refused
-returns-in_err-count-clause-refused g c = err_exit _ c.from_residual-in_err-count.result c.in_err-count.field-0.0 c.from_residual-in_err-count.ensures.1 (inl c.in_err-count.ensures.refused)
+returns-in_err-count-clause-refused g c = err_said _ _ c.from_residual-in_err-count.result c.from_residual-in_err-count.ensures.1 (λ y is. inl is)
 
 pub returns-in_err-count-clause-shown : goal.returns-in_err-count-clause-shown
 returns-in_err-count-clause-shown g c = IfOk-from_err c.from_residual-in_err-count.result _ c.from_residual-in_err-count.ensures.0

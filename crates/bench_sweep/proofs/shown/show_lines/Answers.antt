@@ -9,7 +9,7 @@ use Rattle.bench_sweep.specs.Shown.{ShowsFrom, ShowsNone}
 use Rattle.bench_sweep.proofs.Made.{rest_is}
 use Rattle.bench_sweep.proofs.Reported.{swept_take, swept_drop}
 use Rattle.bench_sweep.proofs.ShownRows.{refused_so}
-use Rattle.board_model.proofs.Exits.{err_exit}
+use Rattle.board_model.proofs.Exits.{err_said}
 use Rattle.bench_sweep.proofs.shown.show_lines.Goals as goal
 
 pub show_from-requires-clause-lines : goal.show_from-requires-clause-lines
@@ -44,7 +44,7 @@ returns-clause-refused g c = refused_so c.show_from.result (λ did.
     c.show_from.ensures.refused
 
 pub returns-in_err-begin-clause-refused : goal.returns-in_err-begin-clause-refused
-returns-in_err-begin-clause-refused g c = err_exit _ c.from_residual.result c.in_err-begin.field-0.0 c.from_residual.ensures.1 (inl c.in_err-begin.ensures.refused)
+returns-in_err-begin-clause-refused g c = err_said _ _ c.from_residual.result c.from_residual.ensures.1 (λ y is. inl is)
 
 pub returns-in_err-begin-clause-shown : goal.returns-in_err-begin-clause-shown
 returns-in_err-begin-clause-shown g c = IfOk-from_err c.from_residual.result _ c.from_residual.ensures.0

@@ -10,7 +10,6 @@ use Rattle.bench_sweep.proofs.Took.{took_more}
 use Rattle.bench_sweep.proofs.sites.run_lines.Given.{Over}
 use Rattle.bench_sweep.proofs.sites.run_lines.Goals.{After-stops, in-Command+in_ok-run_command-in-Command, in_default+in_ok-going-in_default}
 use Rattle.std.proofs.lemmas.Result.{IfOk-from_err}
-use Rattle.board_model.proofs.Exits.{err_exit}
 use Rattle.bench_sweep.proofs.sites.run_lines.Goals as goal
 
 -- the line's step was made, whichever function ran it
@@ -123,9 +122,6 @@ returns-in_err-run_command-in-Command-clause-few g c = IfOk-from_err c.from_resi
 pub returns-in_err-run_command-in-Command-clause-ran : goal.returns-in_err-run_command-in-Command-clause-ran
 returns-in_err-run_command-in-Command-clause-ran g c = IfOk-from_err c.from_residual.result _ c.from_residual.ensures.0
 
-pub returns-in_err-run_command-in-Command-clause-refused : goal.returns-in_err-run_command-in-Command-clause-refused
-returns-in_err-run_command-in-Command-clause-refused g c = err_exit _ c.from_residual.result c.in_err-run_command-in-Command.field-0.0 c.from_residual.ensures.1 c.in_err-run_command-in-Command.ensures.refused
-
 pub returns-in_err-run_command-in-Command-clause-some : goal.returns-in_err-run_command-in-Command-clause-some
 returns-in_err-run_command-in-Command-clause-some g c = IfOk-from_err c.from_residual.result _ c.from_residual.ensures.0
 
@@ -137,6 +133,3 @@ returns-in_err-run_command-in-Command-clause-took g c = IfOk-from_err c.from_res
 
 pub returns-in_err-run_command-in-Command-clause-whole : goal.returns-in_err-run_command-in-Command-clause-whole
 returns-in_err-run_command-in-Command-clause-whole g c = IfOk-from_err c.from_residual.result _ c.from_residual.ensures.0
-
-pub returns-then-stops-clause-refused : goal.returns-then-stops-clause-refused
-returns-then-stops-clause-refused g c = tt

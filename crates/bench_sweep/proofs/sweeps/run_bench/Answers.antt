@@ -1,15 +1,18 @@
 use Rattle.std.proofs.Common.{inr, inl, ⊎_elim, refl}
-use Rattle.std.proofs.lemmas.Result.{IfErr-weaker, IfOk-from_err, IfOk-weaker}
+use Rattle.std.proofs.lemmas.Result.{IfOk-from_err}
 use Rattle.script_lang.specs.Views.{view}
 use Rattle.bench_sweep.proofs.Scripts.{swept, unswept, no_fault, fault_told, memory_told}
 use Rattle.board_model.proofs.Exits.{err_exit, err_is}
 use Rattle.bench_sweep.proofs.sweeps.run_bench.Goals as goal
 
+pub returns-in-Ok-clause-plain : goal.returns-in-Ok-clause-plain
+returns-in-Ok-clause-plain g c = λ said is none. swept c.args.script.now (view c.in_ok-script.script) said c.deref.result.now c.in_ok-script.ensures.value is c.deref.ensures.value c.in_ok-check_plain.ensures.runs none
+
 pub returns-clause-plain : goal.returns-clause-plain
 returns-clause-plain g c = λ said is none. swept c.args.script.now (view c.in_ok-script.script) said c.deref.result.now c.in_ok-script.ensures.value is c.deref.ensures.value c.in_ok-check_plain.ensures.runs none
 
-pub returns-clause-wrote : goal.returns-clause-wrote
-returns-clause-wrote g c = IfOk-weaker c.sweep_plain_script.result _ _ (λ sweep did. (view c.in_ok-script.script, c.in_ok-script.ensures.value, did)) c.sweep_plain_script.ensures.wrote
+pub returns-in-Ok-clause-wrote : goal.returns-in-Ok-clause-wrote
+returns-in-Ok-clause-wrote g c = (view c.in_ok-script.script, c.in_ok-script.ensures.value, c.in-Ok.ensures.wrote)
 
 pub returns-in_err-script-clause-refused : goal.returns-in_err-script-clause-refused
 returns-in_err-script-clause-refused g c = err_exit _ c.from_residual.result c.in_err-script.field-0.0 c.from_residual.ensures.1 (⊎_elim (λ memory. inl memory) (λ told. inr (inr (inl told))) c.in_err-script.ensures.value)
@@ -20,7 +23,7 @@ returns-in_err-check_plain-clause-refused g c =
     err_exit _ c.from_residual-in_err-check_plain.result c.in_err-check_plain.field-0.0 c.from_residual-in_err-check_plain.ensures.1 (inr (inr (inr (why.0, unswept c.args.script.now (view c.in_ok-script.script) c.deref.result.now c.in_ok-script.ensures.value c.deref.ensures.value why.1))))
 
 pub returns-clause-refused : goal.returns-clause-refused
-returns-clause-refused g c = IfErr-weaker c.sweep_plain_script.result _ _ (λ e. ⊎_elim (λ memory. inl memory) (λ output. inr (inl output))) c.sweep_plain_script.ensures.refused
+returns-clause-refused g c = ⊎_elim (λ memory. inl memory.1) (λ output. inr (inl output.1)) c.unwritten.ensures
 
 pub returns-in_err-script-clause-nothing : goal.returns-in_err-script-clause-nothing
 returns-in_err-script-clause-nothing g c = λ e fault. (refl, fault_told c.args.script.now c.from_residual.result _ e c.from_residual.ensures.1 c.in_err-script.ensures.value fault)
@@ -30,6 +33,9 @@ returns-in_err-script-clause-plain g c = λ said is none. (refl, inr (memory_tol
 
 pub returns-in_err-check_plain-clause-plain : goal.returns-in_err-check_plain-clause-plain
 returns-in_err-check_plain-clause-plain g c = λ said is none. (refl, inl (err_is c.from_residual-in_err-check_plain.result _ _ c.from_residual-in_err-check_plain.ensures.1 c.in_err-check_plain.ensures.refused.0))
+
+pub returns-in-Ok-clause-nothing : goal.returns-in-Ok-clause-nothing
+returns-in-Ok-clause-nothing g c = λ e fault. no_fault c.args.script.now (view c.in_ok-script.script) e c.in_ok-script.ensures.value fault
 
 pub returns-clause-nothing : goal.returns-clause-nothing
 returns-clause-nothing g c = λ e fault. no_fault c.args.script.now (view c.in_ok-script.script) e c.in_ok-script.ensures.value fault

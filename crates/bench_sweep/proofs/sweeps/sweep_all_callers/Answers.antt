@@ -1,4 +1,4 @@
-use Rattle.std.proofs.Common.{◌≡◌, ◌∙◌, ℕ, List, [], ◌∷◌, ◌++◌, take, length, refl, sym, ap, subst, arith, inl}
+use Rattle.std.proofs.Common.{◌≡◌, ◌∙◌, ℕ, List, [], ◌∷◌, ◌++◌, take, length, refl, sym, ap, subst, arith}
 use Rattle.std.proofs.lemmas.List.{take_more, length-take-le}
 use Rattle.std.specs.List.{AllZip}
 use Rattle.bench_sweep.specs.Points.{callers, MadeCalls}
@@ -10,7 +10,6 @@ use Rattle.jobs.proofs.Pieces.{window_none, window_at, own_is}
 use Rattle.bench_sweep.proofs.Made.{zip_long, zip_more, zip_same}
 use Rattle.bench_sweep.proofs.Reported.{reports_none, reports_more, reports_as}
 use Rattle.bench_sweep.proofs.Written.{next_caller, total_more}
-use Rattle.board_model.proofs.Exits.{err_exit}
 use Rattle.std.proofs.lemmas.Result.{IfOk-from_err}
 use Rattle.bench_sweep.proofs.sweeps.sweep_all_callers.Goals as goal
 
@@ -35,53 +34,40 @@ loop-caller-preserved g c = λ b r.
       reports_as _ _ _ _ _ _ _ (next_caller callers i _ Disk w.0 n _ _ _ _ less refl long c.of_part-within.result.order w.2 w.3) (reports_more _ _ _ _ _ _ _ _ w.4 did),
     )
 
-pub returns-clause-wrote : goal.returns-clause-wrote
-returns-clause-wrote g c = λ b r.
-    let w = c.loop-caller.invariant b r in
-    let all : c.loop-caller.caller-index ≡ 5 = omega arith in
-    let Z : ℕ → Type 0 = λ k. AllZip (MadeCalls c.args.site.now.off.disk c.args.end.now.off.disk) (take k callers) w.0 in
-    let zip = subst Z all w.1 in
-    let made = c.in_ok-all.ensures.calls in
-    let counts : w.0 ≡ made.0 = zip_same c.args.site.now.off.disk c.args.end.now.off.disk callers w.0 made.0 zip made.1 in
-    let many : c.in_ok-all.all ≡ length (all_points callers w.0) = made.2 ∙ ap (λ (ns : List ℕ). length (all_points callers ns)) (sym counts) in
-    let part = c.args.part in
-    let from : c.of_part-within.result.from ≡ begin_of part (length (all_points callers w.0)) = c.of_part-within.ensures.from ∙ ap (begin_of part) many in
-    let to : c.of_part-within.result.to ≡ end_of part (length (all_points callers w.0)) = c.of_part-within.ensures.to ∙ ap (end_of part) many in (
-      w.0,
-      zip,
-      many,
-      reports_as _ _ _ _ _ _ _
-          (ap (λ (k : ℕ). window c.of_part-within.result.from c.of_part-within.result.to (all_points (take k callers) w.0)) all
-          ∙ window_at _ _ _ _ (all_points callers w.0) from to ∙ sym (own_is part (all_points callers w.0)))
-          w.4,
-    )
+pub returns : goal.returns
+returns g c = record {
+  wrote = (λ b r.
+      let w = c.loop-caller.invariant b r in
+      let all : c.loop-caller.caller-index ≡ 5 = omega arith in
+      let Z : ℕ → Type 0 = λ k. AllZip (MadeCalls c.args.site.now.off.disk c.args.end.now.off.disk) (take k callers) w.0 in
+      let zip = subst Z all w.1 in
+      let made = c.in_ok-all.ensures.calls in
+      let counts : w.0 ≡ made.0 = zip_same c.args.site.now.off.disk c.args.end.now.off.disk callers w.0 made.0 zip made.1 in
+      let many : c.in_ok-all.all ≡ length (all_points callers w.0) = made.2 ∙ ap (λ (ns : List ℕ). length (all_points callers ns)) (sym counts) in
+      let part = c.args.part in
+      let from : c.of_part-within.result.from ≡ begin_of part (length (all_points callers w.0)) = c.of_part-within.ensures.from ∙ ap (begin_of part) many in
+      let to : c.of_part-within.result.to ≡ end_of part (length (all_points callers w.0)) = c.of_part-within.ensures.to ∙ ap (end_of part) many in (
+        w.0,
+        zip,
+        many,
+        reports_as _ _ _ _ _ _ _
+            (ap (λ (k : ℕ). window c.of_part-within.result.from c.of_part-within.result.to (all_points (take k callers) w.0)) all
+            ∙ window_at _ _ _ _ (all_points callers w.0) from to ∙ sym (own_is part (all_points callers w.0)))
+            w.4,
+      ));
+}
 
-pub returns-clause-refused : goal.returns-clause-refused
-returns-clause-refused g c = c.begin.ensures
+pub returns-in_err-all : goal.returns-in_err-all
+returns-in_err-all g c = record { wrote = (IfOk-from_err c.from_residual.result _ c.from_residual.ensures.0) }
 
-pub returns-in_err-all-clause-refused : goal.returns-in_err-all-clause-refused
-returns-in_err-all-clause-refused g c = err_exit _ c.from_residual.result c.in_err-all.field-0.0 c.from_residual.ensures.1 (inl c.in_err-all.ensures.refused)
+pub returns-in_err-calls : goal.returns-in_err-calls
+returns-in_err-calls g c = record { wrote = (IfOk-from_err c.from_residual-in_err-calls.result _ c.from_residual-in_err-calls.ensures.0) }
 
-pub returns-in_err-all-clause-wrote : goal.returns-in_err-all-clause-wrote
-returns-in_err-all-clause-wrote g c = IfOk-from_err c.from_residual.result _ c.from_residual.ensures.0
+pub returns-in_err-made : goal.returns-in_err-made
+returns-in_err-made g c = record { wrote = (IfOk-from_err c.from_residual-in_err-made.result _ c.from_residual-in_err-made.ensures.0) }
 
-pub returns-in_err-calls-clause-refused : goal.returns-in_err-calls-clause-refused
-returns-in_err-calls-clause-refused g c = err_exit _ c.from_residual-in_err-calls.result c.in_err-calls.field-0.0 c.from_residual-in_err-calls.ensures.1 (inl c.in_err-calls.ensures.refused)
-
-pub returns-in_err-calls-clause-wrote : goal.returns-in_err-calls-clause-wrote
-returns-in_err-calls-clause-wrote g c = IfOk-from_err c.from_residual-in_err-calls.result _ c.from_residual-in_err-calls.ensures.0
-
-pub returns-in_err-made-clause-refused : goal.returns-in_err-made-clause-refused
-returns-in_err-made-clause-refused g c = err_exit _ c.from_residual-in_err-made.result c.in_err-made.field-0.0 c.from_residual-in_err-made.ensures.1 c.in_err-made.ensures.refused
-
-pub returns-in_err-made-clause-wrote : goal.returns-in_err-made-clause-wrote
-returns-in_err-made-clause-wrote g c = IfOk-from_err c.from_residual-in_err-made.result _ c.from_residual-in_err-made.ensures.0
-
-pub returns-then-made-calls-clause-refused : goal.returns-then-made-calls-clause-refused
-returns-then-made-calls-clause-refused g c = inl refl
-
-pub returns-then-made-calls-clause-wrote : goal.returns-then-made-calls-clause-wrote
-returns-then-made-calls-clause-wrote g c = tt
+pub returns-then-made-calls : goal.returns-then-made-calls
+returns-then-made-calls g c = record { wrote = (tt) }
 
 pub sweep_caller-requires-clause-lines : goal.sweep_caller-requires-clause-lines
 sweep_caller-requires-clause-lines g c κs within = c.requires.lines

@@ -1,11 +1,10 @@
-use Rattle.std.proofs.Common.{arith, sym, inl}
+use Rattle.std.proofs.Common.{arith, sym}
 use Rattle.bench_report.specs.Happens.{unpowered}
 use Rattle.bench_sweep.proofs.Left.{off_sits}
 use Rattle.bench_sweep.proofs.Made.{none_yet, sits_at, went_more, rest_is, row_of, took_on}
 use Rattle.bench_sweep.proofs.Reported.{reports_none, reports_more, reports_as, reports_weaker, swept_take, swept_drop, stays_within}
 use Rattle.jobs.proofs.Pieces.{window_none}
 use Rattle.bench_sweep.proofs.Written.{next_window}
-use Rattle.board_model.proofs.Exits.{err_exit}
 use Rattle.std.proofs.lemmas.Result.{IfOk-from_err}
 use Rattle.bench_sweep.proofs.sweeps.sweep_caller.Goals as goal
 
@@ -59,11 +58,8 @@ loop-from-preserved g c =
       to = omega (arith, i.to, c.behind-left.ensures.to);
     }
 
-pub returns-in-Err-clause-wrote : goal.returns-in-Err-clause-wrote
-returns-in-Err-clause-wrote g c = tt
+pub returns-in-Err : goal.returns-in-Err
+returns-in-Err g c = record { wrote = (tt) }
 
-pub returns-in_err-site-clause-refused : goal.returns-in_err-site-clause-refused
-returns-in_err-site-clause-refused g c = err_exit _ c.from_residual.result c.in_err-site.field-0.0 c.from_residual.ensures.1 (inl c.in_err-site.ensures.refused)
-
-pub returns-in_err-site-clause-wrote : goal.returns-in_err-site-clause-wrote
-returns-in_err-site-clause-wrote g c = IfOk-from_err c.from_residual.result _ c.from_residual.ensures.0
+pub returns-in_err-site : goal.returns-in_err-site
+returns-in_err-site g c = record { wrote = (IfOk-from_err c.from_residual.result _ c.from_residual.ensures.0) }

@@ -1,8 +1,7 @@
-use Rattle.std.proofs.Common.{sym, subst, arith, inl}
+use Rattle.std.proofs.Common.{sym, subst, arith}
 use Rattle.bench_sweep.specs.declared.site.Site.{Site}
 use Rattle.bench_sweep.specs.Runs.{IsLife}
 use Rattle.std.proofs.lemmas.Result.{IfOk-from_err}
-use Rattle.board_model.proofs.Exits.{err_exit}
 use Rattle.bench_sweep.proofs.sweeps.sweep_stretch.Goals as goal
 
 pub run_at_calls-requires-clause-numbers : goal.run_at_calls-requires-clause-numbers
@@ -72,9 +71,6 @@ returns-in_err-count-clause-few g c = IfOk-from_err c.from_residual.result _ c.f
 
 pub returns-in_err-count-clause-lives : goal.returns-in_err-count-clause-lives
 returns-in_err-count-clause-lives g c = IfOk-from_err c.from_residual.result _ c.from_residual.ensures.0
-
-pub returns-in_err-count-clause-refused : goal.returns-in_err-count-clause-refused
-returns-in_err-count-clause-refused g c = err_exit _ c.from_residual.result c.in_err-count.field-0.0 c.from_residual.ensures.1 (inl c.in_err-count.ensures.refused)
 
 pub returns-in_err-count-clause-sits : goal.returns-in_err-count-clause-sits
 returns-in_err-count-clause-sits g c = IfOk-from_err c.from_residual.result _ c.from_residual.ensures.0

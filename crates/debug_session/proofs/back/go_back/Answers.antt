@@ -2,7 +2,6 @@ use Rattle.std.proofs.Common.{inl, refl, inr}
 use Rattle.debug_session.proofs.Histories.{place_hart}
 use Rattle.debug_session.proofs.Backs.{went_back}
 use Rattle.std.proofs.lemmas.Result.{IfOk-from_err}
-use Rattle.board_model.proofs.Exits.{err_exit}
 use Rattle.debug_session.proofs.back.go_back.Goals as goal
 
 pub returns-in_ok-go_back-in-Some-clause-there : goal.returns-in_ok-go_back-in-Some-clause-there
@@ -36,9 +35,6 @@ returns-in_default-clause-there g c = c.requires.hart
 pub returns-in_default-clause-begins : goal.returns-in_default-clause-begins
 returns-in_default-clause-begins g c = refl
 
-pub returns-in_default-clause-refused : goal.returns-in_default-clause-refused
-returns-in_default-clause-refused g c = tt
-
 pub returns-in-None-clause-at : goal.returns-in-None-clause-at
 returns-in-None-clause-at g c = c.requires.at
 
@@ -47,9 +43,6 @@ returns-in-None-clause-there g c = c.requires.hart
 
 pub returns-in-None-clause-begins : goal.returns-in-None-clause-begins
 returns-in-None-clause-begins g c = refl
-
-pub returns-in-None-clause-refused : goal.returns-in-None-clause-refused
-returns-in-None-clause-refused g c = tt
 
 pub returns-in_default-clause-back : goal.returns-in_default-clause-back
 returns-in_default-clause-back g c = inr (refl, refl, inr refl)
@@ -66,9 +59,6 @@ returns-in_ok-go_back-in-Some-clause-begins g c = c.go_back.ensures.begins
 pub returns-in_ok-go_back-in-Some-clause-at : goal.returns-in_ok-go_back-in-Some-clause-at
 returns-in_ok-go_back-in-Some-clause-at g c = c.in_ok-go_back-in-Some.ensures.at
 
-pub returns-in_ok-go_back-in-Some-clause-refused : goal.returns-in_ok-go_back-in-Some-clause-refused
-returns-in_ok-go_back-in-Some-clause-refused g c = tt
-
 pub returns-in_err-found-clause-at : goal.returns-in_err-found-clause-at
 returns-in_err-found-clause-at g c = IfOk-from_err c.from_residual.result _ c.from_residual.ensures.0
 
@@ -78,9 +68,6 @@ returns-in_err-found-clause-back g c = IfOk-from_err c.from_residual.result _ c.
 pub returns-in_err-found-clause-there : goal.returns-in_err-found-clause-there
 returns-in_err-found-clause-there g c = IfOk-from_err c.from_residual.result _ c.from_residual.ensures.0
 
-pub returns-in_err-found-clause-refused : goal.returns-in_err-found-clause-refused
-returns-in_err-found-clause-refused g c = err_exit _ c.from_residual.result c.in_err-found.field-0.0 c.from_residual.ensures.1 c.in_err-found.ensures.refused
-
 pub returns-in_err-go_back-in-Some-clause-at : goal.returns-in_err-go_back-in-Some-clause-at
 returns-in_err-go_back-in-Some-clause-at g c = IfOk-from_err c.from_residual-in_err-go_back-in-Some.result _ c.from_residual-in_err-go_back-in-Some.ensures.0
 
@@ -89,6 +76,3 @@ returns-in_err-go_back-in-Some-clause-back g c = IfOk-from_err c.from_residual-i
 
 pub returns-in_err-go_back-in-Some-clause-there : goal.returns-in_err-go_back-in-Some-clause-there
 returns-in_err-go_back-in-Some-clause-there g c = IfOk-from_err c.from_residual-in_err-go_back-in-Some.result _ c.from_residual-in_err-go_back-in-Some.ensures.0
-
-pub returns-in_err-go_back-in-Some-clause-refused : goal.returns-in_err-go_back-in-Some-clause-refused
-returns-in_err-go_back-in-Some-clause-refused g c = err_exit _ c.from_residual-in_err-go_back-in-Some.result c.in_err-go_back-in-Some.field-0.0 c.from_residual-in_err-go_back-in-Some.ensures.1 c.in_err-go_back-in-Some.ensures.refused

@@ -2,7 +2,6 @@ use Rattle.std.proofs.Common.{ℕ, List, subst}
 use Rattle.bench_report.specs.Bench.{bench_with}
 use Rattle.debug_session.specs.Lives.{Shows}
 use Rattle.std.proofs.lemmas.Result.{IfOk-from_err}
-use Rattle.board_model.proofs.Exits.{err_exit}
 use Rattle.debug_session.proofs.back.last_halt.Goals as goal
 
 pub last_halt_along-way-requires-clause-shows : goal.last_halt_along-way-requires-clause-shows
@@ -22,14 +21,8 @@ returns-clause-place g c = c.last_halt_along-way.ensures.place
 pub returns-clause-found : goal.returns-clause-found
 returns-clause-found g c = c.last_halt_along-way.ensures.found
 
-pub returns-clause-refused : goal.returns-clause-refused
-returns-clause-refused g c = c.last_halt_along-way.ensures.refused
-
 pub returns-in_err-bench-clause-place : goal.returns-in_err-bench-clause-place
 returns-in_err-bench-clause-place g c = IfOk-from_err c.from_residual.result _ c.from_residual.ensures.0
 
 pub returns-in_err-bench-clause-found : goal.returns-in_err-bench-clause-found
 returns-in_err-bench-clause-found g c = IfOk-from_err c.from_residual.result _ c.from_residual.ensures.0
-
-pub returns-in_err-bench-clause-refused : goal.returns-in_err-bench-clause-refused
-returns-in_err-bench-clause-refused g c = err_exit _ c.from_residual.result c.in_err-bench.field-0.0 c.from_residual.ensures.1 c.in_err-bench.ensures.refused

@@ -12,7 +12,6 @@ use Rattle.debug_session.specs.declared.back.TurnPlace.{TurnPlace}
 use Rattle.debug_session.specs.Backs.{FoundIn, FoundOf, IsRowPast}
 use Rattle.debug_session.proofs.Backs.{found_line, later_at}
 use Rattle.std.proofs.lemmas.Result.{IfOk-from_err}
-use Rattle.board_model.proofs.Exits.{err_exit}
 use Rattle.debug_session.proofs.back.last_halt_along.Goals as goal
 
 pub loop-number-init : goal.loop-number-init
@@ -71,17 +70,8 @@ returns-then-swap-clause-place g c = tt
 pub returns-then-swap-clause-found : goal.returns-then-swap-clause-found
 returns-then-swap-clause-found g c = tt
 
-pub returns-then-swap-clause-refused : goal.returns-then-swap-clause-refused
-returns-then-swap-clause-refused g c = tt
-
-pub returns-clause-refused : goal.returns-clause-refused
-returns-clause-refused g c = tt
-
 pub returns-in_err-last-clause-place : goal.returns-in_err-last-clause-place
 returns-in_err-last-clause-place g c = IfOk-from_err c.from_residual.result _ c.from_residual.ensures.0
 
 pub returns-in_err-last-clause-found : goal.returns-in_err-last-clause-found
 returns-in_err-last-clause-found g c = IfOk-from_err c.from_residual.result _ c.from_residual.ensures.0
-
-pub returns-in_err-last-clause-refused : goal.returns-in_err-last-clause-refused
-returns-in_err-last-clause-refused g c = err_exit _ c.from_residual.result c.in_err-last.field-0.0 c.from_residual.ensures.1 c.in_err-last.ensures.refused

@@ -2,10 +2,9 @@ use Rattle.std.proofs.Common.{◌≡◌, ◌+◌, ◌<◌, ℕ, Option, refl, sy
 use Rattle.std.specs.Prelude.{IfSome, replicate}
 use Rattle.debug_session.specs.declared.halts.Stop.{Stop}
 use Rattle.debug_session.specs.Backs.{FoundIn}
-use Rattle.debug_session.specs.Firsts.{machine_determines_turn}
+use Rattle.debug_session.specs.Firsts.{one_turn}
 use Rattle.debug_session.proofs.Backs.{found_turn, later_within}
 use Rattle.std.proofs.lemmas.Result.{IfOk-from_err}
-use Rattle.board_model.proofs.Exits.{err_exit}
 use Rattle.debug_session.proofs.back.last_halt_in.Goals as goal
 
 pub loop-k-init : goal.loop-k-init
@@ -25,13 +24,10 @@ loop-k-preserved g c =
       found =
           λ size b shows. (let had = was.found size b shows in
           let did = seen.seen size had.0 had.2 in
-          let Q : Option (ℕ × Stop) → Type 0 = λ found. FoundIn size c.args.stops.now found (replicate (k + 1) (machine_determines_turn h)) b did.0 in
+          let Q : Option (ℕ × Stop) → Type 0 = λ found. FoundIn size c.args.stops.now found (replicate (k + 1) (one_turn h)) b did.0 in
           (did.0, subst Q same (found_turn size c.args.stops.now c.loop-k.found h k halt b had.0 did.0 had.1 did.1), did.2));
       sound = seen.sound;
     }
-
-pub returns-clause-refused : goal.returns-clause-refused
-returns-clause-refused g c = tt
 
 pub seen_back-requires-clause-sound : goal.seen_back-requires-clause-sound
 seen_back-requires-clause-sound g c κs within = c.loop-k.invariant.sound
@@ -50,6 +46,3 @@ returns-in_err-halt-clause-found g c = IfOk-from_err c.from_residual.result _ c.
 
 pub returns-in_err-halt-clause-sound : goal.returns-in_err-halt-clause-sound
 returns-in_err-halt-clause-sound g c = IfOk-from_err c.from_residual.result _ c.from_residual.ensures.0
-
-pub returns-in_err-halt-clause-refused : goal.returns-in_err-halt-clause-refused
-returns-in_err-halt-clause-refused g c = err_exit _ c.from_residual.result c.in_err-halt.field-0.0 c.from_residual.ensures.1 c.in_err-halt.ensures.refused

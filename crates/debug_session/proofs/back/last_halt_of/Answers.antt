@@ -7,7 +7,7 @@ use Rattle.script_lang.specs.declared.line.Line.{Line}
 use Rattle.debug_session.specs.Lives.{Shows}
 use Rattle.debug_session.specs.declared.halts.Stop.{Stop}
 use Rattle.debug_session.specs.Backs.{FoundIn, IsRowPast}
-use Rattle.debug_session.specs.Firsts.{machine_determines_turn}
+use Rattle.debug_session.specs.Firsts.{one_turn}
 use Rattle.debug_session.proofs.Backs.{other_passed, row_past}
 use Rattle.debug_session.proofs.Firsts.{ok_more}
 use Rattle.debug_session.proofs.back.last_halt_of.Goals as goal
@@ -27,7 +27,7 @@ returns-in-Turn-clause-found g c =
     let stops = c.args.stops.now in
     let was = c.args.bench.now in
     let now = c.last_halt_in.new.bench in
-    let P : Option (ℕ × Stop) → Type 0 = λ found. (size : Size) (b : Bench) → Shows size b was → (new : Bench) × FoundIn size stops found (replicate c.in-Turn.count (machine_determines_turn c.in-Turn.hart)) b new × Shows size new now in
+    let P : Option (ℕ × Stop) → Type 0 = λ found. (size : Size) (b : Bench) → Shows size b was → (new : Bench) × FoundIn size stops found (replicate c.in-Turn.count (one_turn c.in-Turn.hart)) b new × Shows size new now in
     let Q : Option (ℕ × Stop) → Type 0 = λ found. (b : Bench) → Shows at b was → (new : Bench) × FoundIn at stops found (singles c.args.line.now) b new × Shows at new now in
     ok_more c.last_halt_in.result P Q (λ found did b shows. (let x = did at b shows in let R : Line → Type 0 = λ line. FoundIn at stops found (singles line) b x.0 in (x.0, subst R (sym c.in-Turn.is) x.1, x.2))) c.last_halt_in.ensures.found
 
@@ -48,14 +48,8 @@ replay-requires-clause-range g c κs within = c.requires.range
 pub returns-in-Turn-clause-sound : goal.returns-in-Turn-clause-sound
 returns-in-Turn-clause-sound g c = c.last_halt_in.ensures.sound
 
-pub returns-in-Turn-clause-refused : goal.returns-in-Turn-clause-refused
-returns-in-Turn-clause-refused g c = c.last_halt_in.ensures.refused
-
 pub returns-in_ok-replay-in_default-clause-row : goal.returns-in_ok-replay-in_default-clause-row
 returns-in_ok-replay-in_default-clause-row g c = tt
-
-pub returns-in_ok-replay-in_default-clause-refused : goal.returns-in_ok-replay-in_default-clause-refused
-returns-in_ok-replay-in_default-clause-refused g c = tt
 
 pub returns-in_ok-replay-in_default-clause-sound : goal.returns-in_ok-replay-in_default-clause-sound
 returns-in_ok-replay-in_default-clause-sound g c = c.in_ok-replay-in_default.ensures.sound

@@ -8,7 +8,6 @@ use Rattle.debug_session.specs.Backs.{IsEnd}
 use Rattle.debug_session.specs.Steps.{MakesNone}
 use Rattle.debug_session.proofs.Backs.{end_first, end_found, some_more}
 use Rattle.std.proofs.lemmas.Result.{IfOk-from_err}
-use Rattle.board_model.proofs.Exits.{err_exit}
 use Rattle.debug_session.proofs.back.place_back.Goals as goal
 
 pub returns-in-Some-clause-end : goal.returns-in-Some-clause-end
@@ -45,17 +44,8 @@ returns-in_default-clause-end g c = tt
 pub returns-in_default-clause-none : goal.returns-in_default-clause-none
 returns-in_default-clause-none g c = tt
 
-pub returns-in_default-clause-refused : goal.returns-in_default-clause-refused
-returns-in_default-clause-refused g c = tt
-
 pub returns-in-Some-clause-none : goal.returns-in-Some-clause-none
 returns-in-Some-clause-none g c = tt
-
-pub returns-in-Some-clause-refused : goal.returns-in-Some-clause-refused
-returns-in-Some-clause-refused g c = tt
-
-pub returns-in-None-clause-refused : goal.returns-in-None-clause-refused
-returns-in-None-clause-refused g c = tt
 
 pub returns-in_err-found-clause-place : goal.returns-in_err-found-clause-place
 returns-in_err-found-clause-place g c = IfOk-from_err c.from_residual.result _ c.from_residual.ensures.0
@@ -65,6 +55,3 @@ returns-in_err-found-clause-end g c = IfOk-from_err c.from_residual.result _ c.f
 
 pub returns-in_err-found-clause-none : goal.returns-in_err-found-clause-none
 returns-in_err-found-clause-none g c = IfOk-from_err c.from_residual.result _ c.from_residual.ensures.0
-
-pub returns-in_err-found-clause-refused : goal.returns-in_err-found-clause-refused
-returns-in_err-found-clause-refused g c = err_exit _ c.from_residual.result c.in_err-found.field-0.0 c.from_residual.ensures.1 c.in_err-found.ensures.refused

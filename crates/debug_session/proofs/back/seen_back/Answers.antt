@@ -11,7 +11,6 @@ use Rattle.debug_session.specs.Backs.{IsSeen}
 use Rattle.debug_session.proofs.Backs.{is_seen}
 use Rattle.debug_session.proofs.Firsts.{touched_along}
 use Rattle.std.proofs.lemmas.Result.{IfOk-from_err}
-use Rattle.board_model.proofs.Exits.{err_exit}
 use Rattle.debug_session.proofs.back.seen_back.Goals as goal
 
 pub returns-clause-seen : goal.returns-clause-seen
@@ -41,14 +40,8 @@ turns-requires-clause-some g c κs within = omega arith
 pub returns-clause-sound : goal.returns-clause-sound
 returns-clause-sound g c = c.turns.ensures.sound
 
-pub returns-clause-refused : goal.returns-clause-refused
-returns-clause-refused g c = tt
-
 pub returns-in_err-before-clause-seen : goal.returns-in_err-before-clause-seen
 returns-in_err-before-clause-seen g c = IfOk-from_err c.from_residual.result _ c.from_residual.ensures.0
 
 pub returns-in_err-before-clause-sound : goal.returns-in_err-before-clause-sound
 returns-in_err-before-clause-sound g c = IfOk-from_err c.from_residual.result _ c.from_residual.ensures.0
-
-pub returns-in_err-before-clause-refused : goal.returns-in_err-before-clause-refused
-returns-in_err-before-clause-refused g c = err_exit _ c.from_residual.result c.in_err-before.field-0.0 c.from_residual.ensures.1 c.in_err-before.ensures.refused

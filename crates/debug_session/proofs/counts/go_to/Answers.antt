@@ -3,7 +3,6 @@ use Rattle.script_lang.specs.declared.line.Line.{Line}
 use Rattle.debug_session.specs.Turns.{turns_made}
 use Rattle.debug_session.proofs.Turns.{went_to}
 use Rattle.std.proofs.lemmas.Result.{IfOk-from_err}
-use Rattle.board_model.proofs.Exits.{err_exit}
 use Rattle.debug_session.proofs.counts.go_to.Goals as goal
 
 pub returns-clause-went : goal.returns-clause-went
@@ -18,9 +17,6 @@ returns-in_default-clause-at g c = c.requires.at
 pub returns-in_default-clause-begins : goal.returns-in_default-clause-begins
 returns-in_default-clause-begins g c = refl
 
-pub returns-in_default-clause-refused : goal.returns-in_default-clause-refused
-returns-in_default-clause-refused g c = tt
-
 pub go_back-requires-clause-at : goal.go_back-requires-clause-at
 go_back-requires-clause-at g c κs within = c.requires.at
 
@@ -33,14 +29,8 @@ returns-clause-begins g c = c.go_back.ensures.begins
 pub returns-clause-at : goal.returns-clause-at
 returns-clause-at g c = c.in_ok-go_back.ensures.at
 
-pub returns-clause-refused : goal.returns-clause-refused
-returns-clause-refused g c = tt
-
 pub returns-in_err-go_back-clause-at : goal.returns-in_err-go_back-clause-at
 returns-in_err-go_back-clause-at g c = IfOk-from_err c.from_residual.result _ c.from_residual.ensures.0
 
 pub returns-in_err-go_back-clause-went : goal.returns-in_err-go_back-clause-went
 returns-in_err-go_back-clause-went g c = IfOk-from_err c.from_residual.result _ c.from_residual.ensures.0
-
-pub returns-in_err-go_back-clause-refused : goal.returns-in_err-go_back-clause-refused
-returns-in_err-go_back-clause-refused g c = err_exit _ c.from_residual.result c.in_err-go_back.field-0.0 c.from_residual.ensures.1 c.in_err-go_back.ensures.refused

@@ -2,7 +2,6 @@ use Rattle.std.proofs.Common.{None, Some, ◌≡◌, ℕ, Bool, List, true, fals
 use Rattle.debug_session.proofs.Firsts.{halt_then, no_halt, none_along, other_halt}
 use Rattle.debug_session.proofs.Wents.{left_went, part_more, went_none, left_same}
 use Rattle.std.proofs.lemmas.Result.{IfOk-from_err}
-use Rattle.board_model.proofs.Exits.{err_exit}
 use Rattle.debug_session.proofs.forth.go.Goals as goal
 
 pub parts-init : goal.parts-init
@@ -21,9 +20,6 @@ returns-then-is_line-clause-first g c = other_halt c.args.setting.now.shape.now 
 
 pub returns-then-is_line-clause-there : goal.returns-then-is_line-clause-there
 returns-then-is_line-clause-there g c = c.requires.first
-
-pub returns-then-is_line-clause-refused : goal.returns-then-is_line-clause-refused
-returns-then-is_line-clause-refused g c = tt
 
 pub round_part-requires-clause-most : goal.round_part-requires-clause-most
 round_part-requires-clause-most g c κs within = (omega (arith, c.in-Some.ensures.most.0, c.in-Some.ensures.left), c.in-Some.ensures.most.1)
@@ -77,18 +73,6 @@ returns-then-swap-clause-there g c = c.in-Some.ensures.hart.0
 pub returns-in-Some-2-clause-there : goal.returns-in-Some-2-clause-there
 returns-in-Some-2-clause-there g c = c.in-Some.ensures.hart.0
 
-pub returns-then-harts-round-clause-refused : goal.returns-then-harts-round-clause-refused
-returns-then-harts-round-clause-refused g c = tt
-
-pub returns-clause-refused : goal.returns-clause-refused
-returns-clause-refused g c = tt
-
-pub returns-then-swap-clause-refused : goal.returns-then-swap-clause-refused
-returns-then-swap-clause-refused g c = tt
-
-pub returns-in-Some-2-clause-refused : goal.returns-in-Some-2-clause-refused
-returns-in-Some-2-clause-refused g c = tt
-
 pub next-requires : goal.next-requires
 next-requires g c = record { few = omega (arith, c.if-harts-round.false, c.harts.ensures.range) }
 
@@ -112,6 +96,3 @@ returns-in_err-halt-clause-first g c = IfOk-from_err c.from_residual.result _ c.
 
 pub returns-in_err-halt-clause-there : goal.returns-in_err-halt-clause-there
 returns-in_err-halt-clause-there g c = IfOk-from_err c.from_residual.result _ c.from_residual.ensures.0
-
-pub returns-in_err-halt-clause-refused : goal.returns-in_err-halt-clause-refused
-returns-in_err-halt-clause-refused g c = err_exit _ c.from_residual.result c.in_err-halt.field-0.0 c.from_residual.ensures.1 c.in_err-halt.ensures.refused

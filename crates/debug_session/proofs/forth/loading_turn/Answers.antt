@@ -5,7 +5,6 @@ use Rattle.debug_session.proofs.Firsts.{tells_on, untouched, watched_halts}
 use Rattle.debug_session.proofs.Wents.{few_of, went_of}
 use Rattle.debug_session.proofs.Withins.{made_one}
 use Rattle.std.proofs.lemmas.Result.{IfOk-from_err}
-use Rattle.board_model.proofs.Exits.{err_exit}
 use Rattle.debug_session.proofs.forth.loading_turn.Goals as goal
 
 pub returns-clause-went : goal.returns-clause-went
@@ -54,9 +53,6 @@ returns-clause-begins g c = c.stretch.ensures.begins
 pub returns-in_err-part-clause-begins : goal.returns-in_err-part-clause-begins
 returns-in_err-part-clause-begins g c = c.stretch.ensures.begins
 
-pub returns-clause-refused : goal.returns-clause-refused
-returns-clause-refused g c = tt
-
 pub returns-in_err-part-clause-at : goal.returns-in_err-part-clause-at
 returns-in_err-part-clause-at g c = IfOk-from_err c.from_residual.result _ c.from_residual.ensures.0
 
@@ -74,6 +70,3 @@ returns-in_err-part-clause-made g c = IfOk-from_err c.from_residual.result _ c.f
 
 pub returns-in_err-part-clause-tells : goal.returns-in_err-part-clause-tells
 returns-in_err-part-clause-tells g c = IfOk-from_err c.from_residual.result _ c.from_residual.ensures.0
-
-pub returns-in_err-part-clause-refused : goal.returns-in_err-part-clause-refused
-returns-in_err-part-clause-refused g c = err_exit _ c.from_residual.result c.in_err-part.field-0.0 c.from_residual.ensures.1 c.in_err-part.ensures.refused

@@ -1,5 +1,4 @@
 use Rattle.std.proofs.lemmas.Result.{IfOk-from_err}
-use Rattle.board_model.proofs.Exits.{err_exit}
 use Rattle.debug_session.proofs.forth.round_part.Goals as goal
 
 pub run_part-requires-clause-at : goal.run_part-requires-clause-at
@@ -20,9 +19,6 @@ returns-clause-harts g c = c.made.ensures.harts
 pub returns-clause-resting : goal.returns-clause-resting
 returns-clause-resting g c = c.made.ensures.resting
 
-pub returns-clause-refused : goal.returns-clause-refused
-returns-clause-refused g c = tt
-
 pub returns-clause-went : goal.returns-clause-went
 returns-clause-went g c = (c.in_ok-did.did.made, c.made.ensures.left, c.in_ok-did.ensures.went)
 
@@ -37,6 +33,3 @@ returns-in_err-did-clause-harts g c = IfOk-from_err c.from_residual.result _ c.f
 
 pub returns-in_err-did-clause-resting : goal.returns-in_err-did-clause-resting
 returns-in_err-did-clause-resting g c = IfOk-from_err c.from_residual.result _ c.from_residual.ensures.0
-
-pub returns-in_err-did-clause-refused : goal.returns-in_err-did-clause-refused
-returns-in_err-did-clause-refused g c = err_exit _ c.from_residual.result c.in_err-did.field-0.0 c.from_residual.ensures.1 c.in_err-did.ensures.refused

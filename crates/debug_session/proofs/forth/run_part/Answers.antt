@@ -39,12 +39,6 @@ returns-then-watch-clause-first g c = c.watched_part.ensures.first
 pub returns-then-watch-clause-few : goal.returns-then-watch-clause-few
 returns-then-watch-clause-few g c = c.watched_part.ensures.few
 
-pub returns-then-watch-clause-refused : goal.returns-then-watch-clause-refused
-returns-then-watch-clause-refused g c = c.watched_part.ensures.refused
-
-pub returns-else-watch-clause-refused : goal.returns-else-watch-clause-refused
-returns-else-watch-clause-refused g c = c.stretch.ensures.refused
-
 pub returns-else-watch-clause-went : goal.returns-else-watch-clause-went
 returns-else-watch-clause-went g c = ok_with c.stretch.result _ (λ part. Stretched c.args.setting.now.shape.now c.args.hart c.args.most c.points.result.now part.made part.rests part.halt c.args.timeline.now c.stretch.new.timeline) _ (λ at part made. went_of c.args.setting.now.shape.now c.args.hart c.args.most part.made c.points.result.now part.rests part.halt c.args.timeline.now c.stretch.new.timeline at c.stretch.ensures.begins made) c.stretch.ensures.at c.stretch.ensures.made
 

@@ -7,7 +7,6 @@ use Rattle.debug_session.specs.Steps.{IsStep}
 use Rattle.debug_session.proofs.Firsts.{step_halts, tells_seen}
 use Rattle.debug_session.proofs.Wents.{step_of}
 use Rattle.std.proofs.lemmas.Result.{IfOk-from_err}
-use Rattle.board_model.proofs.Exits.{err_exit}
 use Rattle.debug_session.proofs.forth.step.Goals as goal
 
 pub returns-clause-step : goal.returns-clause-step
@@ -44,9 +43,6 @@ returns-clause-there g c = refl
 pub returns-clause-begins : goal.returns-clause-begins
 returns-clause-begins g c = c.watched_turn.ensures.begins
 
-pub returns-clause-refused : goal.returns-clause-refused
-returns-clause-refused g c = tt
-
 pub returns-in_err-part-clause-begins : goal.returns-in_err-part-clause-begins
 returns-in_err-part-clause-begins g c = c.watched_turn.ensures.begins
 
@@ -65,9 +61,6 @@ returns-in_err-before-clause-first g c = IfOk-from_err c.from_residual.result _ 
 pub returns-in_err-before-clause-there : goal.returns-in_err-before-clause-there
 returns-in_err-before-clause-there g c = IfOk-from_err c.from_residual.result _ c.from_residual.ensures.0
 
-pub returns-in_err-before-clause-refused : goal.returns-in_err-before-clause-refused
-returns-in_err-before-clause-refused g c = err_exit _ c.from_residual.result c.in_err-before.field-0.0 c.from_residual.ensures.1 c.in_err-before.ensures.refused
-
 pub returns-in_err-part-clause-at : goal.returns-in_err-part-clause-at
 returns-in_err-part-clause-at g c = IfOk-from_err c.from_residual-in_err-part.result _ c.from_residual-in_err-part.ensures.0
 
@@ -79,6 +72,3 @@ returns-in_err-part-clause-first g c = IfOk-from_err c.from_residual-in_err-part
 
 pub returns-in_err-part-clause-there : goal.returns-in_err-part-clause-there
 returns-in_err-part-clause-there g c = IfOk-from_err c.from_residual-in_err-part.result _ c.from_residual-in_err-part.ensures.0
-
-pub returns-in_err-part-clause-refused : goal.returns-in_err-part-clause-refused
-returns-in_err-part-clause-refused g c = err_exit _ c.from_residual-in_err-part.result c.in_err-part.field-0.0 c.from_residual-in_err-part.ensures.1 c.in_err-part.ensures.refused

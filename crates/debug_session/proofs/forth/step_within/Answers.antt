@@ -7,7 +7,6 @@ use Rattle.debug_session.proofs.Firsts.{halt_then, no_halt, other_halt, tells_se
 use Rattle.debug_session.proofs.Wents.{few_went, step_more, went_none}
 use Rattle.debug_session.proofs.Withins.{stayed_more, stayed_none, steps_asked, steps_halt, steps_idle, steps_out, steps_spent}
 use Rattle.std.proofs.lemmas.Result.{IfOk-from_err}
-use Rattle.board_model.proofs.Exits.{err_exit}
 use Rattle.debug_session.proofs.forth.step_within.Goals as goal
 
 pub loop-done-init : goal.loop-done-init
@@ -103,32 +102,17 @@ watched_turn-requires-clause-tells g c κs within = c.loop-done.invariant.tells
 pub returns-in-Some-clause-there : goal.returns-in-Some-clause-there
 returns-in-Some-clause-there g c = refl
 
-pub returns-in-Some-clause-refused : goal.returns-in-Some-clause-refused
-returns-in-Some-clause-refused g c = tt
-
 pub returns-then-part-eq0-clause-there : goal.returns-then-part-eq0-clause-there
 returns-then-part-eq0-clause-there g c = refl
-
-pub returns-then-part-eq0-clause-refused : goal.returns-then-part-eq0-clause-refused
-returns-then-part-eq0-clause-refused g c = tt
 
 pub returns-then-not-stands_within-clause-there : goal.returns-then-not-stands_within-clause-there
 returns-then-not-stands_within-clause-there g c = refl
 
-pub returns-then-not-stands_within-clause-refused : goal.returns-then-not-stands_within-clause-refused
-returns-then-not-stands_within-clause-refused g c = tt
-
 pub returns-then-swap-clause-there : goal.returns-then-swap-clause-there
 returns-then-swap-clause-there g c = refl
 
-pub returns-then-swap-clause-refused : goal.returns-then-swap-clause-refused
-returns-then-swap-clause-refused g c = tt
-
 pub returns-clause-there : goal.returns-clause-there
 returns-clause-there g c = refl
-
-pub returns-clause-refused : goal.returns-clause-refused
-returns-clause-refused g c = tt
 
 pub returns-in_err-before-clause-went : goal.returns-in_err-before-clause-went
 returns-in_err-before-clause-went g c = IfOk-from_err c.from_residual.result _ c.from_residual.ensures.0
@@ -142,9 +126,6 @@ returns-in_err-before-clause-within g c = IfOk-from_err c.from_residual.result _
 pub returns-in_err-before-clause-there : goal.returns-in_err-before-clause-there
 returns-in_err-before-clause-there g c = IfOk-from_err c.from_residual.result _ c.from_residual.ensures.0
 
-pub returns-in_err-before-clause-refused : goal.returns-in_err-before-clause-refused
-returns-in_err-before-clause-refused g c = err_exit _ c.from_residual.result c.in_err-before.field-0.0 c.from_residual.ensures.1 c.in_err-before.ensures.refused
-
 pub returns-in_err-part-clause-went : goal.returns-in_err-part-clause-went
 returns-in_err-part-clause-went g c = IfOk-from_err c.from_residual-in_err-part.result _ c.from_residual-in_err-part.ensures.0
 
@@ -156,6 +137,3 @@ returns-in_err-part-clause-within g c = IfOk-from_err c.from_residual-in_err-par
 
 pub returns-in_err-part-clause-there : goal.returns-in_err-part-clause-there
 returns-in_err-part-clause-there g c = IfOk-from_err c.from_residual-in_err-part.result _ c.from_residual-in_err-part.ensures.0
-
-pub returns-in_err-part-clause-refused : goal.returns-in_err-part-clause-refused
-returns-in_err-part-clause-refused g c = err_exit _ c.from_residual-in_err-part.result c.in_err-part.field-0.0 c.from_residual-in_err-part.ensures.1 c.in_err-part.ensures.refused

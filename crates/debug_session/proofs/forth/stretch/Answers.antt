@@ -1,6 +1,5 @@
 use Rattle.debug_session.proofs.Wents.{stretched}
 use Rattle.std.proofs.lemmas.Result.{IfOk-from_err}
-use Rattle.board_model.proofs.Exits.{err_exit}
 use Rattle.debug_session.proofs.forth.stretch.Goals as goal
 
 pub turns_to-requires-clause-at : goal.turns_to-requires-clause-at
@@ -24,9 +23,6 @@ returns-clause-begins g c = c.turns_to.ensures.begins
 pub returns-clause-at : goal.returns-clause-at
 returns-clause-at g c = c.in_ok-row.ensures.at
 
-pub returns-clause-refused : goal.returns-clause-refused
-returns-clause-refused g c = tt
-
 pub returns-clause-made : goal.returns-clause-made
 returns-clause-made g c = stretched c.args.setting.now.shape.now c.args.hart c.args.most c.made.result c.args.points.now c.in_ok-row.row c.in_ok-row.rests c.halt_behind-halt.result c.args.timeline.now c.turns_to.new.self c.in_ok-row.ensures.made c.in_ok-row.ensures.within c.in_ok-row.ensures.why c.made.ensures c.halt_behind-halt.ensures
 
@@ -35,9 +31,6 @@ returns-in_err-row-clause-at g c = IfOk-from_err c.from_residual.result _ c.from
 
 pub returns-in_err-row-clause-made : goal.returns-in_err-row-clause-made
 returns-in_err-row-clause-made g c = IfOk-from_err c.from_residual.result _ c.from_residual.ensures.0
-
-pub returns-in_err-row-clause-refused : goal.returns-in_err-row-clause-refused
-returns-in_err-row-clause-refused g c = err_exit _ c.from_residual.result c.in_err-row.field-0.0 c.from_residual.ensures.1 c.in_err-row.ensures.refused
 
 pub returns-in_err-push-clause-at : goal.returns-in_err-push-clause-at
 returns-in_err-push-clause-at g c = IfOk-from_err c.from_residual-in_err-push.result _ c.from_residual-in_err-push.ensures.0

@@ -5,7 +5,6 @@ use Rattle.debug_session.specs.declared.debugged.DebuggedBench.{DebuggedBench}
 use Rattle.debug_session.proofs.Firsts.{halt_more, halt_then, no_halt, none_of, tells_seen}
 use Rattle.debug_session.proofs.Wents.{went_more, went_none}
 use Rattle.std.proofs.lemmas.Result.{IfOk-from_err}
-use Rattle.board_model.proofs.Exits.{err_exit}
 use Rattle.debug_session.proofs.forth.watched_part.Goals as goal
 
 pub loop-sum-init : goal.loop-sum-init
@@ -45,9 +44,6 @@ watched_turn-requires-clause-tells g c κs within = c.loop-sum.invariant.tells
 pub returns-then-is_some-clause-few : goal.returns-then-is_some-clause-few
 returns-then-is_some-clause-few g c = omega (arith, c.loop-sum-test.true, c.in_ok-part.ensures.one)
 
-pub returns-then-is_some-clause-refused : goal.returns-then-is_some-clause-refused
-returns-then-is_some-clause-refused g c = tt
-
 pub returns-clause-went : goal.returns-clause-went
 returns-clause-went g c = c.loop-sum.invariant.went
 
@@ -56,9 +52,6 @@ returns-clause-first g c = c.loop-sum.invariant.first
 
 pub returns-clause-few : goal.returns-clause-few
 returns-clause-few g c = c.loop-sum.invariant.few
-
-pub returns-clause-refused : goal.returns-clause-refused
-returns-clause-refused g c = tt
 
 pub returns-in_err-before-clause-went : goal.returns-in_err-before-clause-went
 returns-in_err-before-clause-went g c = IfOk-from_err c.from_residual.result _ c.from_residual.ensures.0
@@ -69,9 +62,6 @@ returns-in_err-before-clause-first g c = IfOk-from_err c.from_residual.result _ 
 pub returns-in_err-before-clause-few : goal.returns-in_err-before-clause-few
 returns-in_err-before-clause-few g c = IfOk-from_err c.from_residual.result _ c.from_residual.ensures.0
 
-pub returns-in_err-before-clause-refused : goal.returns-in_err-before-clause-refused
-returns-in_err-before-clause-refused g c = err_exit _ c.from_residual.result c.in_err-before.field-0.0 c.from_residual.ensures.1 c.in_err-before.ensures.refused
-
 pub returns-in_err-part-clause-went : goal.returns-in_err-part-clause-went
 returns-in_err-part-clause-went g c = IfOk-from_err c.from_residual-in_err-part.result _ c.from_residual-in_err-part.ensures.0
 
@@ -80,6 +70,3 @@ returns-in_err-part-clause-first g c = IfOk-from_err c.from_residual-in_err-part
 
 pub returns-in_err-part-clause-few : goal.returns-in_err-part-clause-few
 returns-in_err-part-clause-few g c = IfOk-from_err c.from_residual-in_err-part.result _ c.from_residual-in_err-part.ensures.0
-
-pub returns-in_err-part-clause-refused : goal.returns-in_err-part-clause-refused
-returns-in_err-part-clause-refused g c = err_exit _ c.from_residual-in_err-part.result c.in_err-part.field-0.0 c.from_residual-in_err-part.ensures.1 c.in_err-part.ensures.refused

@@ -37,8 +37,5 @@ returns-clause-one g c = c.loading_turn.ensures.one
 pub returns-clause-tells : goal.returns-clause-tells
 returns-clause-tells g c = c.loading_turn.ensures.tells
 
-pub returns-clause-refused : goal.returns-clause-refused
-returns-clause-refused g c = c.loading_turn.ensures.refused
-
 pub returns-clause-begins : goal.returns-clause-begins
 returns-clause-begins g c = c.loading_turn.ensures.begins ∙ ap (λ (t : Timeline). t.begins) c.load_among-load.ensures.same

@@ -44,11 +44,5 @@ run-requires-clause-sound g c κs within = c.requires.sound
 pub returns-then-goes_on-clause-sound : goal.returns-then-goes_on-clause-sound
 returns-then-goes_on-clause-sound g c = c.turns-row.ensures.sound
 
-pub returns-then-goes_on-clause-refused : goal.returns-then-goes_on-clause-refused
-returns-then-goes_on-clause-refused g c = tt
-
 pub returns-else-goes_on-clause-sound : goal.returns-else-goes_on-clause-sound
 returns-else-goes_on-clause-sound g c = c.turns-row.ensures.sound
-
-pub returns-else-goes_on-clause-refused : goal.returns-else-goes_on-clause-refused
-returns-else-goes_on-clause-refused g c = tt

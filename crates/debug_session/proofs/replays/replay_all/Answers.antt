@@ -10,7 +10,6 @@ use Rattle.debug_session.specs.Ats.{GoesOnBy}
 use Rattle.debug_session.specs.Lives.{Shows}
 use Rattle.debug_session.proofs.Timelines.{Left, again_more}
 use Rattle.std.proofs.lemmas.Result.{IfOk-from_err}
-use Rattle.board_model.proofs.Exits.{err_exit}
 use Rattle.debug_session.proofs.replays.replay_all.Goals as goal
 
 pub loop-line-init : goal.loop-line-init
@@ -43,9 +42,6 @@ replay-requires-clause-sound g c κs within = c.loop-line.invariant.sound
 pub returns-clause-sound : goal.returns-clause-sound
 returns-clause-sound g c = c.loop-line.invariant.sound
 
-pub returns-clause-refused : goal.returns-clause-refused
-returns-clause-refused g c = tt
-
 pub returns-in_err-joins-clause-left : goal.returns-in_err-joins-clause-left
 returns-in_err-joins-clause-left g c = IfOk-from_err c.from_residual.result _ c.from_residual.ensures.0
 
@@ -54,6 +50,3 @@ returns-in_err-joins-clause-sound g c = IfOk-from_err c.from_residual.result _ c
 
 pub returns-in_err-joins-clause-fill : goal.returns-in_err-joins-clause-fill
 returns-in_err-joins-clause-fill g c = IfOk-from_err c.from_residual.result _ c.from_residual.ensures.0
-
-pub returns-in_err-joins-clause-refused : goal.returns-in_err-joins-clause-refused
-returns-in_err-joins-clause-refused g c = err_exit _ c.from_residual.result c.in_err-joins.field-0.0 c.from_residual.ensures.1 c.in_err-joins.ensures.refused

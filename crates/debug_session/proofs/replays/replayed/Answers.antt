@@ -1,7 +1,6 @@
 use Rattle.std.proofs.Common.{ap, ◌∙◌}
 use Rattle.bench_report.specs.Agree.{fills_after}
 use Rattle.std.proofs.lemmas.Result.{IfOk-from_err}
-use Rattle.board_model.proofs.Exits.{err_exit}
 use Rattle.debug_session.proofs.replays.replayed.Goals as goal
 
 pub returns-in-Ok-clause-left : goal.returns-in-Ok-clause-left
@@ -19,9 +18,6 @@ replay_all-requires-clause-sound g c κs within = c.in_ok-bench.ensures.sound
 pub returns-in-Ok-clause-sound : goal.returns-in-Ok-clause-sound
 returns-in-Ok-clause-sound g c = c.in-Ok.ensures.sound
 
-pub returns-in-Ok-clause-refused : goal.returns-in-Ok-clause-refused
-returns-in-Ok-clause-refused g c = tt
-
 pub returns-in-Err-clause-left : goal.returns-in-Err-clause-left
 returns-in-Err-clause-left g c = tt
 
@@ -31,9 +27,6 @@ returns-in-Err-clause-sound g c = tt
 pub returns-in-Err-clause-fill : goal.returns-in-Err-clause-fill
 returns-in-Err-clause-fill g c = tt
 
-pub returns-in-Err-clause-refused : goal.returns-in-Err-clause-refused
-returns-in-Err-clause-refused g c = c.in-Err.ensures.refused
-
 pub returns-in_err-bench-clause-left : goal.returns-in_err-bench-clause-left
 returns-in_err-bench-clause-left g c = IfOk-from_err c.from_residual.result _ c.from_residual.ensures.0
 
@@ -42,6 +35,3 @@ returns-in_err-bench-clause-sound g c = IfOk-from_err c.from_residual.result _ c
 
 pub returns-in_err-bench-clause-fill : goal.returns-in_err-bench-clause-fill
 returns-in_err-bench-clause-fill g c = IfOk-from_err c.from_residual.result _ c.from_residual.ensures.0
-
-pub returns-in_err-bench-clause-refused : goal.returns-in_err-bench-clause-refused
-returns-in_err-bench-clause-refused g c = err_exit _ c.from_residual.result c.in_err-bench.field-0.0 c.from_residual.ensures.1 c.in_err-bench.ensures.refused

@@ -1,6 +1,6 @@
-use Rattle.std.proofs.Common.{◌+◌, is_ok, arith}
+use Rattle.std.proofs.Common.{is_ok, arith}
 use Rattle.jobs.specs.Handed.{IsPlaced}
-use Rattle.jobs.proofs.Placing.{pushed_each, row_placed}
+use Rattle.jobs.proofs.Placing.{pushed_each}
 use Rattle.jobs.proofs.hands.make_some.Goals as goal
 
 pub loop-init : goal.loop-init
@@ -21,14 +21,14 @@ returns-then-is_err g c =
     let is = g.T.Task.is_row c.args.task.now in
     let at = c.fetch_add-at.result in
     pushed_each (IsPlaced is c.args.first c.args.size) (is_ok c.push.result) c.loop.made.items c.push.new.self.items (at, c.row-row.result) c.push.ensures.items c.loop.invariant
-    (c.if-size-at.false, row_placed is (c.args.first + at) c.row-row.result c.row-row.ensures.row c.row-row.ensures.refused)
+    (c.if-size-at.false, c.row-row.ensures.row)
 
 pub loop-preserved : goal.loop-preserved
 loop-preserved g c =
     let is = g.T.Task.is_row c.args.task.now in
     let at = c.fetch_add-at.result in
     pushed_each (IsPlaced is c.args.first c.args.size) (is_ok c.push.result) c.loop.made.items c.push.new.self.items (at, c.row-row.result) c.push.ensures.items c.loop.invariant
-    (c.if-size-at.false, row_placed is (c.args.first + at) c.row-row.result c.row-row.ensures.row c.row-row.ensures.refused)
+    (c.if-size-at.false, c.row-row.ensures.row)
 
 pub loop-smaller : goal.loop-smaller
 loop-smaller g c = omega (arith, c.loop-test.true)

@@ -1,7 +1,6 @@
 use Rattle.std.proofs.Common.{◌≡◌, ◌+◌, subst, arith}
 use Rattle.jobs.proofs.HandedOn.{handed_both}
 use Rattle.std.proofs.lemmas.Result.{IfOk-from_err}
-use Rattle.board_model.proofs.Exits.{err_exit}
 use Rattle.jobs.proofs.windows.hand_on_all.Goals as goal
 
 pub run_window-requires-clause-has : goal.run_window-requires-clause-has
@@ -18,8 +17,5 @@ loop-done-preserved g c =
       handed = handed_both (g.T.Task.is_row c.args.task.now) g.S.Sink.takes c.args.first c.loop-done.done c.min-size.result _ _ _ i.handed c.in_ok-run_window.ensures.handed;
     }
 
-pub returns-in_err-run_window-clause-handed : goal.returns-in_err-run_window-clause-handed
-returns-in_err-run_window-clause-handed g c = IfOk-from_err c.from_residual.result _ c.from_residual.ensures.0
-
-pub returns-in_err-run_window-clause-refused : goal.returns-in_err-run_window-clause-refused
-returns-in_err-run_window-clause-refused g c = err_exit _ c.from_residual.result c.in_err-run_window.field-0.0 c.from_residual.ensures.1 c.in_err-run_window.ensures.refused
+pub returns-in_err-run_window : goal.returns-in_err-run_window
+returns-in_err-run_window g c = record { handed = (IfOk-from_err c.from_residual.result _ c.from_residual.ensures.0) }

@@ -1,8 +1,7 @@
 use Rattle.std.proofs.Common.{◌≡◌, ◌∙◌, ◌+◌, ℕ, [], ◌∷◌, ◌++◌, None, length, refl, ap, arith}
 use Rattle.std.proofs.lemmas.List.{length_push}
 use Rattle.std.proofs.lemmas.List.Elements.{All-same, All-nil, All-push}
-use Rattle.std.proofs.lemmas.Result.{IfOk-from_err, err_from_is_err_and}
-use Rattle.jobs.proofs.Windowed.{only_memory}
+use Rattle.std.proofs.lemmas.Result.{IfOk-from_err}
 use Rattle.jobs.proofs.windows.no_rows.Goals as goal
 
 pub loop-init : goal.loop-init
@@ -20,15 +19,12 @@ loop-preserved g c =
       All-same (λ slot. slot ≡ None) c.push.new.self.items (before ++ None ∷ []) is (All-push (λ slot. slot ≡ None) before None c.loop.invariant.1 refl),
     )
 
-pub returns-clause-slots : goal.returns-clause-slots
-returns-clause-slots g c =
-    let all : c.loop.counter ≡ c.args.count = omega (arith, c.loop-test.false, c.loop.auto.counter-end) in
-    (c.loop.invariant.0 ∙ all, c.loop.invariant.1)
+pub returns : goal.returns
+returns g c = record {
+  slots = (
+      let all : c.loop.counter ≡ c.args.count = omega (arith, c.loop-test.false, c.loop.auto.counter-end) in
+      (c.loop.invariant.0 ∙ all, c.loop.invariant.1));
+}
 
-pub returns-in_err-push-clause-slots : goal.returns-in_err-push-clause-slots
-returns-in_err-push-clause-slots g c = IfOk-from_err c.from_residual.result _ c.from_residual.ensures.0
-
-pub returns-in_err-push-clause-refused : goal.returns-in_err-push-clause-refused
-returns-in_err-push-clause-refused g c =
-    let p = err_from_is_err_and c.from_residual.result c.from_residual.ensures.1 in
-    only_memory c.from_residual.result p.0 p.1 p.2
+pub returns-in_err-push : goal.returns-in_err-push
+returns-in_err-push g c = record { slots = (IfOk-from_err c.from_residual.result _ c.from_residual.ensures.0) }

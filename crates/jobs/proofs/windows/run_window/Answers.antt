@@ -1,7 +1,7 @@
 use Rattle.std.proofs.Common.{◌≡◌, ◌∙◌, ◌+◌, ◌<◌, ◌^◌, ℕ, OnOk, length, ap, subst, sym, arith}
-use Rattle.std.proofs.lemmas.Result.{IfOk-from_err, err_from_is_err_and}
+use Rattle.std.proofs.lemmas.Result.{IfOk-from_err}
 use Rattle.jobs.specs.Handed.{Handed}
-use Rattle.jobs.proofs.Windowed.{now_new, now_length, still_length, none_made, some_made, memory_refused}
+use Rattle.jobs.proofs.Windowed.{now_new, now_length, still_length, none_made, some_made}
 use Rattle.jobs.proofs.windows.run_window.Goals as goal
 use Rattle.jobs.proofs.windows.run_window.Goals.{then-threads-gt1, else-threads-gt1}
 
@@ -52,24 +52,18 @@ hand_on-requires-clause-made g c κs within =
       | else-threads-gt1 w ↦ none_made is c.args.first slots.items now (c.as_mut_slice-2.ensures.value ∙ ap (λ v. v.items) w.slots-is) c.in_ok-slots.ensures.slots.1
     ]
 
-pub returns-clause-handed : goal.returns-clause-handed
-returns-clause-handed g c =
-    let now = c.as_mut_slice-2.result.now in
-    let slots = c.in_ok-slots.slots in
-    let long : length now ≡ length slots.items = elim c.if-threads-gt1.branch as (λ _. length now ≡ length slots.items) [
-      | then-threads-gt1 w ↦ now_length slots c.if-threads-gt1.slots w.as_mut_slice.result.now w.make_rows.new.slots now w.as_mut_slice.ensures.value w.make_rows.ensures.as_many w.slots-is c.as_mut_slice-2.ensures.value
-      | else-threads-gt1 w ↦ still_length slots c.if-threads-gt1.slots now w.slots-is c.as_mut_slice-2.ensures.value
-    ] in
-    subst (λ (n : ℕ). OnOk c.hand_on.result (Handed (g.T.Task.is_row c.args.task.now) g.S.Sink.takes c.args.first n c.args.sink.now c.hand_on.new.sink)) (long ∙ c.in_ok-slots.ensures.slots.0) c.hand_on.ensures.handed
-
-pub returns-clause-refused : goal.returns-clause-refused
-returns-clause-refused g c = c.hand_on.ensures.refused
+pub returns : goal.returns
+returns g c = record {
+  handed = (
+      let now = c.as_mut_slice-2.result.now in
+      let slots = c.in_ok-slots.slots in
+      let long : length now ≡ length slots.items = elim c.if-threads-gt1.branch as (λ _. length now ≡ length slots.items) [
+        | then-threads-gt1 w ↦ now_length slots c.if-threads-gt1.slots w.as_mut_slice.result.now w.make_rows.new.slots now w.as_mut_slice.ensures.value w.make_rows.ensures.as_many w.slots-is c.as_mut_slice-2.ensures.value
+        | else-threads-gt1 w ↦ still_length slots c.if-threads-gt1.slots now w.slots-is c.as_mut_slice-2.ensures.value
+      ] in
+      subst (λ (n : ℕ). OnOk c.hand_on.result (Handed (g.T.Task.is_row c.args.task.now) g.S.Sink.takes c.args.first n c.args.sink.now c.hand_on.new.sink)) (long ∙ c.in_ok-slots.ensures.slots.0) c.hand_on.ensures.handed);
+}
 
 -- there was no memory for the slots
-pub returns-in_err-slots-clause-handed : goal.returns-in_err-slots-clause-handed
-returns-in_err-slots-clause-handed g c = IfOk-from_err c.from_residual.result _ c.from_residual.ensures.0
-
-pub returns-in_err-slots-clause-refused : goal.returns-in_err-slots-clause-refused
-returns-in_err-slots-clause-refused g c =
-    let p = err_from_is_err_and c.from_residual.result c.from_residual.ensures.1 in
-    memory_refused c.from_residual.result p.0 c.in_err-slots.field-0.0 p.1 p.2 c.in_err-slots.ensures.refused
+pub returns-in_err-slots : goal.returns-in_err-slots
+returns-in_err-slots g c = record { handed = (IfOk-from_err c.from_residual.result _ c.from_residual.ensures.0) }

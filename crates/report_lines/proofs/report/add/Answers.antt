@@ -1,8 +1,8 @@
 use Rattle.std.proofs.Common.{rules}
 use Rattle.report_lines.proofs.report.add.Goals as goal
 
-pub returns-in_ok-push-clause-ok : goal.returns-in_ok-push-clause-ok
-returns-in_ok-push-clause-ok g c = search rules
+pub returns-in_ok-push : goal.returns-in_ok-push
+returns-in_ok-push g c = record { ok = (search rules) }
 
-pub returns-in_default-clause-ok : goal.returns-in_default-clause-ok
-returns-in_default-clause-ok g c = search rules
+pub returns-in_default : goal.returns-in_default
+returns-in_default g c = record { ok = (search rules) }

@@ -1,4 +1,4 @@
-use Rattle.std.proofs.Common.{subst}
+use Rattle.std.proofs.Common.{Ok, subst}
 use Rattle.script_lang.specs.Scripts.{Script}
 use Rattle.script_lang.specs.Views.{view}
 use Rattle.bench_orders.specs.Orders.{IsScheduleOf}
@@ -14,5 +14,4 @@ script_to-requires-clause-order g c =
 pub returns-clause-begins : goal.returns-clause-begins
 returns-clause-begins g c =
     let found = c.in_ok-found.ensures.found in
-    let told = c.script_to.ensures in
-    begins_schedule c.args.drawn c.args.script.now c.args.payloads.now c.args.own.now c.in_ok-found.found found.0 c.script_to.result found.1 c.requires.read found.2 told.board told.parts
+    begins_schedule c.args.drawn c.args.script.now c.args.payloads.now c.args.own.now c.in_ok-found.found found.0 (Ok c.in_ok-begun.begun) found.1 c.requires.read found.2 c.in_ok-begun.ensures.board c.in_ok-begun.ensures.parts

@@ -1,5 +1,4 @@
 use Rattle.std.proofs.lemmas.Result.{IfOk-from_err}
-use Rattle.board_model.proofs.Exits.{err_exit}
 use Rattle.bench_sweep.proofs.chunks.RunsAtCalls.next_rows.Goals as goal
 
 pub run_to-requires-clause-sits : goal.run_to-requires-clause-sits
@@ -25,9 +24,6 @@ returns-in-Err-clause-few g c = tt
 pub returns-in-Err-clause-judged : goal.returns-in-Err-clause-judged
 returns-in-Err-clause-judged g c = tt
 
-pub returns-in-Ok-clause-refused : goal.returns-in-Ok-clause-refused
-returns-in-Ok-clause-refused g c = tt
-
 pub returns-in_err-moment-clause-came : goal.returns-in_err-moment-clause-came
 returns-in_err-moment-clause-came g c = IfOk-from_err c.from_residual.result _ c.from_residual.ensures.0
 
@@ -36,9 +32,6 @@ returns-in_err-moment-clause-few g c = IfOk-from_err c.from_residual.result _ c.
 
 pub returns-in_err-moment-clause-judged : goal.returns-in_err-moment-clause-judged
 returns-in_err-moment-clause-judged g c = IfOk-from_err c.from_residual.result _ c.from_residual.ensures.0
-
-pub returns-in_err-moment-clause-refused : goal.returns-in_err-moment-clause-refused
-returns-in_err-moment-clause-refused g c = err_exit _ c.from_residual.result c.in_err-moment.field-0.0 c.from_residual.ensures.1 c.in_err-moment.ensures.refused
 
 pub rows_at-requires-clause-few : goal.rows_at-requires-clause-few
 rows_at-requires-clause-few g c κs within = c.requires.few

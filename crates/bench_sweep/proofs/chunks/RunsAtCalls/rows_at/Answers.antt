@@ -4,7 +4,6 @@ use Rattle.bench_sweep.proofs.Along.{along, came_again}
 use Rattle.bench_sweep.proofs.Made.{rest_is}
 use Rattle.bench_sweep.proofs.Reported.{swept_take, swept_drop}
 use Rattle.bench_sweep.proofs.Rowed.{judged_at}
-use Rattle.board_model.proofs.Exits.{err_exit}
 use Rattle.bench_sweep.proofs.chunks.RunsAtCalls.rows_at.Goals as goal
 
 pub run_at_point-requires-clause-lines : goal.run_at_point-requires-clause-lines
@@ -49,23 +48,14 @@ returns-in_err-going-clause-count g c = refl
 pub returns-in_err-going-clause-judged : goal.returns-in_err-going-clause-judged
 returns-in_err-going-clause-judged g c = IfOk-from_err c.from_residual-in_err-going.result _ c.from_residual-in_err-going.ensures.0
 
-pub returns-in_err-going-clause-refused : goal.returns-in_err-going-clause-refused
-returns-in_err-going-clause-refused g c = err_exit _ c.from_residual-in_err-going.result c.in_err-going.field-0.0 c.from_residual-in_err-going.ensures.1 c.in_err-going.ensures.refused
-
 pub returns-in_err-made-clause-count : goal.returns-in_err-made-clause-count
 returns-in_err-made-clause-count g c = refl
 
 pub returns-in_err-made-clause-judged : goal.returns-in_err-made-clause-judged
 returns-in_err-made-clause-judged g c = IfOk-from_err c.from_residual.result _ c.from_residual.ensures.0
 
-pub returns-in_err-made-clause-refused : goal.returns-in_err-made-clause-refused
-returns-in_err-made-clause-refused g c = err_exit _ c.from_residual.result c.in_err-made.field-0.0 c.from_residual.ensures.1 c.in_err-made.ensures.refused
-
 pub returns-then-done-made-clause-count : goal.returns-then-done-made-clause-count
 returns-then-done-made-clause-count g c = refl
 
 pub returns-then-done-made-clause-judged : goal.returns-then-done-made-clause-judged
 returns-then-done-made-clause-judged g c = tt
-
-pub returns-then-done-made-clause-refused : goal.returns-then-done-made-clause-refused
-returns-then-done-made-clause-refused g c = refl

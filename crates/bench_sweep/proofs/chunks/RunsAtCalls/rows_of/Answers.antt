@@ -1,11 +1,10 @@
-use Rattle.std.proofs.Common.{◌≡◌, ◌≤◌, ◌∷◌, ◌++◌, [], List, length, ap, sym, subst, arith, refl}
+use Rattle.std.proofs.Common.{◌≡◌, ◌≤◌, ◌∷◌, ◌++◌, [], List, length, ap, sym, subst, arith}
 use Rattle.std.proofs.lemmas.List.{length-append}
 use Rattle.bench_report.specs.Happens.{unpowered}
 use Rattle.jobs.specs.Handed.{AreRows}
 use Rattle.bench_sweep.specs.Reports.{IsOfCall}
 use Rattle.bench_sweep.specs.declared.judging.PointRows.{PointRows}
 use Rattle.bench_sweep.proofs.Along.{rows_more}
-use Rattle.board_model.proofs.Exits.{err_exit}
 use Rattle.std.proofs.lemmas.Result.{IfOk-from_err}
 use Rattle.bench_sweep.proofs.chunks.RunsAtCalls.rows_of.Goals as goal
 
@@ -51,20 +50,11 @@ next_rows-requires-clause-few g c κs within = c.requires.few
 pub next_rows-requires-clause-lines : goal.next_rows-requires-clause-lines
 next_rows-requires-clause-lines g c κs within = c.requires.lines
 
-pub returns-in-Err-clause-refused : goal.returns-in-Err-clause-refused
-returns-in-Err-clause-refused g c = refl
+pub returns-in-Err : goal.returns-in-Err
+returns-in-Err g c = record { rows = (tt) }
 
-pub returns-in-Err-clause-rows : goal.returns-in-Err-clause-rows
-returns-in-Err-clause-rows g c = tt
+pub returns-in_err-moment : goal.returns-in_err-moment
+returns-in_err-moment g c = record { rows = (IfOk-from_err c.from_residual.result _ c.from_residual.ensures.0) }
 
-pub returns-in_err-moment-clause-refused : goal.returns-in_err-moment-clause-refused
-returns-in_err-moment-clause-refused g c = err_exit _ c.from_residual.result c.in_err-moment.field-0.0 c.from_residual.ensures.1 c.in_err-moment.ensures.refused
-
-pub returns-in_err-moment-clause-rows : goal.returns-in_err-moment-clause-rows
-returns-in_err-moment-clause-rows g c = IfOk-from_err c.from_residual.result _ c.from_residual.ensures.0
-
-pub returns-in_err-next-clause-refused : goal.returns-in_err-next-clause-refused
-returns-in_err-next-clause-refused g c = err_exit _ c.from_residual-in_err-next.result c.in_err-next.field-0.0 c.from_residual-in_err-next.ensures.1 c.in_err-next.ensures.refused
-
-pub returns-in_err-next-clause-rows : goal.returns-in_err-next-clause-rows
-returns-in_err-next-clause-rows g c = IfOk-from_err c.from_residual-in_err-next.result _ c.from_residual-in_err-next.ensures.0
+pub returns-in_err-next : goal.returns-in_err-next
+returns-in_err-next g c = record { rows = (IfOk-from_err c.from_residual-in_err-next.result _ c.from_residual-in_err-next.ensures.0) }

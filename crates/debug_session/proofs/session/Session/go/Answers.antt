@@ -18,9 +18,6 @@ returns-clause-there g c = c.go_few.ensures.there
 pub returns-clause-went : goal.returns-clause-went
 returns-clause-went g c = c.go_few.ensures.went
 
-pub returns-clause-refused : goal.returns-clause-refused
-returns-clause-refused g c = c.go_few.ensures.refused
-
 pub go_few-requires-clause-at : goal.go_few-requires-clause-at
 go_few-requires-clause-at g c κs within = c.requires.at
 

@@ -19,9 +19,6 @@ returns-clause-there g c = c.go_back.ensures.there
 pub returns-clause-back : goal.returns-clause-back
 returns-clause-back g c = c.go_back.ensures.back
 
-pub returns-clause-refused : goal.returns-clause-refused
-returns-clause-refused g c = c.go_back.ensures.refused
-
 pub go_back-requires-clause-at : goal.go_back-requires-clause-at
 go_back-requires-clause-at g c κs within = c.requires.at
 

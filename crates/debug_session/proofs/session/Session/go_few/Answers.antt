@@ -19,9 +19,6 @@ returns-clause-there g c = c.go.ensures.there
 pub returns-clause-went : goal.returns-clause-went
 returns-clause-went g c = c.go.ensures.went
 
-pub returns-clause-refused : goal.returns-clause-refused
-returns-clause-refused g c = c.go.ensures.refused
-
 pub go-requires-clause-at : goal.go-requires-clause-at
 go-requires-clause-at g c κs within = c.requires.at
 

@@ -20,9 +20,6 @@ returns-clause-plan g c = c.go_few.ensures.plan
 pub returns-clause-first : goal.returns-clause-first
 returns-clause-first g c = c.go_few.ensures.first
 
-pub returns-clause-refused : goal.returns-clause-refused
-returns-clause-refused g c = c.go_few.ensures.refused
-
 pub go_few-requires-clause-at : goal.go_few-requires-clause-at
 go_few-requires-clause-at g c κs within = c.requires.at
 

@@ -16,9 +16,6 @@ returns-clause-at g c = c.go_to.ensures.at
 pub returns-clause-went : goal.returns-clause-went
 returns-clause-went g c = c.go_to.ensures.went
 
-pub returns-clause-refused : goal.returns-clause-refused
-returns-clause-refused g c = c.go_to.ensures.refused
-
 pub returns-clause-begins : goal.returns-clause-begins
 returns-clause-begins g c = c.go_to.ensures.begins
 

@@ -16,9 +16,6 @@ returns-clause-at g c = c.line.ensures.at
 pub returns-clause-ran : goal.returns-clause-ran
 returns-clause-ran g c = c.line.ensures.ran
 
-pub returns-clause-refused : goal.returns-clause-refused
-returns-clause-refused g c = c.line.ensures.refused
-
 pub returns-clause-begins : goal.returns-clause-begins
 returns-clause-begins g c = c.line.ensures.begins
 

@@ -1,6 +1,5 @@
 use Rattle.std.proofs.Common.{refl}
 use Rattle.std.proofs.lemmas.Result.{IfOk-from_err}
-use Rattle.board_model.proofs.Exits.{err_exit}
 use Rattle.debug_session.proofs.session.Session.new.Goals as goal
 
 pub begun-requires-clause-ranges : goal.begun-requires-clause-ranges
@@ -27,9 +26,6 @@ returns-clause-points g c = c.new-2.ensures.points
 pub returns-clause-watches : goal.returns-clause-watches
 returns-clause-watches g c = c.new-2.ensures.watches
 
-pub returns-clause-refused : goal.returns-clause-refused
-returns-clause-refused g c = tt
-
 pub returns-in_err-timeline-clause-at : goal.returns-in_err-timeline-clause-at
 returns-in_err-timeline-clause-at g c = IfOk-from_err c.from_residual.result _ c.from_residual.ensures.0
 
@@ -50,6 +46,3 @@ returns-in_err-timeline-clause-points g c = IfOk-from_err c.from_residual.result
 
 pub returns-in_err-timeline-clause-watches : goal.returns-in_err-timeline-clause-watches
 returns-in_err-timeline-clause-watches g c = IfOk-from_err c.from_residual.result _ c.from_residual.ensures.0
-
-pub returns-in_err-timeline-clause-refused : goal.returns-in_err-timeline-clause-refused
-returns-in_err-timeline-clause-refused g c = err_exit _ c.from_residual.result c.in_err-timeline.field-0.0 c.from_residual.ensures.1 c.in_err-timeline.ensures.refused

@@ -18,6 +18,3 @@ returns-clause-unset g c = c.set_point.ensures.unset
 
 pub returns-clause-watches : goal.returns-clause-watches
 returns-clause-watches g c = c.set_point.ensures.watches
-
-pub returns-clause-refused : goal.returns-clause-refused
-returns-clause-refused g c = c.set_point.ensures.refused

@@ -19,9 +19,6 @@ returns-clause-step g c = c.step.ensures.step
 pub returns-clause-there : goal.returns-clause-there
 returns-clause-there g c = c.step.ensures.there
 
-pub returns-clause-refused : goal.returns-clause-refused
-returns-clause-refused g c = c.step.ensures.refused
-
 pub step-requires-clause-at : goal.step-requires-clause-at
 step-requires-clause-at g c κs within = c.requires.at
 

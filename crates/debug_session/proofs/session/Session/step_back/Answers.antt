@@ -1,6 +1,5 @@
 use Rattle.std.proofs.Common.{refl}
 use Rattle.std.proofs.lemmas.Result.{IfOk-from_err}
-use Rattle.board_model.proofs.Exits.{err_exit}
 use Rattle.debug_session.proofs.session.Session.step_back.Goals as goal
 
 pub returns-in_err-found-clause-size : goal.returns-in_err-found-clause-size
@@ -36,9 +35,6 @@ returns-clause-at g c = c.in_ok-found.ensures.at
 pub returns-clause-there : goal.returns-clause-there
 returns-clause-there g c = c.requires.hart
 
-pub returns-clause-refused : goal.returns-clause-refused
-returns-clause-refused g c = tt
-
 pub returns-in_err-found-clause-at : goal.returns-in_err-found-clause-at
 returns-in_err-found-clause-at g c = IfOk-from_err c.from_residual.result _ c.from_residual.ensures.0
 
@@ -47,6 +43,3 @@ returns-in_err-found-clause-back g c = IfOk-from_err c.from_residual.result _ c.
 
 pub returns-in_err-found-clause-there : goal.returns-in_err-found-clause-there
 returns-in_err-found-clause-there g c = IfOk-from_err c.from_residual.result _ c.from_residual.ensures.0
-
-pub returns-in_err-found-clause-refused : goal.returns-in_err-found-clause-refused
-returns-in_err-found-clause-refused g c = err_exit _ c.from_residual.result c.in_err-found.field-0.0 c.from_residual.ensures.1 c.in_err-found.ensures.refused

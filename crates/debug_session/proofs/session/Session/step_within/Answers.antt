@@ -19,9 +19,6 @@ returns-clause-went g c = c.step_within.ensures.went
 pub returns-clause-within : goal.returns-clause-within
 returns-clause-within g c = c.step_within.ensures.within
 
-pub returns-clause-refused : goal.returns-clause-refused
-returns-clause-refused g c = c.step_within.ensures.refused
-
 pub step_within-requires-clause-at : goal.step_within-requires-clause-at
 step_within-requires-clause-at g c κs within = c.requires.at
 

@@ -7,7 +7,6 @@ use Rattle.debug_session.specs.declared.stops.WatchKind.TheVariants as kinds
 use Rattle.debug_session.specs.Firsts.{seen_all, seen_by}
 use Rattle.debug_session.proofs.Firsts.{seen_more}
 use Rattle.std.proofs.lemmas.Result.{IfOk-from_err}
-use Rattle.board_model.proofs.Exits.{err_said}
 use Rattle.debug_session.proofs.stops.Stops.watched.Goals as goal
 
 pub loop-watch-preserved : goal.loop-watch-preserved
@@ -23,17 +22,8 @@ loop-watch-preserved c =
     let bytes : c.in_ok-bytes.bytes.items ≡ seen_by m watch = c.in_ok-bytes.ensures.items ∙ c.bytes_of.ensures in
     ap (map pair) c.in_ok-push.ensures.items ∙ map-append pair c.loop-watch.all.items _ ∙ ap (λ (xs : List (Watchpoint × List ℕ)). xs ++ (watch, c.in_ok-bytes.bytes.items) ∷ []) was ∙ ap (λ (bs : List ℕ). seen_all m (take i items) ++ (watch, bs) ∷ []) bytes ∙ sym (seen_more items i d m c.loop-watch-test.true) ∙ ap (λ (ws : List Watchpoint). seen_all m (take (i + 1) ws)) same
 
-pub returns-clause-refused : goal.returns-clause-refused
-returns-clause-refused c = tt
+pub returns-in_err-bytes : goal.returns-in_err-bytes
+returns-in_err-bytes c = record { seen = (IfOk-from_err c.from_residual.result _ c.from_residual.ensures.0) }
 
-pub returns-in_err-bytes-clause-seen : goal.returns-in_err-bytes-clause-seen
-returns-in_err-bytes-clause-seen c = IfOk-from_err c.from_residual.result _ c.from_residual.ensures.0
-
-pub returns-in_err-bytes-clause-refused : goal.returns-in_err-bytes-clause-refused
-returns-in_err-bytes-clause-refused c = err_said _ _ c.from_residual.result c.from_residual.ensures.1 (λ y is. is)
-
-pub returns-in_err-push-clause-seen : goal.returns-in_err-push-clause-seen
-returns-in_err-push-clause-seen c = IfOk-from_err c.from_residual-in_err-push.result _ c.from_residual-in_err-push.ensures.0
-
-pub returns-in_err-push-clause-refused : goal.returns-in_err-push-clause-refused
-returns-in_err-push-clause-refused c = err_said _ _ c.from_residual-in_err-push.result c.from_residual-in_err-push.ensures.1 (λ y is. is)
+pub returns-in_err-push : goal.returns-in_err-push
+returns-in_err-push c = record { seen = (IfOk-from_err c.from_residual-in_err-push.result _ c.from_residual-in_err-push.ensures.0) }

@@ -1,6 +1,5 @@
 use Rattle.std.proofs.Common.{refl}
 use Rattle.std.proofs.lemmas.Result.{IfOk-from_err}
-use Rattle.board_model.proofs.Exits.{err_exit}
 use Rattle.debug_session.proofs.timeline.Timeline.again.Goals as goal
 
 pub returns-in_err-bench-clause-history : goal.returns-in_err-bench-clause-history
@@ -15,11 +14,5 @@ returns-clause-history g c = refl
 pub returns-clause-begins : goal.returns-clause-begins
 returns-clause-begins g c = refl
 
-pub returns-clause-refused : goal.returns-clause-refused
-returns-clause-refused g c = tt
-
 pub returns-in_err-bench-clause-at : goal.returns-in_err-bench-clause-at
 returns-in_err-bench-clause-at g c = IfOk-from_err c.from_residual.result _ c.from_residual.ensures.0
-
-pub returns-in_err-bench-clause-refused : goal.returns-in_err-bench-clause-refused
-returns-in_err-bench-clause-refused g c = err_exit _ c.from_residual.result c.in_err-bench.field-0.0 c.from_residual.ensures.1 c.in_err-bench.ensures.refused

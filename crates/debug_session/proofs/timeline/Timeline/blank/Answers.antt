@@ -1,13 +1,9 @@
 use Rattle.std.proofs.Common.{refl}
 use Rattle.std.proofs.lemmas.Result.{IfOk-from_err}
-use Rattle.board_model.proofs.Exits.{err_exit}
 use Rattle.debug_session.proofs.timeline.Timeline.blank.Goals as goal
 
 pub returns-clause-begins : goal.returns-clause-begins
 returns-clause-begins c = refl
-
-pub returns-clause-refused : goal.returns-clause-refused
-returns-clause-refused c = tt
 
 pub returns-in_err-bench-clause-at : goal.returns-in_err-bench-clause-at
 returns-in_err-bench-clause-at c = IfOk-from_err c.from_residual.result _ c.from_residual.ensures.0
@@ -17,6 +13,3 @@ returns-in_err-bench-clause-history c = IfOk-from_err c.from_residual.result _ c
 
 pub returns-in_err-bench-clause-begins : goal.returns-in_err-bench-clause-begins
 returns-in_err-bench-clause-begins c = IfOk-from_err c.from_residual.result _ c.from_residual.ensures.0
-
-pub returns-in_err-bench-clause-refused : goal.returns-in_err-bench-clause-refused
-returns-in_err-bench-clause-refused c = err_exit _ c.from_residual.result c.in_err-bench.field-0.0 c.from_residual.ensures.1 c.in_err-bench.ensures.refused

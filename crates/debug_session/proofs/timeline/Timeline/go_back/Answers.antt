@@ -16,9 +16,6 @@ returns-clause-at g c = c.again.ensures.at
 pub returns-clause-begins : goal.returns-clause-begins
 returns-clause-begins g c = c.again.ensures.begins
 
-pub returns-clause-refused : goal.returns-clause-refused
-returns-clause-refused g c = c.again.ensures.refused
-
 pub returns-in_err-cut_to-clause-begins : goal.returns-in_err-cut_to-clause-begins
 returns-in_err-cut_to-clause-begins g c = refl
 

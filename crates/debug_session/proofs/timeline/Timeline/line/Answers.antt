@@ -1,6 +1,5 @@
 use Rattle.debug_session.proofs.Timelines.{ran_other}
 use Rattle.std.proofs.lemmas.Result.{IfOk-from_err}
-use Rattle.board_model.proofs.Exits.{err_exit}
 use Rattle.debug_session.proofs.timeline.Timeline.line.Goals as goal
 
 pub returns-in_default-clause-ran : goal.returns-in_default-clause-ran
@@ -25,23 +24,14 @@ returns-in_ok-row-in-Turn-clause-begins g c = c.turns.ensures.begins
 pub returns-in_ok-row-in-Turn-clause-at : goal.returns-in_ok-row-in-Turn-clause-at
 returns-in_ok-row-in-Turn-clause-at g c = c.in_ok-row-in-Turn.ensures.at
 
-pub returns-in_ok-row-in-Turn-clause-refused : goal.returns-in_ok-row-in-Turn-clause-refused
-returns-in_ok-row-in-Turn-clause-refused g c = tt
-
 pub returns-in_default-clause-at : goal.returns-in_default-clause-at
 returns-in_default-clause-at g c = c.whole_line.ensures.at
 
 pub returns-in_default-clause-begins : goal.returns-in_default-clause-begins
 returns-in_default-clause-begins g c = c.whole_line.ensures.begins
 
-pub returns-in_default-clause-refused : goal.returns-in_default-clause-refused
-returns-in_default-clause-refused g c = c.whole_line.ensures.refused
-
 pub returns-in_err-row-in-Turn-clause-at : goal.returns-in_err-row-in-Turn-clause-at
 returns-in_err-row-in-Turn-clause-at g c = IfOk-from_err c.from_residual.result _ c.from_residual.ensures.0
 
 pub returns-in_err-row-in-Turn-clause-ran : goal.returns-in_err-row-in-Turn-clause-ran
 returns-in_err-row-in-Turn-clause-ran g c = IfOk-from_err c.from_residual.result _ c.from_residual.ensures.0
-
-pub returns-in_err-row-in-Turn-clause-refused : goal.returns-in_err-row-in-Turn-clause-refused
-returns-in_err-row-in-Turn-clause-refused g c = err_exit _ c.from_residual.result c.in_err-row-in-Turn.field-0.0 c.from_residual.ensures.1 c.in_err-row-in-Turn.ensures.refused

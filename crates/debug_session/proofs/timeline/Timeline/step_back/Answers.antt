@@ -3,7 +3,6 @@ use Rattle.std.specs.Bool.{MatchBool}
 use Rattle.bench_live.specs.Pasts.{IsRowCut}
 use Rattle.debug_session.proofs.Histories.{row_cut_ranges}
 use Rattle.std.proofs.lemmas.Result.{IfOk-from_err}
-use Rattle.board_model.proofs.Exits.{err_exit}
 use Rattle.debug_session.proofs.timeline.Timeline.step_back.Goals as goal
 
 pub again-requires-clause-ranges : goal.again-requires-clause-ranges
@@ -15,9 +14,6 @@ again-requires-clause-ranges g c = λ ks lives.
 
 pub returns-clause-begins : goal.returns-clause-begins
 returns-clause-begins g c = c.again.ensures.begins
-
-pub returns-clause-refused : goal.returns-clause-refused
-returns-clause-refused g c = tt
 
 pub returns-in_err-again-clause-begins : goal.returns-in_err-again-clause-begins
 returns-in_err-again-clause-begins g c = c.again.ensures.begins
@@ -39,6 +35,3 @@ returns-in_err-again-clause-at g c = IfOk-from_err c.from_residual-in_err-again.
 
 pub returns-in_err-again-clause-back : goal.returns-in_err-again-clause-back
 returns-in_err-again-clause-back g c = IfOk-from_err c.from_residual-in_err-again.result _ c.from_residual-in_err-again.ensures.0
-
-pub returns-in_err-again-clause-refused : goal.returns-in_err-again-clause-refused
-returns-in_err-again-clause-refused g c = err_exit _ c.from_residual-in_err-again.result c.in_err-again.field-0.0 c.from_residual-in_err-again.ensures.1 c.in_err-again.ensures.refused

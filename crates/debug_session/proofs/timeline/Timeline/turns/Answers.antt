@@ -6,7 +6,6 @@ use Rattle.script_lang.specs.declared.line.Line.TheVariants as lines
 use Rattle.simdisk.specs.declared.fill.Fill.TheVariants as fills
 use Rattle.debug_session.proofs.Timelines.{row_left}
 use Rattle.std.proofs.lemmas.Result.{IfOk-from_err}
-use Rattle.board_model.proofs.Exits.{err_exit}
 use Rattle.debug_session.proofs.timeline.Timeline.turns.Goals as goal
 
 pub returns-clause-at : goal.returns-clause-at
@@ -47,14 +46,8 @@ returns-in_err-self-clause-begins g c = refl
 pub returns-clause-begins : goal.returns-clause-begins
 returns-clause-begins g c = refl
 
-pub returns-clause-refused : goal.returns-clause-refused
-returns-clause-refused g c = tt
-
 pub returns-in_err-self-clause-at : goal.returns-in_err-self-clause-at
 returns-in_err-self-clause-at g c = IfOk-from_err c.from_residual.result _ c.from_residual.ensures.0
 
 pub returns-in_err-self-clause-ran : goal.returns-in_err-self-clause-ran
 returns-in_err-self-clause-ran g c = IfOk-from_err c.from_residual.result _ c.from_residual.ensures.0
-
-pub returns-in_err-self-clause-refused : goal.returns-in_err-self-clause-refused
-returns-in_err-self-clause-refused g c = err_exit _ c.from_residual.result c.in_err-self.field-0.0 c.from_residual.ensures.1 c.in_err-self.ensures.refused

@@ -5,7 +5,6 @@ use Rattle.debug_session.specs.Lives.{Rests}
 use Rattle.debug_session.specs.Passes.{GoesTo}
 use Rattle.debug_session.proofs.Timelines.{row_left}
 use Rattle.std.proofs.lemmas.Result.{IfOk-from_err}
-use Rattle.board_model.proofs.Exits.{err_exit}
 use Rattle.debug_session.proofs.timeline.Timeline.turns_to.Goals as goal
 
 pub returns-clause-at : goal.returns-clause-at
@@ -50,9 +49,6 @@ returns-in_err-self-clause-begins g c = refl
 pub returns-clause-begins : goal.returns-clause-begins
 returns-clause-begins g c = refl
 
-pub returns-clause-refused : goal.returns-clause-refused
-returns-clause-refused g c = tt
-
 pub returns-clause-within : goal.returns-clause-within
 returns-clause-within g c = c.turns_to-row.ensures.range
 
@@ -70,6 +66,3 @@ returns-in_err-self-clause-within g c = IfOk-from_err c.from_residual.result _ c
 
 pub returns-in_err-self-clause-why : goal.returns-in_err-self-clause-why
 returns-in_err-self-clause-why g c = IfOk-from_err c.from_residual.result _ c.from_residual.ensures.0
-
-pub returns-in_err-self-clause-refused : goal.returns-in_err-self-clause-refused
-returns-in_err-self-clause-refused g c = err_exit _ c.from_residual.result c.in_err-self.field-0.0 c.from_residual.ensures.1 c.in_err-self.ensures.refused

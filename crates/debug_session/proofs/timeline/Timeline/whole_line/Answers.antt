@@ -19,9 +19,6 @@ returns-in-Ok-clause-grew g c = c.noted.ensures.grew
 pub returns-in-Ok-clause-begins : goal.returns-in-Ok-clause-begins
 returns-in-Ok-clause-begins g c = c.noted.ensures.begins
 
-pub returns-in-Ok-clause-refused : goal.returns-in-Ok-clause-refused
-returns-in-Ok-clause-refused g c = c.noted.ensures.refused
-
 pub returns-in-Err-clause-at : goal.returns-in-Err-clause-at
 returns-in-Err-clause-at g c = tt
 
@@ -33,9 +30,6 @@ returns-in-Err-clause-grew g c = tt
 
 pub returns-in-Err-clause-begins : goal.returns-in-Err-clause-begins
 returns-in-Err-clause-begins g c = refl
-
-pub returns-in-Err-clause-refused : goal.returns-in-Err-clause-refused
-returns-in-Err-clause-refused g c = c.in-Err.ensures.refused
 
 pub run-requires-clause-range : goal.run-requires-clause-range
 run-requires-clause-range g c κs within = c.requires.range

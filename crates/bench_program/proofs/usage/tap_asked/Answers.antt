@@ -1,4 +1,0 @@
-use Rattle.bench_program.proofs.usage.tap_asked.Goals as goal
-
-pub returns : goal.returns
-returns c = record { given = c.get_flag.ensures.value; left = c.get_flag.ensures.other; none = c.get_flag.ensures.none }
