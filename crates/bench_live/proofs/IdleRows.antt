@@ -1,4 +1,4 @@
--- A row of turns that begins with an idle one, and one behind another turn.
+-- A row of turns that begins with an idle one, and a row after another turn.
 use Rattle.std.proofs.Common.{◌≡◌, ◌∙◌, ◌⊎◌, ◌≤◌, ◌+◌, ◌-◌, inl, inr, ℕ, zero, suc, true, false, refl, sym, ap, subst, arith}
 use Rattle.board_model.specs.Shapes.{Size}
 use Rattle.disk.specs.FaultState.{FaultState}
@@ -59,7 +59,7 @@ idle_row size b old new h count made (words.Goes dids.Idle) was has turned some 
 idle_row size b old new h count made (words.Goes did) was has turned some least most idle calm stays = absurd (let no : ⊥ = cc in no)
 idle_row size b old new h count made (words.Over end) was has turned some least most idle calm stays = absurd (let no : ⊥ = cc in no)
 
--- turns behind one after which the row goes on
+-- more turns of a row, after a first one that does not end it
 behind_one : (h n made one : ℕ) (m mid new : Machine) (s t u : SimStore) (first word : Word) → boards.TurnsManyHeld h 1 m mid s t one first → ends first ≡ false → (store_fault_state t).struck ≡ false
     → boards.TurnsManyHeld h n mid new t u made word → boards.TurnsManyHeld h (suc n) m new s u (suc made) word
 behind_one h n made one m mid new s t u first word (x, y, said, held, inr none) goes calm more = absurd none.4
@@ -85,7 +85,7 @@ held_range h zero m k s t made word held = absurd held
 held_range h (suc n) m k s t made word (mid, store, first, turned, inl x) = (omega (arith, x.3), omega (arith, x.3))
 held_range h (suc n) m k s t made word (mid, store, first, turned, inr x) = let r = held_range h n mid k store t x.2 word x.4 in (omega (arith, x.3), omega (arith, x.3, r.1))
 
--- a turn behind which none follows in the row
+-- a turn after which the row has no more
 pub last_row : (h count made : ℕ) (m mid : Machine) (s t : SimStore) (word : Word) → 1 ≤ count → (count ≡ 1) ⊎ (ends word ≡ true) ⊎ ((store_fault_state t).struck ≡ true)
     → boards.TurnsManyHeld h 1 m mid s t made word → boards.TurnsManyHeld h count m mid s t made word
 last_row h zero made m mid s t word some why held = absurd (omega (arith, some))

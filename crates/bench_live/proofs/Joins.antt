@@ -1,4 +1,4 @@
--- Two rows of turns of a hart, one behind the other, are one.
+-- Two rows of turns of a hart, one after the other, are one.
 use Rattle.std.proofs.Common.{◌≡◌, ◌+◌, ℕ, false, refl, sym, subst, arith}
 use Rattle.board_model.specs.Shapes.{Size}
 use Rattle.sbi.specs.Words.{ends}

@@ -109,7 +109,7 @@ made_range h (suc n) b made word new (life, on, said, mid, turn, inl (last, one,
 made_range h (suc n) b made word new (life, on, said, mid, turn, inr (goes, calm, rest, e, more)) =
     let r = made_range h n mid rest word new more in (omega (arith, e), omega (arith, e, r.1))
 
--- a row behind one that goes on
+-- a row after one that may go on
 pub merged : (h n c : ℕ) (b : Bench) (k : ℕ) (w : Word) (mid : Bench) (made : ℕ) (word : Word) (new : Bench) → k ≡ n → GuestTurns h n b k w mid → ends w ≡ false → mid.fault_state.struck ≡ false → GuestTurns h c mid made word new
     → GuestTurns h (n + c) b (n + made) word new
 merged h zero c b k w mid made word new e guest runs calm more = absurd guest

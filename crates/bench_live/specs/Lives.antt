@@ -54,7 +54,7 @@ abbrev pub IsThere : Option Power → Type 0
 IsThere None = ⊥
 IsThere (Some power) = IsOn power
 
--- power was cut by the fill, on the very disk of a board that was on and that agreed with the bench behind its last turn
+-- power was cut by the fill, on the very disk of a board that was on and that agreed with the bench after its last turn
 abbrev pub IsCutIn : Size → Fill → Bench → Power → Power → Type 0
 IsCutIn size fill b power left =
     (after : Power) × (disk : SimDisk) × HasDisk power disk × Agrees size b after × HasDisk after disk × IsCutBy fill disk left

@@ -33,7 +33,7 @@ abbrev pub some_turns : ℕ → ℕ → List Line
 some_turns h zero = []
 some_turns h (suc n) = lines.Turn h (suc n) ∷ []
 
--- one of the lines is a row of hart h, and all is forgotten behind all but one of its turns
+-- one of the lines is a row of hart h: its last turn is forgotten, and all that came after it
 abbrev pub IsRowCut : ℕ → List Line → List Line → Type 0
 IsRowCut h old new =
     (i : ℕ) × (n : ℕ) × (after : List Line) × (old ≡ take i old ++ lines.Turn h n ∷ after) × (0 < n)

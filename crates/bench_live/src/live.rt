@@ -139,8 +139,8 @@ impl LiveBench {
         }
     }
 
-    /// Settles a board that is on behind turns of which this is said of the last: whether an armed cut struck in them. It
-    /// is a function of its own since it moves the board, which `turns` is to do only where a row has ended.
+    /// Settles a board that is on after turns: `word` is what was said of the last. Answers whether an armed cut struck in them.
+    /// This is a function of its own, since it moves the board, which `turns` is to do only where a row has ended.
     fn settle(&mut self, word: Word) -> bool
         requires on { IsThere self.old.power }
         ensures settled { (power : Power) → self.old.power ≡ Some power

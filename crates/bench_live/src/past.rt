@@ -112,7 +112,7 @@ impl LineHistory {
         Ok(true)
     }
 
-    /// Forgets whatever comes behind so many first lines, but for so many turns of that hart in one line behind them.
+    /// Forgets all but the first `lines` lines, and puts `turns` turns of that hart after them, in one line.
     pub fn cut_to(&mut self, hart: HartId, lines: usize, turns: u32) -> Result<(), AllocError>
         ensures { OnOk result (self.new ≡ take lines self.old ++ some_turns hart turns) }
     {

@@ -17,13 +17,13 @@ use Rattle.bench_program.specs.Usage.{sbibench, NamesNoWork}
 use Rattle.bench_program.specs.declared.fault.BenchFault.{BenchFault}
 use Rattle.bench_program.specs.declared.fault.BenchFault.TheVariants.{Usage, Refused, Wrong}
 
--- a buffer of some size that holds nothing has just the bytes behind it
+-- a buffer of some size that holds nothing has just the bytes below it
 pub of_those_behind : (Of : List ℕ → Type 0) (known : Option (List ℕ)) (held : List ℕ) (size : ℕ) → held ≡ [] → size ≡ 262144
     → IfSome (if size == 0 then None else prepend_known held known) Of → IfSome known Of
 of_those_behind Of None held size h s of = tt
 of_those_behind Of (Some bytes) held size h s of = rw (h, s) at of
 
--- a reader of that size that holds nothing gives what the reader behind it does
+-- a reader of that size that holds nothing gives what the reader below it does
 pub of_what_is_behind : {R A : Type 0} (Of : List ℕ → Type 0) (remaining : R → Option (List ℕ)) (input : R) (r : BufReader R A)
     → reader_inner r ≡ input → reader_buffer r ≡ [] → reader_capacity r ≡ 262144 → IfSome (reader_remaining remaining r) Of → IfSome (remaining input) Of
 of_what_is_behind Of remaining input r i h s of =

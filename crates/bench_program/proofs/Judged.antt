@@ -1,4 +1,4 @@
--- What a work made, behind which what the writer held back is handed on; and how the work ended then.
+-- What a work made, and how it ended: what the writer held back is handed on after it.
 use Rattle.std.proofs.Common.{◌≡◌, ◌∙◌, ◌<◌, inl, inr, ℕ, Bool, true, false, List, Option, None, Some, Result, Ok, Err, IfOk, IfErr, OnOk, sym, subst, arith}
 use Rattle.std.proofs.lemmas.Result.{on_ok_weaker, IfErr-weaker}
 use Rattle.std.specs.Io.KnownBytes.{Appends, Keeps}

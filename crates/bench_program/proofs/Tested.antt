@@ -26,7 +26,7 @@ module _ (word line : List ℕ) (i : ℕ) (less : i < length line) (so_far : has
       let P : List ℕ → Type 0 = λ xs. starts_with nat_eq xs word ≡ false in
       sym (ap (has_word word) e ∙ past word (get_or line i 0) (drop (i + 1) line) (subst P e not)) ∙ so_far
 
--- ---- lines behind others
+-- ---- lines after others
 pub failed_more : (n : ℕ) (line : List ℕ) (more : List (List ℕ)) → failed_lines n (line ∷ more) ≡ failed_lines n (line ∷ []) ++ failed_lines (n + failed_count (line ∷ [])) more
 failed_more n line more = by_case (tells_apart line) (failed_text (n + 1) line) (λ k. failed_lines k more)
   where

@@ -26,7 +26,7 @@ options_text (Judge plan) = bench_text plan.bench plan.quiet
 options_text (Compare plan) = schedules_text plan.count plan.seed
 options_text work = []
 
--- a text behind others, with its length before it
+-- a text after others, with its length before it
 abbrev pub then_framed : List ℕ → List ℕ → List ℕ
 then_framed m text = (m ++ (decimal (length text) ++ codes ":")) ++ text
 

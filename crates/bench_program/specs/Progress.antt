@@ -27,7 +27,7 @@ grouped n =
 abbrev pub seconds_left : ℕ → ℕ → ℕ → Option ℕ
 seconds_left took done rows = if nat_lt 0 done then (if nat_lt (took * (rows - done)) (2 ^ 64) then Some (took * (rows - done) / done / 1000) else None) else None
 
--- what stands behind the number of rows of the run
+-- what stands after the number of rows of the run
 abbrev pub left_text : Option ℕ → List ℕ
 left_text None = codes ""
 left_text (Some left) = codes ", " ++ (grouped left ++ codes " s left")

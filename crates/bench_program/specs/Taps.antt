@@ -10,7 +10,7 @@ abbrev pub has_word : List ℕ → List ℕ → Bool
 has_word word [] = false
 has_word word (b ∷ bs) = if starts_with nat_eq (b ∷ bs) word then true else has_word word bs
 
--- a line tells of a difference: behind this word it has what the script's own run said
+-- a line tells of a difference: what the script's own run said comes after this word
 abbrev pub tells_apart : List ℕ → Bool
 tells_apart line = has_word (codes " own ") line
 
@@ -32,7 +32,7 @@ shown_text false = codes "# nothing is shown\n"
 abbrev pub failed_text : ℕ → List ℕ → List ℕ
 failed_text n line = codes "not ok " ++ (decimal n ++ (codes " - " ++ (line ++ 10 ∷ [])))
 
--- of lines behind which n told of one, those that tell of a difference, each as a test
+-- the lines that tell of a difference, each as a test, after n tests before them
 abbrev pub failed_lines : ℕ → List (List ℕ) → List ℕ
 failed_lines n [] = []
 failed_lines n (line ∷ more) =

@@ -108,13 +108,13 @@ impl<'a, F: Write> RunLine<'a, F> {
         self.due = now.saturating_add(FIRST_AFTER);
     }
 
-    /// So many more rows were made. The line is renewed where it is time, and taken away behind the last row.
+    /// So many more rows were made. The line is renewed where it is time, and taken away after the last row.
     pub fn went(&mut self, now: u64, rows: u64)
         // Where it is written to no terminal, nothing is written.
         ensures hidden { self.old.shows ≡ false → F.contents self.new.to.now ≡ F.contents self.old.to.now }
         // Nor is it before it is time, where no line stands.
         ensures rare { now < self.old.due → self.old.stands ≡ false → F.contents self.new.to.now ≡ F.contents self.old.to.now }
-        // Behind the last row none stands.
+        // None stands after the last row.
         ensures last { 0 < self.old.rows → self.old.rows ≤ self.old.done + rows → self.new.stands ≡ false }
         ensures count { self.old.done + rows < 2 ^ 64 → self.new.done ≡ self.old.done + rows }
     {

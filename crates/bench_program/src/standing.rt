@@ -47,7 +47,7 @@ impl fmt::Display for Grouped {
     }
 }
 
-/// How many seconds a run still takes, as a text behind the number of its rows; nothing where that is not known.
+/// How many seconds a run still takes, as a text after the number of its rows; nothing where that is not known.
 #[derive(Clone, Copy, Drop)]
 struct SecondsLeftText(Option<u64>);
 

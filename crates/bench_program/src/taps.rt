@@ -58,7 +58,7 @@ fn write_failed<W: Write>(out: &mut W, number: u64, line: &[u8]) -> io::Result<(
     writeln!(out)
 }
 
-/// Writes a line, behind so many that were written, as a test that failed where it tells of a difference. Answers how many were
+/// Writes a line as a test that failed, where it tells of a difference; `told` were written before it. Answers how many were
 /// written then.
 fn write_failure<W: Write>(out: &mut W, told: u64, line: &[u8]) -> io::Result<u64>
     requires { told < 2 ^ 63 }
@@ -138,7 +138,7 @@ fn write_shown<W: Write>(out: &mut W, shown: bool) -> io::Result<()>
     write!(out, "{comment}")
 }
 
-/// Writes what the Test Anything Protocol has behind the tests that failed: the comment, and the last test.
+/// Writes what the Test Anything Protocol has after the tests that failed: the comment, and the last test.
 #[tactic(auto, using(board_model::proofs::Written::appended))]
 fn write_end<W: Write>(
     out: &mut W,

@@ -97,7 +97,7 @@ fn trap_of<C: Crew>(
     }
 }
 
-/// The bench behind those lines.
+/// The bench after those lines.
 fn bench_behind<C: Crew>(
     setting: &Setting<'_, C>,
     lines: &[Line],
@@ -161,7 +161,7 @@ fn tell_trap<F: Write>(faults: &mut F, hart: HartId, trap: Trap) {
     );
 }
 
-/// The hart of a row at that place, behind which the bench stands, and the trap from which on it only traps; None where it does not.
+/// The hart of the row at that place, and the trap from which on it only traps; None where it does not. The bench stands after the row.
 fn trap_in_row<C: Crew>(
     setting: &Setting<'_, C>,
     live: &mut LiveBench,

@@ -33,7 +33,7 @@ use Rattle.bench_report.specs.Bench.{BenchLife, Bench}
 use Rattle.bench_report.specs.Happens.{out_of_memory, off, on_with, has_machine}
 use Rattle.bench_report.specs.Commands.{Issued}
 
--- the hart is answered with the error, and goes on behind its call
+-- the hart is answered with the error, and goes on after its call
 abbrev pub refused : ℕ → SbiError → BenchLife → BenchLife
 refused h e life =
     has_machine (record life.machine {

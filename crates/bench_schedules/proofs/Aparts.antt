@@ -82,7 +82,7 @@ states_next own other (Some pair) same m =
     first_behind (told_text (told.Found own)) (told_text (told.Found other)) (told_text (told.Image own.image) ∷ []) (told_text (told.Image other.image) ∷ [])
     (told_text pair.own) (told_text pair.other) same (apart_here (told.Image own.image) (told.Image other.image) pair.own pair.other [] [] m)
 
--- the last line, behind lines that are alike
+-- the last line, after lines that are alike
 pub lines_next : (xs ys : List (List ℕ)) (own other : Printed) (found : Option ToldApart) → xs ≡ ys
     → MatchOption found (told_text (told.Line own) ≡ told_text (told.Line other))
     (λ pair. (pair.own ≡ told.Line own) × (pair.other ≡ told.Line other) × (told_text (told.Line own) ≢ told_text (told.Line other)))

@@ -109,18 +109,18 @@ told_next own place next line a within (inl turn) =
 told_next own place next line a within (inr same) =
     ap (λ o. take place own ++ other_answer o a) same.0 ∙ ap (λ x. take place own ++ x ∷ []) (sym same.1) ∙ sym (take_more own place a (within same.0)) ∙ ap (λ k. take k own) (sym same.2)
 
--- behind no lines
+-- after no lines
 pub goes_none : (size : Size) (own : List Answer) (going : RunUnderWay) → GoesAlike size [] own going going
 goes_none size own going = λ from before so_far. let P : List Line → Type 0 = λ xs. CameTo size from xs own going in subst P (sym (append-nil before)) so_far
 
--- a line behind which the run goes on
+-- a line after which the run goes on
 pub goes_next : (size : Size) (ls : List Line) (k : ℕ) (own : List Answer) (old mid new : RunUnderWay) (line : Line) (a : Answer) → k < length ls → line ≡ get_or ls k line → (is_other line ≡ true → mid.place < length own)
     → GoesAlike size (take k ls) own old mid → LineRan size line a mid.live new.live → IsNextPlace own mid.place line a new.place → GoesAlike size (take (k + 1) ls) own old new
 goes_next size ls k own old mid new line a less is within goes ran next = λ from before so_far.
     let P : List Answer → Type 0 = λ x. RunSoFar size from (before ++ take (k + 1) ls) x new.live in
     subst P (told_next own mid.place new.place line a within next) (goes_more size from before ls k (take mid.place own) mid.live new.live line a less is (goes from before so_far) ran)
 
--- a line behind which it does not
+-- a line after which it does not
 pub goes_apart : (size : Size) (ls : List Line) (k : ℕ) (own : List Answer) (old mid : RunUnderWay) (live : LiveBench) (line : Line) (a : Answer) (d : Difference) → k < length ls → line ≡ get_or ls k line
     → (is_other line ≡ true → mid.place < length own) → GoesAlike size (take k ls) own old mid → LineRan size line a mid.live live → IsDifference own mid.place line a d → GoesApart size ls own old d live
 goes_apart size ls k own old mid live line a d less is within goes ran apart = record {

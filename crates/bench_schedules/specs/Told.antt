@@ -24,7 +24,7 @@ abbrev pub told_states : Option Durable → List (List ℕ)
 told_states None = []
 told_states (Some d) = told_text (Found d) ∷ told_text (Image d.image) ∷ []
 
--- the lines that an answer makes in a report, and behind a line `found` what that leaves out of the image
+-- the lines that an answer makes in a report, and after a line `found` what that leaves out of the image
 abbrev pub told_lines : Answer → List (List ℕ)
 told_lines a = told_states a.found ++ line_text a.line ∷ []
 

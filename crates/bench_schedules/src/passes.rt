@@ -29,8 +29,8 @@ fn try_lessened<C: Crew>(
     try_slices(search, kept, slices)
 }
 
-/// Tries the schedule in which the slices at that place and behind it are exchanged, where those are fewer slices then: one
-/// that joins another of its hart. Answers whether it is kept.
+/// Tries the schedule in which the slice at that place and the one after it are exchanged, where that makes fewer slices: one
+/// joins another of its hart. Answers whether it is kept.
 fn try_exchanged<C: Crew>(
     search: &Search<'_, C>,
     kept: &mut FoundSchedule,
@@ -49,7 +49,7 @@ fn try_exchanged<C: Crew>(
     try_slices(search, kept, slices)
 }
 
-/// Cuts slices off from behind, by bisection.
+/// Cuts slices off at the end, by bisection.
 fn cut<C: Crew>(search: &Search<'_, C>, kept: &mut FoundSchedule) -> Result<(), AllocError>
     requires searchable { IsSearchable search.now.setting.shape.now search.now.lines.now search.now.own.now }
     requires found { IsFound search.now.setting.shape.now search.now.payloads.now search.now.lines.now search.now.own.now

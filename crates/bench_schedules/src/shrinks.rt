@@ -159,8 +159,8 @@ fn shrink_script<R: Threads + Sync, W: Write>(
 }
 
 /// Writes schedule k of a script as a script, as [`crate::show`] does, but shrunk: with few of the turns that were
-/// drawn, such that its report still first differs from the script's own in the same line. Behind them stand the script's own
-/// `turn` lines of each stretch, less those turns. Where schedule k differs nowhere, it is written as it is.
+/// drawn, such that its report still first differs from the script's own in the same line. The script's own `turn` lines of
+/// each stretch stand after them, less those turns. Where schedule k differs nowhere, it is written as it is.
 ///
 /// It makes at most 500 runs. Refused as `crate::schedules` is.
 pub fn shrink<R: Threads + Sync, W: Write>(

@@ -27,7 +27,7 @@ fn joined(slices: &Vec<Slice>, slice: &Slice) -> Option<Slice> {
     }
 }
 
-/// Adds a slice behind the others, or to the last of them. One of no turns is none.
+/// Adds a slice after the others, or to the last of them. One of no turns is none.
 fn add(slices: &mut Vec<Slice>, slice: Slice) -> Result<(), AllocError> {
     if slice.turns == 0 {
         return Ok(());

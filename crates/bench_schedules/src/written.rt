@@ -33,7 +33,7 @@ fn write_apart<W: Write>(out: &mut W, k: u64, number: u64, apart: &ToldApart) ->
 /// Writes the line of schedule k, whose run differs at the script's line of that number.
 ///
 /// Refused also where two answers that are not the same differ in nothing that is told. No run has such answers: only
-/// the bytes behind those of a `mem` are told nowhere, and they are zeros. No clause says so.
+/// the bytes after those of a `mem` are told nowhere, and they are zeros. No clause says so.
 pub fn write_difference<W: Write>(
     alloc: Global,
     out: &mut W,

@@ -17,7 +17,7 @@ use Rattle.bench_sweep.specs.declared.judging.PointRows.{PointRows}
 use Rattle.bench_sweep.specs.declared.points.Caller.{Caller}
 use Rattle.bench_sweep.specs.declared.rows.Row.{Row}
 
--- what was found behind one of them is found behind another
+-- what was found after one of these cuts is found after another
 pub left_alike : (size : Size) (end : Bench) (disk : SimDisk) (row : Row) (caller : Caller) (number : ℕ) (fill : Fill) → ((other : Fill) → cut_content disk other ≡ synced (sim_log_of disk)) → IsLeftBy size end disk row → IsLeftBy size end disk (again row caller number fill)
 left_alike size end disk row caller number fill same left =
     let here : cut_content disk (cut_fill row.fill) ≡ cut_content disk fill = same (cut_fill row.fill) ∙ sym (same fill) in

@@ -1,4 +1,4 @@
--- A run that goes on behind some lines, and moments of it.
+-- A run that goes on after some lines, and moments of it.
 use Rattle.std.proofs.Common.{◌≡◌, ◌≤◌, ◌<◌, ◌+◌, ◌-◌, ◌++◌, ◌∷◌, [], ℕ, List, false, length, take, drop, get_or, refl, sym, ◌∙◌, ap, subst, append_assoc, arith}
 use Rattle.std.proofs.lemmas.List.{length-take, length-drop, take-take, take_more}
 use Rattle.board_model.specs.Shapes.{Size}
@@ -40,7 +40,7 @@ resumed_both size [] ys b (a ∷ said) also mid run = absurd run
 resumed_both size (x ∷ xs) ys b [] also mid run = absurd run
 resumed_both size (x ∷ xs) ys b (a ∷ said) also mid run = ap (λ zs. line_resumes x a ++ zs) (resumed_both size xs ys run.0 said also mid run.2) ∙ sym (append_assoc (line_resumes x a) (lines_resume xs said) (lines_resume ys also))
 
--- so many of the lines up to a place, behind others
+-- the first k lines, and then n of those up to a place
 lines_on : (k n to : ℕ) (lines : List Line) → n ≤ length (take (to - k) (drop k lines)) → take k lines ++ take n (take (to - k) (drop k lines)) ≡ take (k + n) lines
 lines_on k n to lines few =
     let long = length-take (to - k) (drop k lines) in

@@ -100,7 +100,7 @@ begins_more size start lines i line d power slots b new answers a less is run mo
       enough = enough;
     }
 
--- ---- the site behind it
+-- ---- the site after it
 pub site_runs : (size : Size) (start : List (List ℕ)) (lines : List Line) (power : Power) (disk : OffDisk) (slots : List (List ℕ)) (ledger : RunLedger) → Begun size start lines power slots → ((z : Size) (b : Bench) → Agrees z b power → OffIs z (off b) disk.disk) → Tells ledger nothing_kept
     → (b : Bench) × IsFormatted size start lines b × Runs size (off b) (Off disk) slots ledger
 site_runs size start lines power disk slots ledger g ends tells =

@@ -112,7 +112,7 @@ take_plus n m lines =
     ap (λ ls. ls ++ take m (drop n lines)) (sym (take-take n (n + m) lines (omega arith))) ∙ ap (λ ls. take n (take (n + m) lines) ++ ls) (sym (drop-take n m lines))
     ∙ take-append-drop n (take (n + m) lines)
 
--- the lines behind some, as a slice of all has them
+-- the lines after the first n, as a slice of all has them
 pub rest_is : (n : ℕ) (lines : List Line) → take (length lines - n) (drop n lines) ≡ drop n lines
 rest_is n lines = let long = length-drop n lines in take_all (length lines - n) (drop n lines) (omega (arith, long))
 
@@ -132,14 +132,14 @@ pub record AllRan (size : Size) (first : Bench) (lines : List Line) (at : Site) 
   pub run : Run size (unpowered bench) (drop before lines) answers end
   pub site : RunsAt size (off end) at
 
--- one or the other, behind so many lines
+-- one or the other, after n lines
 abbrev pub Went : Size → Bench → List Line → ℕ → Site → Type 0
 Went size first lines n at = SoFar size first (take n lines) at ⊎ ((length lines ≤ n) × AllRan size first lines at)
 
 pub none_yet : (size : Size) (first : Bench) (lines : List Line) (at : Site) → RunsAt size first at → Went size first lines 0 at
 none_yet size first lines at r = inl (record { bench = first; comes = record { lives = []; all = refl; run = refl }; site = r })
 
--- there are lines behind them
+-- it is the first, where lines are left after them
 pub sits_at : (size : Size) (first : Bench) (lines : List Line) (n : ℕ) (at : Site) → n < length lines → Went size first lines n at → SoFar size first (take n lines) at
 sits_at size first lines n at less (inl f) = f
 sits_at size first lines n at less (inr (all, f)) = absurd (omega (arith, less, all))
@@ -218,7 +218,7 @@ took_on size lines rest n m old mid new is first second =
     let L : List Line → Type 0 = λ ls. RunTook size ls old new in
     subst L (take_plus n m lines) (took_both size (take n lines) (take m (drop n lines)) old mid new first (subst R is second))
 
--- a row behind so many lines, and behind some of the life under way
+-- a row after n lines, and after some of the life under way
 pub row_of : (size : Size) (kind : BenchKind) (caller : Caller) (before : ℕ) (origin : SimDisk) (first : Bench) (lines rest : List Line) (n : ℕ) (at : Site) → rest ≡ drop n lines → (f : SoFar size first (take n lines) at) → RunTook size (take n lines) origin at.off.disk
     → MadeCalls origin at.off.disk caller before → (row : Row) → RunsAlong size kind caller at before (unpowered f.bench) rest row → IsRunOf size kind origin first lines row
 row_of size kind caller before origin first lines rest n at is f took counts row r =

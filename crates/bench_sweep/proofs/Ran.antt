@@ -105,7 +105,7 @@ module _ (size : Size) (b : Bench) (lines : List Line) (i : ℕ) (line d : Line)
       by true hit = ran_struck hit
       by false calm = ran_calm size b (take (i + 1) lines) power slots first ledger (ran_more calm)
 
--- the board was turned off behind lines in which nothing was armed
+-- the board was turned off after lines in which nothing was armed
 pub life_of : (size : Size) (b : Bench) (lines : List Line) (count : ℕ) (power : Power) (slots : List (List ℕ)) (first ledger : RunLedger) (site : Site) → (r : RanTo size (unpowered b) (take count lines) power slots first ledger)
     → (r.bench.fault_state.struck ≡ false) × RunsAt size (off r.bench) site → (count < length lines → StopsOff power) → IsLife size b lines count site
 life_of size b lines count power slots first ledger site r (calm, left) stops =

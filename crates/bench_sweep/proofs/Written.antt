@@ -154,7 +154,7 @@ points_within caller first from to n order few =
     ap (λ zs. window from to zs) parts ∙ ap (take (to - from)) (behind from (points_from caller first from) (mine ++ rest) (points_long caller first from))
     ∙ front (to - from) mine rest (points_long caller here (to - from))
 
--- a window that may go beyond them, of calls behind so many others
+-- a window of `count` calls after `made` others, which may go beyond them
 pub window_of_calls : (caller : Caller) (made count from to : ℕ) → from ≤ to → made + count < 2 ^ 64
     → points_from caller (made + min from count + 1) (min to count - min from count) ≡ window from to (points_from caller (made + 1) count)
 window_of_calls caller made count from to order room =

@@ -11,6 +11,6 @@ common (x ∷ xs) (y ∷ ys) = if x == y then x ∷ common xs ys else []
 abbrev pub ends_of : List ℕ → ℕ
 ends_of bytes = count_by (λ (b : ℕ). b == 10) bytes
 
--- the number of the line, from 1, that stands behind all that both have
+-- the number, from 1, of the line that comes after the lines that both have
 abbrev pub line_behind : List ℕ → List ℕ → ℕ
 line_behind one other = ends_of (common one other) + 1

@@ -38,7 +38,7 @@ pub record IsFormatted (size : Size) (start : List (List ℕ)) (lines : List Lin
 abbrev pub WasRefusedNoMemory : Bench → Type 0
 WasRefusedNoMemory b = (b.growths ≡ 0) × (b.fault_state.own ≡ 0)
 
--- lives that are run one after another: power is out before each, and behind each the board is off
+-- lives that are run one after another: power is out before each, and the board is off after each
 abbrev pub Lives : Size → Bench → List (List Line) → Bench → Type 0
 Lives size b [] new = new ≡ b
 Lives size b (life ∷ more) new =
@@ -121,8 +121,8 @@ pub record IsLeft (size : Size) (end : Bench) (disk : SimDisk) (fill : Fill) (le
   pub finds : ShowsState left
   pub opens : OpensOf (cut_content disk fill) left
 
--- The row is a run of lines with its call armed, on a bench on whose disk so many were made before. Its fill, and zeros where it has
--- none, says what the cut behind it leaves.
+-- The row is a run of lines with its call armed, on a bench on whose disk `made` calls were made before. Its fill says what the cut
+-- after it leaves: zeros, where it has none.
 pub record RunsWith (size : Size) (kind : BenchKind) (made : ℕ) (b : Bench) (lines : List Line) (row : Row) : Type 0 where
   pub call : ℕ
   pub counts : row.number ≡ made + call
@@ -134,9 +134,9 @@ pub record RunsWith (size : Size) (kind : BenchKind) (made : ℕ) (b : Bench) (l
   pub disk : SimDisk
   pub left : IsLeft size at disk (cut_fill row.fill) row.left
 
--- The row is such a run: some first lines are run as they are, and so are so many of the life under way, and those behind them with its
--- call armed. The number of the call is counted from the origin, the disk in front of the first line: in these first lines the disk of
--- the board that they were run on counted those made before.
+-- The row is such a run: the first `before` lines are run as they are, so are `more` lines of the life under way, and those after them are
+-- run with its call armed. The number of the call is counted from the origin, the disk before the first line: in these first lines the
+-- disk of the board that they were run on counted those made before.
 pub record IsRunOf (size : Size) (kind : BenchKind) (origin : SimDisk) (first : Bench) (lines : List Line) (row : Row) : Type 0 where
   pub before : ℕ
   pub bench : Bench

@@ -39,7 +39,7 @@ abbrev pub fault_at : BenchKind → Caller → ℕ → ArmedFault
 fault_at Cuts caller n = cut_of caller n
 fault_at Fails caller n = failure_of caller n
 
--- what a cut leaves of what was not synced, by the fill of its run; a run behind a failure has none, and is cut with zeros
+-- what a cut leaves of what was not synced, by the fill of its run; a run with a failure has none, and is cut with zeros
 abbrev pub cut_fill : Option Fill → Fill
 cut_fill None = Byte 0
 cut_fill (Some fill) = fill

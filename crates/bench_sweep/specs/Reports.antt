@@ -40,9 +40,9 @@ IsLeftBy size end disk row = IsLeft size end disk (cut_fill row.fill) row.left
 abbrev pub again : Row → Caller → ℕ → Fill → Row
 again row caller number fill = record row { caller = caller; number = number; fill = Some fill }
 
--- A row of that caller whose run goes on behind some of those lines, which are run as they are from that bench on, where a board
--- stands. So many calls were made up to the site, and in these lines, run on from its disk, the disk of the board then counted those
--- behind it too.
+-- A row of that caller. The first `more` of those lines are run as they are, from that bench on, where a board stands; the row's run goes
+-- on after them. The caller made `before` calls up to the site. In these lines, run on from the site's disk, the disk of the board
+-- counted the `made` calls after it too.
 pub record RunsAlong (size : Size) (kind : BenchKind) (caller : Caller) (site : Site) (before : ℕ) (b : Bench) (lines : List Line)
     (row : Row) : Type 0 where
   pub who : row.caller ≡ caller
@@ -107,7 +107,7 @@ pub record ReportsAll {W : Type 0} (contents : W → Option (List ℕ)) (size : 
   pub total : all ≡ length (all_points callers counts)
   pub runs : Reports contents kind (IsRunOf size kind origin first lines) old new (own_points part counts)
 
--- the same of the lines of a script behind its first format, where it begins with these payloads
+-- the same of the lines of a script after its first format, where it begins with these payloads
 pub record ReportsScript {W : Type 0} (contents : W → Option (List ℕ)) (size : Size) (kind : BenchKind) (part : Option Part) (start : List (List ℕ)) (lines : List Line)
     (all : ℕ) (old new : SweepReport W) : Type 0 where
   pub begin : ℕ

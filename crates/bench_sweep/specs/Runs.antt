@@ -178,7 +178,7 @@ pub record Begun (size : Size) (start : List (List ℕ)) (lines : List Line) (po
   pub kept : bench.kept ≡ nothing_kept
   pub enough : bench.growths ≡ 0
 
--- the board is off behind it
+-- the board is off after it
 abbrev pub IsFormattedAt : Size → List (List ℕ) → List Line → Site → Type 0
 IsFormattedAt size start lines site = (b : Bench) × IsFormatted size start lines b × RunsAt size (off b) site
 

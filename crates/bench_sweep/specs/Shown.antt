@@ -68,12 +68,12 @@ HasCaller size (Lane lane) = lane < size.lanes
 abbrev pub IsNamed : Size → Caller → ℕ → Type 0
 IsNamed size caller call = HasCaller size caller × (call ≤ 1000000)
 
--- behind a run with a failure power is cut
+-- power is cut after a run with a failure
 abbrev pub cut_part : BenchKind → List Line
 cut_part Cuts = []
 cut_part Fails = lines.Cut (cut_fill None) ∷ []
 
--- the lines in front of what is armed, those that then run, and behind its end a power-on that keeps the image
+-- the lines in front of what is armed, those that then run, and after their end a power-on that keeps the image
 abbrev pub row_lines : BenchKind → List Line → Arming → List Line → List Line
 row_lines kind front armed back = front ++ lines.Arm armed ∷ back ++ cut_part kind ++ lines.On Keep ∷ []
 
@@ -121,8 +121,8 @@ abbrev pub ShowsNone : BenchKind → Size → SimDisk → Bench → List Line �
 ShowsNone kind size origin b front those number =
     HasNoRun kind size origin b those number ⊎ IsNotWritten kind size origin b front those number
 
--- `--show`: the row of that number was written, behind the lines of which the last formatted the disk. Its call, and those of the
--- script's own run behind them, are counted from the origin, the disk of the board there.
+-- `--show`: the row of that number was written, after the lines the last of which formatted the disk. Its call, and those of the
+-- script's own run after them, are counted from the origin, the disk of the board there.
 pub record ShownRow (kind : BenchKind) (size : Size) (start : List (List ℕ)) (those : List Line) (number : ℕ) (old new : Option (List ℕ))
     : Type 0 where
   pub begin : ℕ

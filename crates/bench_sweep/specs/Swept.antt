@@ -126,9 +126,9 @@ pub record Writes (quiet : Bool) (Is : Row → Type 0) (old now : Option (List �
 abbrev pub whole : BenchKind → SweepPlan
 whole bench = record { bench = bench; part = None; quiet = false }
 
--- Of each caller as many points as it made calls in the script's own run behind its first format, from the origin on; the runs at them,
--- or at those of the plan's part, in order, each of those lines, what the plan has of each, and then the line of the counts. No run was
--- wrong.
+-- Each caller has as many points as it made calls in the script's own run after its first format, from the origin on. The runs at them, or
+-- at those of the plan's part, are runs of those lines, in order. What the plan has of each was written, and then the line of the counts.
+-- No run was wrong.
 pub record WroteAll (plan : SweepPlan) (size : Size) (start : List (List ℕ)) (lines : List Line) (old now : Option (List ℕ)) (sweep : Sweep)
     : Type 0 where
   pub begin : ℕ

@@ -1,4 +1,4 @@
-//! Where a bench begins: behind the first format of its script that answers Ok.
+//! Where a bench begins: after the first format of its script that answers Ok.
 //! A law runs nothing, and tells the prover a fact: `blank_disks`.
 
 ghost use Rattle.std.specs.Prelude.{◌≡◌, ◌≤◌, ℕ, List, false, true, length, take, All, IfOk, MatchResult, ◌↔◌, IsTrue};

@@ -76,8 +76,8 @@ fn mark_next<C: Crew>(
     }
 }
 
-/// How many calls the caller has made from the site on behind each of so many first lines but the last, in which all others lie. It is a
-/// hint for chunks: a wrong one would make their runs longer, or have them refused.
+/// How many calls the caller has made from the site on, after each of the first `count` lines but the last. All others lie in that one.
+/// This is a hint for chunks: a wrong one would make their runs longer, or have them refused.
 pub fn marks_of<C: Crew>(
     runner: &Runner<'_, C>,
     count: usize,
@@ -127,7 +127,7 @@ pub struct RunsAtCalls<'a, 'b, C> {
     pub within: Window,
     /// How many of them a chunk has.
     pub each: u64,
-    /// How many calls the caller has made behind each line: a hint in which line a call lies.
+    /// How many calls the caller has made after each line: a hint in which line a call lies.
     pub marks: &'a [u64],
 }
 

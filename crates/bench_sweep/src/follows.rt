@@ -120,7 +120,7 @@ fn is_dropped(found: &Durable, now: Option<Durable>) -> bool
     }
 }
 
-/// A boot that drops the image was refused by that number, at its first command or behind it, by the state then.
+/// A boot that drops the image was refused by that number, at its first command or after it: the state then tells which.
 fn record_stopped_discard(
     ledger: &mut RunLedger,
     alloc: Global,

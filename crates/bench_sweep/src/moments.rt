@@ -21,7 +21,7 @@ use crew::Crew;
 use script_lang::Line;
 use std::alloc::{AllocError, Global};
 
-/// A run that has come behind so many of its lines.
+/// A run that stands after the first `count` of its lines.
 #[derive(Drop)]
 pub struct Moment {
     pub count: usize,
@@ -85,7 +85,7 @@ impl Going {
 }
 
 impl Moment {
-    /// The moment of a site, with none of the lines behind it.
+    /// The moment of a site: none of the lines after it has run.
     pub fn at(alloc: Global, site: &Site) -> Result<Moment, AllocError>
         ensures came { IfOk result (λ at. (size : Size) (b : Bench) (lines : List ScriptLine) → RunsAt size b site.now
             → CameTold size (unpowered b) lines site.now at) }

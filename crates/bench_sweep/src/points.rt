@@ -115,7 +115,7 @@ pub const FIRST_FILLS: [Fill; 4] = [Fill::Byte(0), Fill::Byte(255), Fill::Altern
 /// What the last of them leaves.
 pub const LAST_FILL: Fill = Fill::New;
 
-/// What a cut leaves of what was written since the last sync, by the fill of its run: a run behind a failure has none, and is cut
+/// What a cut leaves of what was written since the last sync, by the fill of its run: a run with a failure has none, and is cut
 /// with zeros.
 pub fn cut_fill(fill: Option<Fill>) -> Fill
     ensures { result ≡ cut_fill fill }

@@ -38,7 +38,7 @@ impl fmt::Display for Caller {
     }
 }
 
-/// The word of a fill, as a script has it, behind a blank, or nothing.
+/// The word of a fill, as a script has it, with a blank before it; or nothing.
 #[derive(Drop)]
 struct FillPart(Option<Fill>);
 

@@ -36,7 +36,7 @@ use std::alloc::{AllocError, Global};
 use std::io::Write;
 use std::thread::Threads;
 
-/// How many lines a script has at most behind its board line.
+/// How many lines a script has at most after its board line.
 const MOST_LINES: usize = 65_535;
 
 /// The last call that a line of a script arms.
@@ -231,7 +231,7 @@ struct RowLines<'a> {
     back: &'a [Line],
 }
 
-/// Puts copies of lines behind others.
+/// Puts copies of lines after others.
 fn add_lines(alloc: Global, all: &mut Vec<Line>, lines: &[Line]) -> Result<(), AllocError>
     ensures { OnOk result (all.new.items ≡ all.old.items ++ lines.now) }
 {
@@ -242,7 +242,7 @@ fn add_lines(alloc: Global, all: &mut Vec<Line>, lines: &[Line]) -> Result<(), A
     Ok(())
 }
 
-/// Those lines as a script has them: behind a run with a failure power is cut with zeros, and then a power-on keeps the image.
+/// Those lines as a script has them: power is cut with zeros after a run with a failure, and then a power-on keeps the image.
 fn script_lines(alloc: Global, row: &RowLines<'_>) -> Result<Vec<Line>, AllocError>
     ensures { IfOk result (λ v. v.items ≡ row_lines row.now.bench row.now.front.now row.now.arming row.now.back.now) }
 {

@@ -385,8 +385,8 @@ fn sweep_plain_script<R: Threads + Sync, P: Progress, W: Write>(
 ///
 /// At each call of the disk, and of each of its lanes, that the script makes after its first `format ok`, the power-cut
 /// bench cuts power, and lets the cut leave what each of five fills says of what was written since the last sync. The
-/// fault bench lets the call fail, runs the script to its end, and then cuts power. Behind each run a board is powered on
-/// that keeps its image, and what it found is judged. A line is written for each run, and one with the counts. The runs
+/// fault bench lets the call fail, runs the script to its end, and then cuts power. A board is powered on after each run,
+/// and keeps its image; what it found is judged. A line is written for each run, and one with the counts. The runs
 /// are made by the threads of these jobs; what is written is the same however many these are. Of a plan with a part only the
 /// points of that part are run, and counted; a quiet one writes the last line alone, since none of these runs is wrong.
 ///

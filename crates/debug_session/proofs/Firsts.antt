@@ -54,7 +54,7 @@ since_seen before now load (w ∷ more) =
 pub tells_seen : (m : Option Machine) (watches : List Watchpoint) (before : List (Watchpoint × List ℕ)) → before ≡ seen_all m watches → TellsTouched m watches before
 tells_seen m watches before had = λ now load. ap (touched_since now load) had ∙ since_seen m now load watches
 
--- ---- what was seen, behind a turn that touches nothing
+-- ---- what was seen, after a turn that touches nothing
 kept_by : (minds : Bool) (was now later : List ℕ) → (if minds then bytes_eq was now else true) ≡ true → (if minds then bytes_eq was later else true) ≡ (if minds then bytes_eq now later else true)
 kept_by true was now later kept = ap (λ (bytes : List ℕ). bytes_eq bytes later) ((bytes_eq-Decides was now).0 kept)
 kept_by false was now later kept = refl
@@ -271,7 +271,7 @@ module _ (size : Size) (stops : Stops) where
     ran = λ b left. (let one = did.ran b left in let P : Bool → Type 0 = λ of_turn. RanBy of_turn size stops h halt did.harts b one.0 in (one.0, subst P (sym other) one.1, one.2));
   }
 
-  -- no turn behind which all halts, and then others
+  -- turns after which nothing halts, and then others
   pub halt_then : (g h : ℕ) (found halt : Option HaltReason) (first mid last : Timeline) → found ≡ halt → ToHalt size stops g None first mid → ToHalt size stops h found mid last → ToHalt size stops h halt first last
   halt_then g h found halt first mid last is one two = let P : Option HaltReason → Type 0 = λ x. ToHalt size stops h x first last in subst P is (halt_more g h found first mid last one two)
 

@@ -57,7 +57,7 @@ split_row n k turn less =
     let sum : k + suc (n - suc k) ≡ n = omega (arith, less) in
     ap (λ (x : ℕ). replicate x turn) (sym sum) ∙ sym (replicate-append-replicate k (suc (n - suc k)) turn)
 
--- the turn behind what is left came next
+-- the turn after what is left came next
 pub place_before : (h i k : ℕ) (past new : List Line) → IsPlace h i k past → new ≡ take i past ++ some_turns h k → IsBefore h past new
 place_before h i k past new (n, after, is, less) e =
     let turn = lines.Turn h 1 in

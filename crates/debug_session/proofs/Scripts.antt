@@ -10,7 +10,7 @@ use Rattle.script_lang.specs.declared.line.Line.{Line}
 use Rattle.bench_report.specs.Bench.{no_payloads}
 use Rattle.debug_session.specs.Texts.{history_text, lines_text}
 
--- parted by line feeds, or each behind one
+-- lines parted by line feeds, or each with one before it
 joined : (head : List ℕ) (past : List Line) → join_with_byte 10 (head ∷ map text_of past) ≡ head ++ lines_text past
 joined head [] = sym (append-nil head)
 joined head (line ∷ past) = ap (λ (xs : List ℕ). head ++ (10 ∷ xs)) (joined (text_of line) past)

@@ -52,7 +52,7 @@ pub record Ran (size : Size) (line : Line) (answer : Answer) (old new : Timeline
   pub noted : IsNoted line answer old.history new.history
 
 -- A row of turns of hart h became part of the history, and nothing else; none before the last ended the row, or left the
--- hart at one of these addresses. The last is not idle, and behind it the next turn may rest.
+-- hart at one of these addresses. The last is not idle, and the turn after it may rest.
 pub record MadeTurns (size : Size) (h : ℕ) (points : List ℕ) (row : TurnRow) (rests : Bool) (old new : Timeline) : Type 0 where
   pub moves : (b : Bench) → IsLeft size old b → (after : Bench) × RowMoves size h row b after × IsLeft size new after
       × Rests size h rests after × GoesTo size h points row b after

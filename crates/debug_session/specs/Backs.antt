@@ -42,8 +42,8 @@ PassBack size stops [] b new = new ≡ b
 PassBack size stops (line ∷ more) b new =
     (mid : Bench) × (MayMove size line b mid × IsPassed stops line b mid) × PassBack size stops more mid new
 
--- A run of all these lines. A turn of hart h comes behind the first of them, and is why the way back ends before it; behind
--- it the way back passes each line.
+-- A run of all these lines. A turn of hart h comes after the first of them, and is why the way back ends before it. The way back
+-- passes each line after that turn.
 pub record EndsAt (size : Size) (stops : Stops) (Why : Bench → Bench → Type 0) (h : ℕ) (before all : List Line) (b new : Bench) : Type 0 where
   pub after : List Line
   pub parted : all ≡ before ++ one_turn h ∷ after
@@ -54,7 +54,7 @@ pub record EndsAt (size : Size) (stops : Stops) (Why : Bench → Bench → Type 
   pub why : Why there mid
   pub passed : PassBack size stops after mid new
 
--- why the way back ends behind these lines: a turn at which it ends comes next, or none was made before
+-- why the way back ends after these lines: a turn at which it ends comes next, or none was made before
 abbrev pub IsWhyBack : HaltReason → Stops → ℕ → List Line → Bench → Bench → Type 0
 IsWhyBack halts.Begin stops h before b new = All MakesNone before × IsSeen None stops h b new
 IsWhyBack halt stops h before b new = IsSeen (Some halt) stops h b new
@@ -107,7 +107,7 @@ abbrev pub halt_back : Bool → Option Watchpoint → Option HaltReason
 halt_back stands None = if stands then Some halts.Point else None
 halt_back stands (Some w) = Some (halts.Watched w)
 
--- what was found before, or later: the turn of hart h behind k others
+-- what was found before, or later: the turn of hart h after k others
 abbrev pub later_turn : Option (ℕ × Stop) → ℕ → ℕ → Option HaltReason → Option (ℕ × Stop)
 later_turn found k h None = found
 later_turn found k h (Some halt) = Some (k, record { hart = h; halt = halt })

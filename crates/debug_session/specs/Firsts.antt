@@ -67,7 +67,7 @@ touched_in before now load [] = None
 touched_in before now load (w ∷ more) =
     if is_quiet load w (seen_by before w) (seen_by now w) then touched_in before now load more else Some w
 
--- ---- a turn behind which nothing halts
+-- ---- a turn after which nothing halts
 abbrev pub is_dozing : Did → Bool
 is_dozing dids.Dozing = true
 is_dozing did = false
@@ -123,8 +123,8 @@ IsWhy halts.Point stops h row b new = is_at_point stops h new ≡ true
 IsWhy (halts.Watched w) stops h row b new = Touches stops h b new (Some w)
 IsWhy halt stops h row b new = ⊥
 
--- Turns of these harts, one after another. Where a turn is why all halts, it is the last, of hart h; behind each other nothing
--- halts.
+-- Turns of these harts, one after another. Where a turn is why all halts, it is the last, of hart h; nothing halts after any
+-- other.
 abbrev pub RanBy : Bool → Size → Stops → ℕ → HaltReason → List ℕ → Bench → Bench → Type 0
 RanBy false size stops h halt harts b new = PassAll size stops harts b new
 RanBy true size stops h halt harts b new =
@@ -145,7 +145,7 @@ pub record ToHalt (size : Size) (stops : Stops) (h : ℕ) (halt : Option HaltRea
   pub ran : (b : Bench) → IsLeft size old b → (after : Bench) × RanTo size stops h halt harts b after × IsLeft size new after
 
 -- ---- how the code finds it
--- behind a row, by where the hart stands then
+-- why all halts after a row, by where the hart stands then
 abbrev pub halt_after : TurnRow → Bool → Bool → Option HaltReason
 halt_after rows.Off rests stands = if rests then None else Some halts.Off
 halt_after (rows.Lost n) rests stands = Some halts.Ended

@@ -1,4 +1,4 @@
--- Turns of a hart that are made one by one, up to the first behind which it halts.
+-- Turns of a hart that are made one by one, up to the first after which it halts.
 use Rattle.std.specs.Prelude.{◌≡◌, ℕ, ◌-◌, zero, suc, false, List, Option, Some, None}
 use Rattle.board_model.specs.Shapes.{Size}
 use Rattle.machine.specs.Machine.{Machine}

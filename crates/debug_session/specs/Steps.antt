@@ -20,7 +20,7 @@ abbrev pub AreNoted : List Line → List Line → List Line → Type 0
 AreNoted [] old new = new ≡ old
 AreNoted (line ∷ more) old new = (answer : Answer) × (mid : List Line) × IsNoted line answer old mid × AreNoted more mid new
 
--- Why a step ends so, by what came of its turn, whether the next one is idle, and the pc behind it: the turn was made, and may be
+-- Why a step ends so, by what came of its turn, whether the next one is idle, and the pc after it: the turn was made, and may be
 -- why all halts; or none was, since the hart has nothing to do, or the board is off or lacks the hart.
 abbrev pub EndsStep : TurnRow → Bool → Option ℕ → HaltReason → Type 0
 EndsStep rows.Off true pc halt = halt ≡ halts.Idle

@@ -24,7 +24,7 @@ begins_text begins =
     begin_text 0 (payload_at begins 0) ++ begin_text 1 (payload_at begins 1) ++ begin_text 2 (payload_at begins 2)
     ++ begin_text 3 (payload_at begins 3)
 
--- each line behind a line feed
+-- each line, with a line feed before it
 abbrev pub lines_text : List Line → List ℕ
 lines_text past = flat_map (λ line. codes "\n" ++ text_of line) past
 

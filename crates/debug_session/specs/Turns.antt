@@ -28,8 +28,8 @@ begins_life line = false
 abbrev pub lives_begun : List Line → ℕ
 lives_begun past = count_by begins_life past
 
--- The history ends before the turn that came behind so many; it and whatever came after are forgotten, and nothing else. Where
--- none came behind so many nothing changes.
+-- The history ends before the turn that came after n others; it and whatever came after are forgotten, and nothing else. Nothing
+-- changes where there is no such turn.
 abbrev pub WentTo : ℕ → Bool → Timeline → Timeline → Type 0
 WentTo n true old new = (h : ℕ) × IsBefore h old.history new.history × (turns_made new.history ≡ n)
 WentTo n false old new = (turns_made old.history ≤ n) × (new ≡ old)

@@ -66,13 +66,13 @@ pub record StepsWithin (size : Size) (within : StepRange) (h : ℕ) (halt : Halt
   pub grew : moments new.history ≡ moments old.history ++ replicate count (one_turn h)
   pub ran : (b : Bench) → IsLeft size old b → (after : Bench) × StepsTo size within h halt count b after × IsLeft size new after
 
--- turns behind which the hart steps on became part of the history
+-- turns after which the hart steps on became part of the history
 pub record StayedWithin (size : Size) (within : StepRange) (h count : ℕ) (old new : Timeline) : Type 0 where
   pub grew : moments new.history ≡ moments old.history ++ replicate count (one_turn h)
   pub ran : (b : Bench) → IsLeft size old b → (after : Bench) × StaysWithin size within h count b after × IsLeft size new after
 
 -- ---- one turn at most
--- why all halts behind it, if it does
+-- why all halts after it, if it does
 abbrev pub HaltsBy : TurnRow → Bool → Option ℕ → Option HaltReason → Type 0
 HaltsBy rows.Off true pc halt = halt ≡ None
 HaltsBy rows.Off false pc halt = (halt ≡ Some halts.Off) × (pc ≡ None)

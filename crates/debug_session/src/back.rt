@@ -102,7 +102,7 @@ fn seen_back<C: Crew>(
     Ok(halt_back(stands, touched))
 }
 
-/// What was found before, or later: the turn of a hart behind so many.
+/// What was found before, or later: the turn of a hart after `turns` others.
 fn later_turn(
     found: Option<(u32, Stop)>,
     turns: u32,

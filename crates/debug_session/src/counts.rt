@@ -74,8 +74,8 @@ pub(crate) fn lives_begun(lines: &[Line]) -> usize
     lines.iter().filter(|line| begins_life(line)).count()
 }
 
-/// The turn of a line that comes behind so many of its turns, by its hart and how many of the line stand before it; or
-/// how many are left behind the line.
+/// The turn of a line that comes after `left` of its turns, by its hart and how many of the line stand before it; or how
+/// many are left after the line.
 fn turn_in(line: &Line, left: u64) -> Result<(HartId, u32), u64>
     ensures found { IfOk result (λ p. (n : ℕ) × (line.now ≡ lines.Turn p.0 n) × (p.1 < n) × (p.1 ≡ left)) }
     ensures left { IfErr result (λ rest. rest + turns_of line.now ≡ left) }
@@ -93,7 +93,7 @@ fn turn_in(line: &Line, left: u64) -> Result<(HartId, u32), u64>
     }
 }
 
-/// The turn that came behind so many: its hart, its line, and how many turns of the line stand before it.
+/// The turn that came after `turns` others: its hart, its line, and how many turns of the line stand before it.
 fn turn_behind(lines: &[Line], turns: u64) -> Option<(HartId, usize, u32)>
     ensures place { IfSome result (λ p. IsPlace p.0 p.1 p.2 lines.now) }
     ensures behind { IfSome result (λ p. turns_made (take p.1 lines.now) + p.2 ≡ turns) }
@@ -113,8 +113,8 @@ fn turn_behind(lines: &[Line], turns: u64) -> Option<(HartId, usize, u32)>
     None
 }
 
-/// Goes back to before the turn that came behind so many, and forgets it and whatever came after: whether there was
-/// one. Where there was none nothing changes.
+/// Goes back to before the turn that came after `turns` others, and forgets it and whatever came after: whether there was
+/// one. Nothing changes where there was none.
 pub(crate) fn go_to<C: Crew>(
     setting: &Setting<'_, C>,
     timeline: &mut Timeline,

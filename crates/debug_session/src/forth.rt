@@ -41,7 +41,7 @@ pub(crate) struct StepRange {
     pub(crate) most: u64,
 }
 
-/// Whether everything halts behind a turn of which this is said: the board dozes, or its life is over.
+/// Whether everything halts after a turn of which this is said: the board dozes, or its life is over.
 fn halts_all(word: Word) -> bool
     ensures { result ≡ halts_all word }
 {
@@ -52,7 +52,7 @@ fn halts_all(word: Word) -> bool
     }
 }
 
-/// Why everything halts behind these turns of a hart, if it does.
+/// Why everything halts after these turns of a hart, if it does.
 fn halt_behind(
     timeline: &Timeline,
     points: &[u64],

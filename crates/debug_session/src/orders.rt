@@ -135,7 +135,7 @@ impl OrderPlace {
         self.turns = 0;
     }
 
-    /// How many turns the row in which it stands has of that hart behind it; none where it is no row of it.
+    /// How many turns of that hart are left in the row in which it stands; none where it is no row of that hart.
     fn turns_left(&self, order: &ScriptOrder, hart: HartId) -> u32 {
         match order.lines.get(self.line) {
             Some(Line::Turn(by, turns)) if *by == hart => turns.saturating_sub(self.turns),

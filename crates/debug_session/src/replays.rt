@@ -65,7 +65,7 @@ fn replay_all<C: Crew>(
     Ok(joins)
 }
 
-/// The bench behind these lines of a script that begins with these payloads, and whether a further turn of the hart
+/// The bench after these lines of a script that begins with these payloads, and whether a further turn of the hart
 /// of the last line is one row with it.
 pub(crate) fn replayed<C: Crew>(
     setting: &Setting<'_, C>,

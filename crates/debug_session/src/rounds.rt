@@ -62,8 +62,8 @@ impl Round {
         }
     }
 
-    /// The part that is next, where its hart may run: the one that an order has next, or else that of the hart whose part comes; then comes
-    /// the one behind it.
+    /// The part that is next, where its hart may run: the one that an order has next, or else that of the hart whose part comes. The
+    /// part of the hart after it comes then.
     pub(crate) fn next(&mut self, shape: &Shape, ahead: &Option<Ahead>) -> Option<NextPart>
         requires few { self.old.resting < 8 }
         ensures hart { IfSome result (λ part. (part.hart < shape.now.harts) × (slice_index_or self.old.harts part.hart false ≡ true)) }

@@ -44,7 +44,7 @@ fn add_begins(alloc: Global, begins: &Payloads, text: &mut String) -> Result<(),
     add_begin(alloc, begins, 3, text)
 }
 
-/// Adds the lines, each behind a line feed.
+/// Adds the lines, each with a line feed before it.
 fn add_lines(alloc: Global, lines: &[Line], text: &mut String) -> Result<(), AllocError>
     ensures { OnOk result (string_bytes text.new ≡ string_bytes text.old ++ lines_text lines.now) }
 {
@@ -56,7 +56,7 @@ fn add_lines(alloc: Global, lines: &[Line], text: &mut String) -> Result<(), All
     Ok(())
 }
 
-/// The text of these lines as a script, without a last line feed; behind the board line a comment names each payload
+/// The text of these lines as a script, without a last line feed; a comment after the board line names each payload
 /// with which a slot begins, since no line has room for it.
 #[tactic(auto, using(crate::proofs::Scripts::history_is_script))]
 pub(crate) fn script_of(

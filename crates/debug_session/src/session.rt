@@ -57,7 +57,7 @@ pub struct Session<'a, C> {
 }
 
 impl<'a, C: Crew> Session<'a, C> {
-    /// A session behind those lines, of a script that begins with these payloads.
+    /// A session that stands after those lines, of a script that begins with these payloads.
     pub fn new(
         setting: Setting<'a, C>,
         plan: SessionPlan,
@@ -122,8 +122,8 @@ impl<'a, C: Crew> Session<'a, C> {
         counts::lives_begun(self.timeline.lines())
     }
 
-    /// The text of the history as a script, without a last line feed: `sbibench` runs it to the same reports. Behind
-    /// the board line a comment names each payload with which a slot begins, since no line has room for it.
+    /// The text of the history as a script, without a last line feed: `sbibench` runs it to the same reports. A
+    /// comment after the board line names each payload with which a slot begins, since no line has room for it.
     pub fn script(&self) -> Result<String, AllocError>
         ensures text { IfOk result (λ text. string_bytes text
             ≡ history_text (size_of self.now) (begins_of self.now) (history_of self.now)) }
@@ -425,8 +425,8 @@ impl<'a, C: Crew> Session<'a, C> {
         )
     }
 
-    /// Goes back to before the turn that came behind so many of any harts, and forgets it and whatever came after: whether
-    /// there was one. Where there was none nothing changes.
+    /// Goes back to before the turn that came after `turns` others of any harts, and forgets it and whatever came after: whether
+    /// there was one. Nothing changes where there was none.
     pub fn go_to(&mut self, turns: u64) -> Result<bool, AllocError>
         requires at { IsAt (size_of self.old) (timeline_of self.old) }
         ensures at { OnOk result (IsAt (size_of self.new) (timeline_of self.new)) }

@@ -31,7 +31,7 @@ fn run_all<C: Crew>(
     Ok(())
 }
 
-/// The timeline behind these lines.
+/// The timeline after these lines.
 pub(crate) fn begun<C: Crew>(
     setting: &Setting<'_, C>,
     begins: Payloads,

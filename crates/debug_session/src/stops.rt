@@ -132,8 +132,8 @@ impl Stops {
         self.watches.retain(|w| *w != watch);
     }
 
-    /// What is watched, as it is now. It tells what the next turn touches; and behind turns that touched nothing what the one behind them
-    /// does, since all that is minded is as it was.
+    /// What is watched, as it is now. It tells what the next turn touches. Where turns touch nothing, it tells what the one after
+    /// them touches too, since all that is minded is as it was.
     pub(crate) fn watched(
         &self,
         alloc: Global,

@@ -222,8 +222,8 @@ impl Timeline {
         Ok(true)
     }
 
-    /// Goes back to behind so many first lines and so many turns of that hart in the line behind them, of which it
-    /// has more, and forgets whatever came after. Where memory is refused the timeline is of no use.
+    /// Goes back to after the first `place` lines and `turns` turns of that hart in the next line, which has more, and forgets
+    /// whatever came after. Where memory is refused the timeline is of no use.
     #[tactic(auto, using(crate::proofs::Histories::cut_ranges, crate::proofs::Histories::place_before))]
     pub fn go_back<C: Crew>(
         &mut self,

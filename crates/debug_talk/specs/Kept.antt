@@ -18,7 +18,7 @@ use Rattle.debug_talk.specs.declared.talk.Talk.{Talk}
 use Rattle.debug_talk.specs.Replies.{hart_named}
 use Rattle.debug_talk.specs.Talks.{acknowledges_in, hart_or, is_over_in, last_in, runner_in, selected_in, session_in, takes_in}
 
--- the breakpoints behind it
+-- the breakpoints after a request
 abbrev pub points_after : GdbLook → List ℕ → List ℕ
 points_after (looks.SetPoint address) points = with_point address points
 points_after (looks.ClearPoint address) points = without_point address points
@@ -33,13 +33,13 @@ kind_of watching.Accesses = kinds.Accesses
 abbrev pub watch_of : Watching → ℕ → ℕ → Watchpoint
 watch_of what address count = record { kind = kind_of what; address = address; count = count }
 
--- the watchpoints behind it
+-- the watchpoints after a request
 abbrev pub watches_after : GdbLook → List Watchpoint → List Watchpoint
 watches_after (looks.SetWatch what address count) watches = with_watch (watch_of what address count) watches
 watches_after (looks.ClearWatch what address count) watches = without_watch (watch_of what address count) watches
 watches_after look watches = watches
 
--- both lists behind a request; one that moves the board leaves them
+-- both lists after a request; one that moves the board leaves them
 abbrev pub Listed : GdbRequest → Stops → Stops → Type 0
 Listed (asks.Look look) old new =
     (new.points.items ≡ points_after look old.points.items) × (new.watches.items ≡ watches_after look old.watches.items)
@@ -86,7 +86,7 @@ IsTalk last runner takes acknowledges over talk =
 abbrev pub StaysOpen : {C : Type 0} → Talk C → Talk C → Type 0
 StaysOpen old new = IsTalk (last_in old) (runner_in old) (takes_in old) (acknowledges_in old) (is_over_in old) new
 
--- the talk behind it
+-- the talk after such a request
 pub record IsKept {C : Type 0} (look : GdbLook) (old new : Talk C) : Type 0 where
   pub last : last_in new ≡ last_in old
   pub runner : runner_in new ≡ runner_after look (size_of (session_in old)) (runner_in old)

@@ -109,7 +109,7 @@ abbrev pub line_of_script : Result Script Refusal → Option Line
 line_of_script (Err e) = None
 line_of_script (Ok script) = just_one script.lines
 
--- the line that a text is behind the board line
+-- the line that a text is, after the board line
 abbrev pub line_in : Size → List ℕ → Option Line
 line_in size text = line_of_script (script_of (board_line size ++ text))
 
@@ -122,7 +122,7 @@ abbrev pub LineRan : Option Line → Size → Timeline → Timeline → List ℕ
 LineRan None size old new said = new ≡ old
 LineRan (Some line) size old new said = (answer : Answer) × Ran size line answer old new × (said ≡ answer_text answer)
 
--- the history as a script; a comment behind it says where it is longer than a script may be
+-- the history as a script; a comment after it says so where it is longer than a script may be
 abbrev pub ended_text : ℕ → List ℕ → List ℕ
 ended_text lines text =
     if nat_lt 65535 lines
@@ -144,7 +144,7 @@ WentForth n size stops h old new said =
     × ((stop : Stop) × ToHalt size stops stop.hart (Some stop.halt) old new)
     × ((answers : List Answer) × (said ≡ report_text answers ++ when_text h new.history))
 
--- back to before the turn that came behind so many, and where the history stands then; or on, where none did
+-- back to before the turn that came after n others, and where the history stands then; or on, where none did
 abbrev pub WentOver : ℕ → Size → Stops → ℕ → Timeline → Timeline → List ℕ → Type 0
 WentOver n size stops h old new said =
     (WentTo n true old new × (said ≡ when_text h new.history))

@@ -96,12 +96,12 @@ abbrev pub Replied : GdbRequest → Size → ℕ → DebuggedBench → List ℕ 
 Replied (asks.Look look) size h b stands out = IsReply look size h b stands out
 Replied (asks.Move move) size h b stands out = ⊤
 
--- the hart that is shown behind a request that moves nothing
+-- the hart that is shown after a request that moves nothing
 abbrev pub hart_shown : GdbLook → Size → ℕ → ℕ
 hart_shown (looks.Show thread) size h = hart_or (hart_named size thread) h
 hart_shown look size h = h
 
--- the hart that is shown behind any request; behind one that moves the board it is the stop's
+-- the hart that is shown after any request; after one that moves the board it is the stop's
 abbrev pub Shown : GdbRequest → Size → ℕ → ℕ → Type 0
 Shown (asks.Look look) size old new = new ≡ hart_shown look size old
 Shown (asks.Move move) size old new = ⊤

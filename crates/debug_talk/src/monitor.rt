@@ -54,7 +54,7 @@ const HELP: &str = command_lines!(help);
 const NO_LINE: &str =
     "not a line of the script language, or a number is out of its range: see monitor help\n";
 
-/// The most lines of a script behind its board line.
+/// The most lines of a script after its board line.
 const MOST_LINES: usize = 65535;
 
 /// The line of a script that has just one.
@@ -80,6 +80,7 @@ fn line_of(alloc: Global, shape: &Shape, text: &[u8]) -> Result<Option<Line>, Al
     match parse_script(alloc, &script) {
         Ok(read) => {
             if read.shape != *shape {
+                // This never comes: the head names that shape, but the contract of `parse_script` does not say so.
                 return Err(AllocError);
             }
             Ok(just_one(read.lines))
@@ -123,7 +124,7 @@ fn end_script(script: &mut String, lines: usize) -> Result<(), AllocError>
     }
 }
 
-/// The history as a script; a comment behind it says where it is longer than a script may be.
+/// The history as a script; a comment after it says so where it is longer than a script may be.
 fn script_said<C: Crew>(session: &Session<'_, C>) -> Result<String, AllocError>
     ensures { IfOk result (λ said. string_bytes said
         ≡ script_text (size_of session.now) (begins_of session.now) (history_of session.now)) }
@@ -176,7 +177,7 @@ fn go_forth<C: Crew>(
     report_and_when(session, hart, &told)
 }
 
-/// Goes back to before the turn that came behind so many; or where none did, on until the history has so many.
+/// Goes back to before the turn that came after `turns` others; or on until the history has `turns`, where none did.
 fn go_over<C: Crew>(
     session: &mut Session<'_, C>,
     hart: HartId,

@@ -1,4 +1,4 @@
--- Chunks of a window, one behind another, are the window.
+-- Chunks of a window, one after another, are the window.
 use Rattle.std.proofs.Common.{◌≡◌, ◌≤◌, ◌<◌, ◌⊎◌, ◌+◌, ◌-◌, ◌*◌, ◌/◌, ◌%◌, ℕ, Bool, true, List, [], ◌∷◌, ◌++◌, length, min, inl, inr, refl, ◌∙◌, ap, subst, arith}
 use Rattle.std.proofs.lemmas.List.{length-append}
 use Rattle.std.proofs.lemmas.Bool.{cases_lt}
@@ -26,7 +26,7 @@ none_are is a b (row ∷ rows) none are = absurd (let long : length (row ∷ row
 
 -- A chunk may say that it is whole. What takes chunks takes whole ones.
 module _ {Row Chunk S : Type 0} (whole : Chunk → Bool) (items : Chunk → List Row) (is : ℕ → Row → Type 0) (takes : S → Row → S → Type 0) (from to each : ℕ) where
-  -- the rows of chunks from number k on, one behind another
+  -- the rows of chunks from number k on, one after another
   pub record Joined (k m : ℕ) (old new : S) : Type 0 where
     pub rows : List Row
     pub many : length rows ≡ min to (from + (k + m) * each) - (from + k * each)

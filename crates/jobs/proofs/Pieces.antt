@@ -1,4 +1,4 @@
--- Parts of a list, and a window over two lists that stand behind one another.
+-- Parts of a list, and a window over two lists, one after the other.
 use Rattle.std.proofs.Common.{◌≡◌, ◌⊎◌, inl, inr, ◌+◌, ◌-◌, min, ◌*◌, ◌/◌, ◌%◌, ◌≤◌, ◌<◌, ◌^◌, ℕ, zero, suc, List, [], ◌∷◌, ◌++◌, Option, None, Some, take, drop, length, refl, sym, ◌∙◌, ap, arith}
 use Rattle.std.proofs.Math.Nat.{mul-div-le, mul-add-div, mul-div_cancel_left, div-le_of_le-mul, div-le_self, div-mul-le_self}
 use Rattle.std.proofs.lemmas.Nat.{mul-le, le-div, div-add-mod', mod_below}

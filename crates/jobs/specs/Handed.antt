@@ -17,7 +17,7 @@ abbrev pub AreRows : {Row : Type 0} → (ℕ → Row → Type 0) → ℕ → Lis
 AreRows is first [] = Unit {0}
 AreRows is first (row ∷ rows) = is first row × AreRows is (first + 1) rows
 
--- Rows of a chunk: those of the numbers from the first of chunk k of a window up to the first behind it, in order.
+-- The rows of chunk k of a window, in order: one of each number from the chunk's first up to the first after it.
 pub record IsChunk {Row : Type 0} (is : ℕ → Row → Type 0) (from to each k : ℕ) (made : List Row) : Type 0 where
   pub many : length made ≡ chunk_to from to each k - chunk_from from each k
   pub are : AreRows is (chunk_from from each k) made

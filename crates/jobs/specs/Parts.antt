@@ -8,8 +8,8 @@ use lib.Chars.{codes}
 abbrev pub window : {X : Type 0} → ℕ → ℕ → List X → List X
 window from to xs = take (to - from) (drop from xs)
 
--- of a window the number of the first of chunk k, k from 0, and of the first behind it: so many are in each chunk, and the last may
--- have fewer
+-- the number with which chunk k of a window begins, k from 0, and the first after it: a chunk has `each` of them, and the last may have
+-- fewer
 abbrev pub chunk_from : ℕ → ℕ → ℕ → ℕ
 chunk_from from each k = from + k * each
 
@@ -28,7 +28,7 @@ abbrev pub own_of : {X : Type 0} → Option Part → List X → List X
 own_of None xs = xs
 own_of (Some part) xs = part_of part xs
 
--- of n things the number of its first, counted from 0, and of the first behind them
+-- the number of the first that a run has of n things, counted from 0, and of the first after its last
 abbrev pub begin_of : Option Part → ℕ → ℕ
 begin_of None n = 0
 begin_of (Some part) n = (part.number - 1) * n / part.of
@@ -37,7 +37,7 @@ abbrev pub end_of : Option Part → ℕ → ℕ
 end_of None n = n
 end_of (Some part) n = part.number * n / part.of
 
--- the first k parts of so many, one behind another
+-- the first k of `of` parts, one after another
 abbrev pub joined : {X : Type 0} → ℕ → ℕ → List X → List X
 joined zero of xs = []
 joined (suc k) of xs = joined k of xs ++ piece (suc k) of xs

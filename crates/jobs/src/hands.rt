@@ -10,7 +10,7 @@ use std::sync::atomic::{AtomicU64, Ordering};
 use std::thread;
 use std::thread::Threads;
 
-/// A row that was made, or why it was not, behind its place in the window.
+/// The place of a row in the window, and the row, or why it was not made.
 type Placed<Row> = (usize, Result<Row, AllocError>);
 
 /// Makes rows of a window of so many, which begins with that number: each of the first place that no thread has taken yet, as long as
@@ -56,7 +56,7 @@ fn made_alone<T: Task>(
     made
 }
 
-/// Rows, and those of another thread behind them. Where memory is refused these are left out.
+/// Rows, and those of another thread after them. Where memory is refused, those of the other thread are left out.
 fn with_others<T: Task>(
     task: &T,
     first: u64,

@@ -97,7 +97,7 @@ impl fmt::Display for PartText {
     }
 }
 
-/// The parts of a run make the whole: one behind another, in their order, they are all that there is.
+/// The parts of a run make the whole: one after another, in their order, they are all that there is.
 #[tactic(auto, using(crate::proofs::Pieces::joined_all))]
 pub fn parts_make_all<X>()
     ensures { (of : ℕ) (xs : List X) → 0 < of → joined of of xs ≡ xs }

@@ -27,7 +27,7 @@ abbrev begins_other : List Line → Bool
 begins_other [] = false
 begins_other (x ∷ xs) = is_other x
 
--- the lines behind the first
+-- the lines after the first
 abbrev behind_first : List Line → List Line
 behind_first [] = []
 behind_first (x ∷ xs) = xs

@@ -34,7 +34,7 @@ ran_next size all i line answer first old new within is ran moves = λ b shows.
     let P : Line → Type 0 = λ l. Moves size l did.1 answer more.0 in
     (did.0 ++ answer ∷ [], more.0, run_more size all i line b did.0 did.1 answer more.0 within did.2 (subst P is more.1), more.2)
 
--- ---- what is armed behind it
+-- ---- what is armed after it
 told_armed : (armed : Bool) (a : Armed) → ((armed ≡ false) ↔ (a ≡ Unarmed)) → is_armed a ≡ armed
 told_armed false a is = ap is_armed (is.0 refl)
 told_armed true Unarmed is = absurd (let e : true ≡ false = is.1 refl in let no : ⊥ = cc in no)
@@ -61,7 +61,7 @@ pub row_ranged : (size : Size) (all : List Line) (p : ℕ) (next : Line) (h n : 
 row_ranged size all p next h n within is row many ranges =
     subst (IsLineInRange size) (sym is ∙ row_is next h n row many) (All-get_or (IsLineInRange size) all p next within ranges)
 
--- behind the line too
+-- after the line too
 pub struck_next : (size : Size) (start : List (List ℕ)) (all : List Line) (p : ℕ) (next : Line) → p < length all → next ≡ get_or all p next → ArmedBehind false size start (take (p + 1) all)
     → ArmedBehind false size start (take p all ++ next ∷ [])
 struck_next size start all p next within is struck =

@@ -19,7 +19,7 @@ ends_talk (asks.Look looks.Detach) = true
 ends_talk (asks.Look looks.Kill) = true
 ends_talk asked = false
 
--- nothing is read behind it
+-- nothing is read after it
 abbrev pub is_last : PacketEvent → Bool
 is_last (heards.Packet packet) = ends_talk (request_of packet.items)
 is_last what = false

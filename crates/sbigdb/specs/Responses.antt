@@ -54,12 +54,12 @@ pub record AnswersAll {I C : Type 0} (gives : I → Option PacketEvent → I →
   pub responses : RespondsAll heard old new sent
   pub ended : (is_over_in new ≡ true) ⊎ ((after : I) × gives last None after)
 
--- and behind one of them, unless it ended the talk
+-- and so after one of them, unless it ended the talk
 abbrev pub AnswersBehind : {I C : Type 0} → (I → Option PacketEvent → I → Type 0) → I → Talk C → Talk C → List ℕ → Type 0
 AnswersBehind gives from mid new rest =
     ((is_over_in mid ≡ true) × (new ≡ mid) × (rest ≡ [])) ⊎ ((is_over_in mid ≡ false) × AnswersAll gives from mid new rest)
 
--- The first thing that was heard, if there was one, is acknowledged already. It is answered, and whatever an iterator gives behind it.
+-- The first thing that was heard, if there was one, is acknowledged already. It is answered, and whatever an iterator gives after it.
 abbrev pub AnswersFrom : {I C : Type 0} → Option PacketEvent → (I → Option PacketEvent → I → Type 0) → I → Talk C → Talk C → List ℕ → Type 0
 AnswersFrom None gives from old new sent = (new ≡ old) × (sent ≡ [])
 AnswersFrom {I} {C} (Some what) gives from old new sent =

@@ -18,8 +18,8 @@ is_armed Unarmed = false
 is_armed FaultArmed = true
 is_armed CutArmed = true
 
--- In a run of these lines, from a blank disk on and with these payloads in the slots, a fault is armed behind the last that has not
--- struck; or none is.
+-- These lines run from a blank disk on, with these payloads in the slots. After the last of them a fault is armed that has not struck,
+-- or none is.
 abbrev pub ArmedBehind : Bool → Size → List (List ℕ) → List Line → Type 0
 ArmedBehind armed size start those =
     (answers : List Answer) × (b : Bench) × Run size (bench_with start) those answers b × (is_armed b.fault_state.armed ≡ armed)
@@ -38,8 +38,8 @@ abbrev pub count_in : Line → ℕ
 count_in (lines.Turn h n) = n
 count_in line = 0
 
--- Behind these lines it has not struck, and behind the next one it has. Where that is a row of turns, its first k are made, and it strikes
--- in the one behind them.
+-- It has not struck after these lines, and it has after the next one. Where that is a row of turns, its first k are made, and it strikes
+-- in the one after them.
 abbrev pub StopsIn : Size → List (List ℕ) → List Line → Line → Option ℕ → List Line → Type 0
 StopsIn size start front next None stop =
     (stop ≡ front) × ArmedBehind true size start front × ArmedBehind false size start (front ++ next ∷ [])

@@ -88,7 +88,7 @@ fn parting(own: &[Line], other: &[Line]) -> usize
     both
 }
 
-/// Lines, and a row of turns behind them, where there is one.
+/// Lines, and a row of turns after them, where there is one.
 fn with_turns(lines: Vec<Line>, next: Option<Line>) -> Result<Vec<Line>, AllocError>
     ensures { IfOk result (λ made. made.items ≡ lines.items ++ option_to_list next) }
 {
@@ -132,7 +132,7 @@ fn script_to(own: &Script, found: Script) -> Result<Script, AllocError>
     })
 }
 
-/// The script that a text is, which has a line feed behind its last line.
+/// The script that a text is, which has a line feed after its last line.
 fn read_back(alloc: Global, text: &[u8]) -> Result<Script, Refusal>
     ensures read { (said : Said) → script_of (script_text said) ≡ Ok said → text.now ≡ script_text said ++ 10 ∷ []
         → IfOk result (λ script. view script ≡ said) }

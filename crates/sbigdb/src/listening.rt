@@ -61,7 +61,7 @@ pub(crate) fn hand_on<R: Wait>(
     heard: &Sender<PacketEvent>,
     signals: &Signals,
 ) -> bool
-    // Behind what ends the talk nothing is read.
+    // Nothing is read after what ends the talk.
     ensures last { is_last what ≡ true → result ≡ false }
     // An interrupt ends nothing but the run.
     ensures goes_on { what ≡ PacketEvent.Interrupt → result ≡ true }

@@ -231,7 +231,7 @@ fn script_told(alloc: Global, start: Start) -> Result<(Shape, PayloadScript), Re
     Ok((shape, told))
 }
 
-/// The session and its talk. Behind it nothing more is heard.
+/// The session and its talk. Nothing more is heard after it.
 fn serve<R: Threads + Wait + Sync>(
     rt: &R,
     host: &HostRuntime,

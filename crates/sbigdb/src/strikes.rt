@@ -50,7 +50,7 @@ fn is_armed_on(disk: &SimDisk) -> Result<bool, AllocError>
     Ok(disk.is_armed())
 }
 
-/// Runs lines from a blank disk on, with these payloads in the slots: whether behind the last a cut or a failure is armed that has not
+/// Runs lines from a blank disk on, with these payloads in the slots. Answers whether a cut or a failure is armed then that has not
 /// struck.
 fn is_armed_behind<C: Crew>(
     setting: &Setting<'_, C>,
@@ -73,7 +73,7 @@ fn is_armed_behind<C: Crew>(
     }
 }
 
-/// The place behind the first line that arms something.
+/// The place after the first line that arms something.
 fn place_armed(lines: &[Line]) -> usize
     ensures few { result ≤ length lines.now }
 {
@@ -119,7 +119,7 @@ fn struck_line<C: Crew>(
     Ok(low)
 }
 
-/// Whether a cut or a failure is armed that has not struck, behind these lines and so many turns of a hart.
+/// Whether a cut or a failure is armed that has not struck, after these lines and `count` turns of a hart.
 fn is_armed_in<C: Crew>(
     setting: &Setting<'_, C>,
     payloads: &Payloads,
@@ -140,7 +140,7 @@ fn is_armed_in<C: Crew>(
     Ok(armed)
 }
 
-/// How many turns of a row behind these lines are made before the one in which it strikes, found by runs of its first turns, half as many
+/// How many turns of a row after these lines are made before the one in which it strikes, found by runs of its first turns, half as many
 /// each time.
 fn struck_turn<C: Crew>(
     setting: &Setting<'_, C>,
@@ -192,7 +192,7 @@ fn count_in(line: &Line) -> u32
     }
 }
 
-/// Puts so many turns of a hart behind lines, where there are any.
+/// Puts `count` turns of a hart after lines, where there are any.
 fn add_turns(lines: &mut Vec<Line>, hart: HartId, count: u32) -> Result<(), AllocError>
     ensures added { OnOk result (lines.new.items ≡ lines.old.items ++ some_turns hart count) }
 {

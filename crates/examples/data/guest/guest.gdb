@@ -6,7 +6,7 @@ define hookpost-monitor
   maintenance flush register-cache
 end
 # GDB names no thread when it goes back, and sbigdb takes the one that GDB stopped at or asked about last. So GDB asks about the thread
-# that is selected, without a word: behind `thread apply` that is another.
+# that is selected, without a word: after `thread apply` that is another.
 define hook-reverse-stepi
   eval "thread apply %d -q echo", $_thread
 end
@@ -29,7 +29,7 @@ end
 define hook-checkpoint
   echo sbigdb has no checkpoints: monitor when says a number, and monitor goto goes there\n
 end
-# Behind detach nothing is left of a session.
+# Nothing is left of a session after detach.
 define hook-detach
   echo what was done is lost, unless monitor script has printed it: a new session begins at the end of its script\n
 end
