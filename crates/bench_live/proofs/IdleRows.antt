@@ -79,7 +79,7 @@ row_behind h (suc n) made one all m mid new s t u first word some least most is 
     let A : ℕ → Type 0 = λ k. boards.TurnsManyHeld h (suc n) m new s u k word in
     subst A f (behind_one h n made one m mid new s t u first word held goes calm (subst N e more))
 
--- so many are made at least and at most
+-- how many are made at least and at most
 pub held_range : (h n : ℕ) (m k : Machine) (s t : SimStore) (made : ℕ) (word : Word) → boards.TurnsManyHeld h n m k s t made word → (1 ≤ made) × (made ≤ n)
 held_range h zero m k s t made word held = absurd held
 held_range h (suc n) m k s t made word (mid, store, first, turned, inl x) = (omega (arith, x.3), omega (arith, x.3))

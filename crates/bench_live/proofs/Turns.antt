@@ -102,7 +102,7 @@ trimmed h (suc n) b made word new (life, on, said, mid, turn, inr (goes, calm, r
     let g : GuestTurns h (suc rest) b (suc rest) word new = (life, on, said, mid, turn, inr (goes, calm, rest, refl, trimmed h n mid rest word new more)) in
     as_many h (suc rest) made b (suc rest) made word new (sym e) (sym e) g
 
--- so many are made at least and at most
+-- how many are made at least and at most
 pub made_range : (h n : ℕ) (b : Bench) (made : ℕ) (word : Word) (new : Bench) → GuestTurns h n b made word new → (1 ≤ made) × (made ≤ n)
 made_range h zero b made word new guest = absurd guest
 made_range h (suc n) b made word new (life, on, said, mid, turn, inl (last, one, same, is)) = (omega (arith, one), omega (arith, one))

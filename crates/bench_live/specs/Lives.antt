@@ -42,7 +42,7 @@ abbrev pub IsAfter : Size → Word → Bench → Power → Type 0
 IsAfter size word b (Off off) = ⊥
 IsAfter size word b (On board) = BoardAfter size word b board
 
--- A hart made so many turns, at most n. The last has this word, and the board is as the turns left it; where it was refused memory for
+-- A hart made `made` turns, at most n. The last has this word, and the board is as the turns left it; where it was refused memory for
 -- no suspension, no refusal is counted.
 abbrev pub WentInPlace : Size → ℕ → ℕ → Bench → ℕ → Word → Power → Type 0
 WentInPlace size h n b made word after =

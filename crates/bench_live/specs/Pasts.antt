@@ -39,7 +39,7 @@ IsRowCut h old new =
     (i : ℕ) × (n : ℕ) × (after : List Line) × (old ≡ take i old ++ lines.Turn h n ∷ after) × (0 < n)
     × (new ≡ take i old ++ some_turns h (n - 1))
 
--- the last line is a row of n turns of hart h, with room for so many more
+-- the last line is a row of n turns of hart h, with room for `more`
 abbrev pub IsOpen : ℕ → ℕ → List Line → Option ℕ → Type 0
 IsOpen h more past None = ⊤
 IsOpen h more past (Some n) = (n + more ≤ 1000000) × ((before : List Line) × (past ≡ before ++ lines.Turn h n ∷ []))

@@ -105,7 +105,7 @@ impl LiveBench {
         answer
     }
 
-    /// Up to so many turns of a hart, one after another: what the line `turn` does, and many times as fast, since
+    /// Up to `count` turns of a hart, one after another: what the line `turn` does, and many times as fast, since
     /// a board that stays on is not moved.
     pub fn turns<C: Crew>(&mut self, setting: &Setting<'_, C>, hart: HartId, count: u32) -> TurnRow
         requires some { 1 ≤ count }

@@ -55,7 +55,7 @@ impl LineHistory {
         Ok(())
     }
 
-    /// The turns that the last line has, where it is a row of that hart with room for so many more.
+    /// The turns that the last line has, where it is a row of that hart with room for `more`.
     fn open_row(&self, hart: HartId, more: u32) -> Option<u32>
         requires { more ≤ 1000000 }
         ensures { IsOpen hart more self.now result }

@@ -30,7 +30,7 @@ options_text work = []
 abbrev pub then_framed : List ℕ → List ℕ → List ℕ
 then_framed m text = (m ++ (decimal (length text) ++ codes ":")) ++ text
 
--- of those options, with these payloads in the slots: what each part of one bench is of
+-- what each part of one bench is of: those options, these payloads in the slots, and that script
 abbrev pub message : Work → List (List ℕ) → List ℕ → List ℕ
 message work payloads script =
     then_framed

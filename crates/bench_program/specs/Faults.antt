@@ -37,8 +37,8 @@ abbrev pub fault_by : Bool → Refusal → BenchFault
 fault_by true e = Closed
 fault_by false e = Refused e
 
--- how a work ended that was not done, where so many of its runs tell that something is wrong, or where it was refused: it told that, or
--- that refusal, or that its output failed
+-- how a work ended that was not done: `made` is how many of its runs tell that something is wrong, or its refusal. It told that, or that
+-- its output failed
 abbrev pub IsEndOf : Result ℕ Refusal → Bool → BenchFault → Type 0
 IsEndOf made gone fault =
     ((fault ≡ Wrong) × (differ : ℕ) × (0 < differ) × (made ≡ Ok differ))

@@ -32,7 +32,7 @@ shown_text false = codes "# nothing is shown\n"
 abbrev pub failed_text : ℕ → List ℕ → List ℕ
 failed_text n line = codes "not ok " ++ (decimal n ++ (codes " - " ++ (line ++ 10 ∷ [])))
 
--- the lines that tell of a difference, each as a test, after n tests before them
+-- the lines that tell of a difference, each as a test; n tests stand before them
 abbrev pub failed_lines : ℕ → List (List ℕ) → List ℕ
 failed_lines n [] = []
 failed_lines n (line ∷ more) =

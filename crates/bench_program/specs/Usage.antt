@@ -107,7 +107,7 @@ work_of_flags true false savers = Some (Judge (whole Cuts))
 work_of_flags false true savers = Some (Judge (whole Fails))
 work_of_flags false false savers = Some (Report savers)
 
--- a number from 1 to so many
+-- a number from 1 to `most`
 abbrev pub number_up_to : ℕ → Option ℕ → Option ℕ
 number_up_to most None = None
 number_up_to most (Some n) = if nat_lt n 1 then None else (if nat_lt most n then None else Some n)
@@ -133,7 +133,7 @@ abbrev pub shrink_number : ℕ → Option ℕ → Option Work
 shrink_number seed None = None
 shrink_number seed (Some k) = Some (Shrink (record { seed = seed; number = k }))
 
--- So many schedules are compared, or the one that a word names is shown, or one is shrunk. Not both.
+-- The first `runs` schedules are compared, or the one that a word names is shown, or one is shrunk. Not both.
 abbrev pub compare_or_show : ℕ → ℕ → Option (List ℕ) → Option (List ℕ) → Option Work
 compare_or_show runs seed None None = Some (Compare (record { seed = seed; count = runs; part = None }))
 compare_or_show runs seed (Some word) None = show_number seed (number_up_to runs (number_of word))
@@ -173,7 +173,7 @@ work_without f sweep faults =
     work_named sweep faults (first_value f (codes "schedules")) (first_value f (codes "seed")) (first_value f (codes "show"))
     (first_value f (codes "shrink")) (savers_of (first_value f (codes "crew")))
 
--- part k of so many, up to 4,096
+-- part k of `of`, up to 4,096
 abbrev pub part_if : (k of : ℕ) → (k < 1) ⊎ (1 ≤ k) → (of < k) ⊎ (k ≤ of) → (4096 < of) ⊎ (of ≤ 4096) → Option Part
 part_if k of (inl none) within most = None
 part_if k of (inr some) (inl beyond) most = None

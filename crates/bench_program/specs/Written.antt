@@ -39,7 +39,7 @@ IsReported payloads script old now = (said : Said) × (answers : List Answer) ×
     × (script_of script ≡ Ok said) × IsReportWith payloads said answers end × Appends old now (report_text answers)
     × (AreByFirmware said.lines → KeepsPrefixLaw said.lines answers)
 
--- the schedules of that plan, of the script that begins with these payloads, were compared with its own run, and told; so many differ
+-- the schedules of that plan, of the script that begins with these payloads, were compared with its own run, and told; `differ` differ
 abbrev pub IsCompared : SchedulePlan → List (List ℕ) → List ℕ → Option (List ℕ) → Option (List ℕ) → ℕ → Type 0
 IsCompared plan payloads script old now differ = (said : Said) × (script_of script ≡ Ok said)
     × WroteSchedules said payloads (number_of_other script said.lines) plan.part plan.count old now differ
@@ -56,8 +56,8 @@ IsShrunk payloads script old now = (said : Said) × (script_of script ≡ Ok sai
 abbrev pub HasOrders : List ℕ → Type 0
 HasOrders script = (said : Said) × (script_of script ≡ Ok said) × (has_orders said.lines ≡ true)
 
--- What was written is what the work makes of the script, and so many of its runs tell that something is wrong. It is the report; the lines
--- of a bench, or of schedules, of which so many differ; or one of these as a script. None of the runs of a bench is wrong.
+-- What was written is what the work makes of the script, and `differ` of its runs tell that something is wrong. It is the report; the lines
+-- of a bench, or of schedules; or one of these as a script. None of the runs of a bench is wrong.
 abbrev pub IsMade : Work → List (List ℕ) → List ℕ → ℕ → Option (List ℕ) → Option (List ℕ) → Type 0
 IsMade (Report savers) payloads script differ old now = (differ ≡ 0) × IsReported payloads script old now
 IsMade (Judge plan) payloads script differ old now =
@@ -83,8 +83,8 @@ abbrev pub tested_text : Bool → Bool → Bool → List ℕ → List ℕ
 tested_text false well shown text = text
 tested_text true well shown text = tap_text well shown text
 
--- what is written of a text that a work made, of which so many runs tell that something is wrong: a part ends with the digest of what it
--- is of
+-- what is written of a text that a work made, where `differ` of its runs tell that something is wrong: a part ends with the digest of what
+-- it is of
 abbrev pub put_text : Bool → Work → List (List ℕ) → List ℕ → ℕ → List ℕ → List ℕ
 put_text tap work payloads script differ text =
     tested_text tap (differ == 0) (shown_by work script) (with_tag (part_tag work payloads script) text)
@@ -93,7 +93,7 @@ put_text tap work payloads script differ text =
 abbrev pub is_kept : BenchOptions → Bool
 is_kept options = if options.tap then true else is_part options.work
 
--- That was written, where so many runs tell that something is wrong; or what comes of a text that else would be written.
+-- That was written, where `differ` runs tell that something is wrong; or what comes of a text that else would be written.
 abbrev pub IsPut : Bool → (ℕ → List ℕ → List ℕ) → (ℕ → Option (List ℕ) → Option (List ℕ) → Type 0) → ℕ → Option (List ℕ) → Option (List ℕ) → Type 0
 IsPut false Comes That differ old now = That differ old now
 IsPut true Comes That differ old now =
@@ -110,7 +110,7 @@ abbrev pub IsHandedOn : {W A : Type 0} → (W → Option (List ℕ)) → (Option
 IsHandedOn contents That old now =
     That (writer_contents (pipe_contents contents) old) (writer_contents (pipe_contents contents) now) × (writer_buffer now ≡ [])
 
--- the work was done over a source of which these bytes are known, and so many of its runs tell that something is wrong
+-- the work was done over a source of which these bytes are known, and `differ` of its runs tell that something is wrong
 abbrev pub IsWorked : BenchOptions → List (List ℕ) → Option (List ℕ) → ℕ → Option (List ℕ) → Option (List ℕ) → Type 0
 IsWorked options payloads source differ old now = (script : List ℕ) × IfSome source (λ bytes. script_of script ≡ script_of bytes)
     × IfSome source (IsReadOf script) × IsWritten options payloads script differ old now
@@ -124,7 +124,7 @@ abbrev pub source_of : BenchOptions → (List ℕ → Option (List ℕ)) → Opt
 source_of options bytes_at input = source_at (script_file options) bytes_at input
 
 -- The options were done over it and over files of which these bytes are known: each slot begins with the file that is
--- named for it. So many runs tell that something is wrong.
+-- named for it. Of the runs, `differ` tell that something is wrong.
 abbrev pub AreDone : BenchOptions → (List ℕ → Option (List ℕ)) → Option (List ℕ) → ℕ → Option (List ℕ) → Option (List ℕ) → Type 0
 AreDone options bytes_at input differ old now = (payloads : List (List ℕ)) × AreFilesOf bytes_at (payload_files options) payloads
     × IsWorked options payloads (source_of options bytes_at input) differ old now

@@ -40,7 +40,7 @@ fn number_up_to(most: u64, word: &str) -> Option<u64>
     Some(number)
 }
 
-/// The work over so many schedules of that seed: to compare them all, or to show or to shrink the one that a word names. None where
+/// The work over `runs` schedules of that seed: to compare them all, or to show or to shrink the one that a word names. None where
 /// the word names none of them, and where there are both words.
 fn compare_or_show(runs: u64, seed: u64, show: Option<&str>, shrink: Option<&str>) -> Option<Work>
     requires { runs ≤ 1000000 }

@@ -35,7 +35,7 @@ fn bench_text(plan: SweepPlan) -> &'static str
     }
 }
 
-/// The options of so many schedules of that seed.
+/// The options of `count` schedules of that seed.
 fn schedules_text(alloc: Global, count: u64, seed: u64) -> Result<String, AllocError>
     ensures { IfOk result (λ text. string_bytes text ≡ schedules_text count seed) }
 {

@@ -94,7 +94,7 @@ impl fmt::Display for RunProgress {
     }
 }
 
-/// How many seconds a run still takes that took so many milliseconds for so many of its rows: as long for each as for those. None
+/// How many seconds a run still takes that took `took` milliseconds for `done` of its rows: as long for each as for those. None
 /// where none was made yet, or where the number is beyond all bounds.
 pub fn seconds_left(took: u64, done: u64, rows: u64) -> Option<u64>
     ensures { result ≡ seconds_left took done rows }

@@ -61,7 +61,7 @@ fn fault_of<O: Write + Drop>(refusal: Refusal, out: &BufWriter<Pipe<O>>) -> Benc
     }
 }
 
-/// Hands on what a work wrote, and says how it ended, where so many of its runs tell that something is wrong, or where it was refused.
+/// Hands on what a work wrote, and says how it ended: `made` is how many of its runs tell that something is wrong, or its refusal.
 fn ended<O: Write + Drop>(
     made: Result<u64, Refusal>,
     out: &mut BufWriter<Pipe<O>>,

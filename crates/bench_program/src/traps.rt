@@ -121,7 +121,7 @@ fn is_made(answer: &Answer) -> bool {
     )
 }
 
-/// The trap from which on a hart only traps, in so many turns from there on; None where there is none.
+/// The trap from which on a hart only traps, in `count` turns from there on; None where there is none.
 fn first_trap<C: Crew>(
     setting: &Setting<'_, C>,
     mut live: LiveBench,

@@ -101,7 +101,7 @@ abbrev pub may_hide : ℕ → Did → Bool
 may_hide (suc zero) did = is_answered did
 may_hide made did = true
 
--- what a line of so many turns tells by the word of the last
+-- what a line of `made` turns tells by the word of the last
 abbrev pub TellsTurns : ℕ → Word → DurableState → Bool → DurableState → Bool → Type 0
 TellsTurns made (words.Goes did) s up t now = MatchBool (may_hide made did) (Hides s up t now) (Keeps s up t now)
 TellsTurns made (words.Over end) s up t now = EndsLife (IsEndBy end) s up t now

@@ -114,12 +114,12 @@ GuestTurn h life b word new =
     (m : Machine) × (turned : Turned) × MakesTurn h life.machine m turned
     × ComesTo turned h (has_machine m life) (on_with (has_machine m life) b) word new
 
--- the turn is the last of its line, with so many that might follow: it ends the line, none is left, or a cut
+-- the turn is the last of its line, where `left` might follow: it ends the line, none is left, or a cut
 -- struck in it
 abbrev pub IsLastTurn : Word → ℕ → Bench → Type 0
 IsLastTurn word left new = (ends word ≡ true) ⊎ (left ≡ 0) ⊎ (new.fault_state.struck ≡ true)
 
--- at most n turns of a hart, of which so many were made, and the word of the last
+-- at most n turns of a hart: `made` were made, and the last has that word
 abbrev pub GuestTurns : ℕ → ℕ → Bench → ℕ → Word → Bench → Type 0
 GuestTurns h zero b made word new = ⊥
 GuestTurns h (suc n) b made word new =

@@ -11,7 +11,7 @@ use std::alloc::AllocError;
 /// How often a number of 64 bits can be halved.
 const HALVES: u64 = 64;
 
-/// Tries the schedule whose slices from one place up to another have at most so many turns. Answers whether it is kept.
+/// Tries the schedule whose slices from one place up to another have at most `turns` turns. Answers whether it is kept.
 fn try_lessened<C: Crew>(
     search: &Search<'_, C>,
     kept: &mut FoundSchedule,
@@ -71,7 +71,7 @@ fn cut<C: Crew>(search: &Search<'_, C>, kept: &mut FoundSchedule) -> Result<(), 
     Ok(())
 }
 
-/// Drops so many slices together, where that can be, from the first on.
+/// Drops `size` slices together, where that can be, from the first on.
 fn drop_by<C: Crew>(
     search: &Search<'_, C>,
     kept: &mut FoundSchedule,

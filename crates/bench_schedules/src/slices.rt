@@ -66,7 +66,7 @@ pub fn slices_of(alloc: Global, lines: &[Line]) -> Result<Vec<Slice>, AllocError
     Ok(slices)
 }
 
-/// The slices, of which those from one place up to another have at most so many turns. Of those with 0 turns none is left.
+/// The slices, where those from one place up to another have at most `turns` turns. None with 0 turns is left.
 pub fn lessened(
     alloc: Global,
     slices: &[Slice],
@@ -93,7 +93,7 @@ pub fn lessened(
     Ok(new)
 }
 
-/// Which of so many slices comes to a place, where the one at another place and the next one, if there is one, are exchanged.
+/// Which of `count` slices comes to the place `at`, where the one at `place` and the next one, if there is one, are exchanged.
 fn exchanged_with(at: usize, place: usize, count: usize) -> usize
     requires { at < count }
     ensures { result < count }
@@ -107,7 +107,7 @@ fn exchanged_with(at: usize, place: usize, count: usize) -> usize
     }
 }
 
-/// The slices, of which the one at that place and the next one are exchanged.
+/// The slices, with the one at that place and the next one exchanged.
 pub fn exchanged(alloc: Global, slices: &[Slice], place: usize) -> Result<Vec<Slice>, AllocError> {
     let mut new = Vec::new(alloc);
     for at in 0..slices.len() {

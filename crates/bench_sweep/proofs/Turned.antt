@@ -255,8 +255,8 @@ module _ (size : Size) (b : Bench) (old new : SimBoard) (h : ℕ) (asked : CallW
       record { bench = did.0; does = did.2; slots = did.1.slots; after = did.1.after; follows = followed did.0 told did.1 }
 
 -- ---- turns in a line
--- Turns were made, with so many that may follow: where the last was the last of the line, that is the line; else
--- whatever those come to that follow, the line comes to.
+-- Turns were made, and `left` may follow. Where the last was the last of the line, that is the line; else the line
+-- comes to what those that follow come to.
 pub record SoFar (h left count : ℕ) (b : Bench) (word : Word) (mid : Bench) : Type 0 where
   pub last : IsLastTurn word left mid → TurnsMany h count b word mid
   pub more : ends word ≡ false → mid.fault_state.struck ≡ false → (k : ℕ) (w : Word) (n : Bench) → GuestTurns h left mid k w n → TurnsMany h count b w n

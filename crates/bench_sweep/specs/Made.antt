@@ -67,7 +67,7 @@ pub record BeginsOn (size : Size) (start : List (List ℕ)) (lines : List Line) 
   pub format : IsFormatted size start lines first
   pub stands : StandsOn size (off first) origin
 
--- All lines are run as they are, from the origin on, and each caller made so many calls in them.
+-- All lines are run as they are, from the origin on, and `counts` says how many calls each caller made in them.
 pub record CallsIn (size : Size) (origin : SimDisk) (first : Bench) (lines : List Line) (counts : List ℕ) : Type 0 where
   pub plain : IsPlainRun size first lines
   pub ended : SimDisk
@@ -93,13 +93,13 @@ abbrev pub EndsAs : BenchKind → List Line → ℕ → List Answer → Bench �
 EndsAs Cuts lines count answers end = (before : List Answer) × (answers ≡ before ++ says printed.PowerLost ∷ [])
 EndsAs Fails lines count answers end = (count ≡ length lines) × (end.fault_state.armed ≡ Unarmed)
 
--- a run of so many lines, of all, ended at that bench, where power is still to be taken
+-- a run of `count` lines of `all` ended at that bench, where power is still to be taken
 abbrev pub IsEnded : BenchKind → ℕ → ℕ → Bench → Type 0
 IsEnded Cuts count all b = (b.fault_state.struck ≡ true) × (b.fault_state.own ≡ 0)
 IsEnded Fails count all b = (count ≡ all) × (b.fault_state.struck ≡ false) × (b.fault_state.own ≡ 0) × (b.fault_state.armed ≡ Unarmed)
 
--- With what the bench does at that call of the caller armed, so many lines run on a bench, on or off, and no memory is refused: with a
--- cut up to the one within which it strikes, with a failure all.
+-- The first `count` lines run on a bench, on or off, with what that kind does at the caller's call armed, and no memory is refused. With
+-- a cut these are the lines up to the one within which it strikes, with a failure all.
 pub record RunsArmed (size : Size) (kind : BenchKind) (caller : Caller) (call : ℕ) (b : Bench) (lines : List Line) (count : ℕ) : Type 0 where
   pub few : count ≤ length lines
   pub answers : List Answer

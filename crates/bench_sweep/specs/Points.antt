@@ -21,7 +21,7 @@ abbrev pub calls_of : Caller → SimDisk → ℕ
 calls_of Disk disk = (facts disk).calls
 calls_of (Lane i) disk = get_or (sim_logged.ghosts.lane_calls disk) i 0
 
--- of that caller so many calls were made from the one disk to the other
+-- that caller made n calls from the one disk to the other
 abbrev pub MadeCalls : SimDisk → SimDisk → Caller → ℕ → Type 0
 MadeCalls from to caller n = calls_of caller to ≡ calls_of caller from + n
 

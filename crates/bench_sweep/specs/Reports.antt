@@ -25,7 +25,7 @@ use Rattle.jobs.specs.Parts.{chunk_from}
 use Rattle.jobs.specs.declared.part.Part.{Part}
 
 -- The report goes on in the same writer: the runs at these points were made, what the bench says of each was written, and each
--- was counted. None was wrong, and of each row that holds.
+-- was counted. None was wrong, and `Is` holds of each row.
 pub record Reports {W : Type 0} (contents : W → Option (List ℕ)) (kind : BenchKind) (Is : Row → Type 0) (old new : SweepReport W) (made : List Spot) : Type 0 where
   pub same : new.out.ghost_name ≡ old.out.ghost_name
   pub quiet : new.quiet ≡ old.quiet
@@ -58,7 +58,7 @@ pub record RunsAlong (size : Size) (kind : BenchKind) (caller : Caller) (site : 
   pub runs : RunsWith size kind (before + made) at (drop more lines) row
 
 -- ---- the rows of a point, before they are written
--- One row more was kept, of that run, and counted as right; of it that holds.
+-- One row more was kept, of that run, and counted as right; `Is` holds of it.
 pub record Keeps (Is : Row → Type 0) (old new : PointRows) (made : Cell) : Type 0 where
   pub row : Row
   pub is : Is row
@@ -67,7 +67,7 @@ pub record Keeps (Is : Row → Type 0) (old new : PointRows) (made : Cell) : Typ
   pub runs : new.sweep.runs ≡ counted old.sweep.runs 1
   pub right : new.sweep.wrong ≡ old.sweep.wrong
 
--- Of these runs a row each was kept, and each was counted. None was wrong, and of each row that holds.
+-- A row was kept of each of these runs, and each was counted. None was wrong, and `Is` holds of each row.
 pub record Judged (Is : Row → Type 0) (rows : PointRows) (made : List Cell) : Type 0 where
   pub each : All Is rows.rows.items
   pub cells : map cell_of rows.rows.items ≡ made
@@ -82,7 +82,7 @@ pub record HasChunk (size : Size) (lines : List Line) (count : ℕ) (site : Site
   pub begins : chunk_from from each k < to
   pub room : before + to < 2 ^ 64
 
--- those are the rows of the call before which so many were made from the site on
+-- those are the rows of the caller's next call after `done` calls from the site on
 abbrev pub IsOfCall : Size → BenchKind → Caller → ℕ → List Line → Site → ℕ → PointRows → Type 0
 IsOfCall size kind caller before lines site done rows =
     (b : Bench) → RunsAt size b site
@@ -99,7 +99,7 @@ pub record TakesPoint {W : Type 0} (contents : W → Option (List ℕ)) (old : S
 
 -- ---- all rows
 -- All lines from that bench on are run as they are, from that disk on, and then the runs at the points of each caller are made, or at
--- those of a part: it has as many as it made calls in the lines, and all have so many together.
+-- those of a part. A caller has as many points as it made calls in the lines, and together they have `all`.
 pub record ReportsAll {W : Type 0} (contents : W → Option (List ℕ)) (size : Size) (kind : BenchKind) (part : Option Part) (origin : SimDisk)
     (first : Bench) (lines : List Line) (all : ℕ) (old new : SweepReport W) : Type 0 where
   pub counts : List ℕ

@@ -44,7 +44,7 @@ row_text r = call_text r.caller r.number r.fill ++ codes " " ++ left_text r.left
 abbrev pub counts_text : List ℕ → Sweep → List ℕ
 counts_text points s = codes "points " ++ points ++ codes " runs " ++ decimal s.runs ++ codes " wrong " ++ decimal s.wrong
 
--- the last line: of the whole, or of a part of so many points in all
+-- the last line: of the whole, or of a part, where the whole has `all` points
 abbrev pub sweep_text : Option Part → ℕ → Sweep → List ℕ
 sweep_text None all s = counts_text (decimal s.points) s
 sweep_text (Some part) all s = part_text (Some part) ++ counts_text (decimal s.points ++ codes " of " ++ decimal all) s

@@ -35,7 +35,7 @@ abbrev pub fill_at : BenchKind → ℕ → Option Fill
 fill_at Cuts place = Some (get_or (Byte 0 ∷ Byte 255 ∷ Alternating ∷ Old ∷ New ∷ []) place (Byte 0))
 fill_at Fails place = None
 
--- Where the callers make so many calls, the run of that number, from 1, is that one.
+-- The run of that number, from 1, is that one, where `counts` says how many calls each caller makes.
 pub record IsNthRun (kind : BenchKind) (counts : List ℕ) (number : ℕ) (run : Cell) : Type 0 where
   pub before : List Cell
   pub later : List Cell

@@ -82,12 +82,12 @@ pub record Spot : Type 0 where
 abbrev pub spot : Caller → ℕ → Spot
 spot caller number = record { caller = caller; number = number }
 
--- so many points of a caller, the first of which has that number
+-- n points of a caller, the first of which has the number `first`
 abbrev pub points_from : Caller → ℕ → ℕ → List Spot
 points_from caller first zero = []
 points_from caller first (suc n) = points_from caller first n ++ spot caller (counted first n) ∷ []
 
--- the points of these callers, of each so many, from number 1 on, in the order of the report
+-- the points of these callers, as many of each as its number says, from number 1 on, in the order of the report
 abbrev pub all_points : List Caller → List ℕ → List Spot
 all_points [] ns = []
 all_points (caller ∷ more) [] = []
@@ -97,7 +97,7 @@ all_points (caller ∷ more) (n ∷ ns) = points_from caller 1 n ++ all_points m
 abbrev pub runs_at : BenchKind → List Spot → List Cell
 runs_at bench spots = flat_map (λ (s : Spot). runs_of bench s.caller s.number) spots
 
--- which points a bench goes over where the callers make so many calls: all of them, or those of a part alone
+-- the points that a bench goes over, where `counts` says how many calls each caller makes: all of them, or those of a part alone
 abbrev pub own_points : Option Part → List ℕ → List Spot
 own_points part counts = own_of part (all_points callers counts)
 
@@ -107,12 +107,12 @@ abbrev pub rows_text : Bool → List Row → List ℕ
 rows_text true rows = []
 rows_text false rows = flat_map (λ (row : Row). row_text row ++ 10 ∷ []) rows
 
--- a count went on by so many
+-- a count went on by n
 abbrev pub GoesOn : ℕ → ℕ → ℕ → Type 0
 GoesOn before after n = (k : ℕ) → before ≡ counted 0 k → after ≡ counted 0 (k + n)
 
--- These runs were made at so many points, what a bench says of each was written, and each was counted. None was wrong. Of each row that
--- holds.
+-- These runs were made, at n points. What a bench says of each was written, and each was counted. None was wrong, and `Is` holds of each
+-- row.
 pub record Writes (quiet : Bool) (Is : Row → Type 0) (old now : Option (List ℕ)) (s t : Sweep) (made : List Cell) (n : ℕ) : Type 0 where
   pub rows : List Row
   pub each : All Is rows

@@ -23,9 +23,9 @@ const MOST_CALLS: u64 = 64;
 
 const MANY_CALLS: u64 = 16;
 
-/// How many calls each chunk of so many has, for so many threads. If there are as many calls, there are 32 chunks or more, ten or more for
-/// each thread, and 32 or more for each where a chunk has more than 16 calls. So threads end at much the same time, what is written and how
-/// far the run is are told often, and still few chunks begin within the same line.
+/// How many calls each chunk of `calls` has, for `threads` threads. If there are as many calls, there are 32 chunks or more, ten or more
+/// for each thread, and 32 or more for each where a chunk has more than 16 calls. So threads end at much the same time, what is written and
+/// how far the run is are told often, and still few chunks begin within the same line.
 pub fn chunk_size(calls: u64, threads: usize) -> u64
     requires { 0 < threads }
     ensures some { 0 < result }
@@ -49,7 +49,7 @@ fn mark(
     Ok(())
 }
 
-/// Runs on up to so many lines, and keeps how many calls the caller has made then from the site on.
+/// Runs on up to `to` lines, and keeps how many calls the caller has made then from the site on.
 fn mark_next<C: Crew>(
     runner: &Runner<'_, C>,
     site: &Site,
@@ -97,8 +97,8 @@ pub fn marks_of<C: Crew>(
     Ok(marks)
 }
 
-/// How many lines stand before the one in which the call lies before which so many were made, by these marks: as many as have run, or
-/// more, and no more than `count`.
+/// How many lines stand before the one in which the next call after `done` others lies, by these marks: `from` or more, which have run,
+/// and no more than `count`.
 fn line_of(marks: &[u64], from: usize, count: usize, done: u64) -> usize
     requires { from ≤ count }
     ensures order { from ≤ result }
@@ -132,8 +132,8 @@ pub struct RunsAtCalls<'a, 'b, C> {
 }
 
 impl<'a, 'b, C: Crew> RunsAtCalls<'a, 'b, C> {
-    /// Makes the runs at the call before which so many were made from the site on, from that moment. Refused also where the
-    /// moment is after it: by the plain run it is not.
+    /// Makes the runs at the next call after `done` calls from the site on, from that moment. Refused also where the moment is
+    /// after it: by the plain run it is not.
     fn rows_at(&self, moment: &mut Moment, done: u64) -> Result<PointRows, AllocError>
         requires few { self.now.count ≤ length self.now.runner.now.lines.now }
         requires order { moment.old.count ≤ self.now.count }

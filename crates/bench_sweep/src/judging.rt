@@ -241,7 +241,7 @@ pub fn turn_off(going: Going, struck: bool) -> Result<Site, AllocError>
     Ok(site)
 }
 
-/// Turns the board off after all of so many lines, with nothing armed any more: the call failed. Refused where something
+/// Turns the board off after the last of `all` lines, with nothing armed any more: the call failed. Refused where something
 /// is. As with a cut, only a run that was refused memory can have missed the call.
 pub fn turn_off_failed(went: Went, all: usize) -> Result<Site, AllocError>
     ensures whole { OnOk result (all ≤ went.count) }
@@ -263,7 +263,7 @@ pub fn turn_off_failed(went: Went, all: usize) -> Result<Site, AllocError>
     Ok(left)
 }
 
-/// Makes the one run of the bench at that point, or the five, which go on from there. So many lines stand up to the next site.
+/// Makes the one run of the bench at that point, or the five, which go on from there. There are `count` lines up to the next site.
 pub fn run_at_point<C: Crew>(
     runner: &Runner<'_, C>,
     count: usize,

@@ -172,7 +172,7 @@ impl fmt::Display for CountsText {
     }
 }
 
-/// Writes the last line of a bench, or of a part of it, where the whole has so many points.
+/// Writes the last line of a bench, or of a part of it, where the whole has `all` points.
 #[tactic(auto, using(crate::proofs::Written::handed_on))]
 pub fn write_sweep<W: Write>(
     out: &mut W,

@@ -84,7 +84,7 @@ fn counts_of(alloc: Global, from: &Site, to: &Site) -> Result<Vec<u64>, AllocErr
     Ok(counts)
 }
 
-/// The run of that number, where the callers made so many calls.
+/// The run of that number, where `counts` says how many calls each caller made.
 fn run_of_number(bench: BenchKind, counts: &[u64], number: u64) -> Option<RunAt>
     requires { length counts.now ≡ 5 }
     ensures { MatchOption result (HasFewer bench counts.now number) (λ run. IsNthRun bench counts.now number (run_cell run)) }

@@ -101,7 +101,7 @@ struct Calls {
 }
 
 /// Makes the runs at those calls, which the lines make from the site on: at those within a window of them, a chunk of them by one
-/// thread. So many lines stand up to the next site.
+/// thread. There are `count` lines up to the next site.
 fn run_at_calls<R: Threads + Sync, P: Progress, C: Crew + Sync, W: Write>(
     jobs: &Jobs<'_, R, P>,
     runner: &Runner<'_, C>,
@@ -143,7 +143,7 @@ fn run_at_calls<R: Threads + Sync, P: Progress, C: Crew + Sync, W: Write>(
 }
 
 /// Goes over the points of that caller in the lines up to the next moment at which the board is off, as far as they lie within
-/// the window, and puts the board of that moment in the place of this one. So many calls were before them. Answers how many
+/// the window, and puts the board of that moment in the place of this one. The caller made `made` before them. Answers how many
 /// lines they are, and how many calls they made.
 fn sweep_stretch<R: Threads + Sync, P: Progress, C: Crew + Sync, W: Write>(
     jobs: &Jobs<'_, R, P>,

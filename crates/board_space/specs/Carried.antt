@@ -4,7 +4,7 @@ use Rattle.state_space.specs.Numbered.{word_count, words_of}
 use Rattle.state_space.specs.declared.interner.Interner.{Interner}
 use Rattle.board_space.specs.Records.{IsAt}
 
--- so many numbers of the second row, from a place on, are of the records of those of the first
+-- `count` numbers of the second row, from a place on, are of the records of those of the first
 abbrev pub AreSameRecords : {T : Type 0} → List T → List ℕ → ℕ → List T → List ℕ → ℕ → ℕ → Type 0
 AreSameRecords {T} old row from new out at count =
     (h : ℕ) (x : T) → h < count → IsAt old (slice_index row (from + h)) x → IsAt new (slice_index out (at + h)) x

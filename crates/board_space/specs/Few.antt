@@ -39,12 +39,12 @@ WaitsAt asked = Waits (Steps asked) turn_number MOST_WAITED
 abbrev pub few_rules : Asked → Map → ℕ → Rules (Switched Board)
 few_rules asked map switches = within_rules (board_rules asked map) hart_of_number (WaitsAt asked) switches
 
--- no hart made the last turn, and so many may still be preempted
+-- no hart made the last turn, and `switches` may still be preempted
 abbrev pub begins_with : ℕ → Budget
 begins_with switches = record { last = None; left = switches }
 
--- Events lead to a board from one that was never on, and in their order at most so many harts are preempted: another hart's turn follows a
--- hart's, which does not wait there.
+-- Events lead to a board from one that was never on, and in their order at most `switches` harts are preempted: another hart's turn follows
+-- a hart's, which does not wait there.
 abbrev pub RunsFew : Asked → ℕ → List Event → Board → Type 0
 RunsFew asked switches events last =
     (left : Budget) × Within (Happens asked) Turn hart_of MOST_WAITED events (start_of asked) (begins_with switches) last left
@@ -64,7 +64,7 @@ is_power_on_number n = n == 26
 abbrev pub life_rules : Asked → Map → ℕ → Rules (Counted Board)
 life_rules asked map most = counted_rules (board_rules asked map) is_power_on_number most
 
--- Events lead to a board from one that was never on, and at most so many of them are power-ons.
+-- Events lead to a board from one that was never on, and at most `most` of them are power-ons.
 abbrev pub RunsLives : Asked → ℕ → List Event → Board → Type 0
 RunsLives asked most events last = Runs (Happens asked) events (start_of asked) last × (how_many is_power_on events ≤ most)
 

@@ -19,7 +19,7 @@ pub record IsTracked (tracked : WordPool) (word : ℕ) : Type 0 where
   pub within : place < length (segment tracked number)
   pub is : slice_index (segment tracked number) place ≡ word
 
--- each word that is told lies in so many bytes
+-- each word that is told lies in `bytes` bytes
 abbrev pub AreWithin : WordPool → ℕ → Type 0
 AreWithin tracked bytes = (word : ℕ) → IsTracked tracked word → 8 * word + 8 ≤ bytes
 

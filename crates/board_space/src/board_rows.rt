@@ -216,7 +216,7 @@ fn tell_segments(
     Ok(())
 }
 
-/// Puts the harts of a row into a board of so many.
+/// Puts the harts of a row into a board of `count`.
 fn put_harts(harts: &Records<Hart>, count: usize, row: &[u32], board: &mut Board)
     requires shown { IsShownByParts board.old }
     requires count { count ≡ board.old.machine.size.harts }

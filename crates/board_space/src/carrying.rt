@@ -90,7 +90,7 @@ fn known_record<T: Recorded>(
     }
 }
 
-/// The numbers of records of another store, so many from a place of a row on, after what is in the other row, where they are known.
+/// The numbers of `count` records of another store, from a place of a row on, after what is in the other row, where they are known.
 fn find_records<T: Recorded>(
     to: &Records<T>,
     from: &Records<T>,
@@ -134,7 +134,7 @@ fn carry_record<T: Recorded>(
     Ok(other)
 }
 
-/// The numbers of records of another store, so many from a place of a row on, after what is in the other row.
+/// The numbers of `count` records of another store, from a place of a row on, after what is in the other row.
 fn carry_records<T: Recorded>(
     to: &mut Records<T>,
     from: &Records<T>,
@@ -182,7 +182,7 @@ fn known_words(to: &Interner, from: &Interner, memo: &Numbers, number: u32) -> O
     }
 }
 
-/// The numbers of slices of words of another store, so many from a place of a row on, after what is in the other row, where they are known.
+/// The numbers of `count` slices of words of another store, from a place of a row on, after what is in the other row, where they are known.
 fn find_segments(
     to: &Interner,
     from: &Interner,
@@ -227,7 +227,7 @@ fn carry_words(
     Ok(other)
 }
 
-/// The numbers of slices of words of another store, so many from a place of a row on, after what is in the other row.
+/// The numbers of `count` slices of words of another store, from a place of a row on, after what is in the other row.
 fn carry_segments(
     to: &mut Interner,
     from: &Interner,

@@ -108,7 +108,7 @@ fn search_all<R: Threads + Sync>(
     Searched { space, found }
 }
 
-/// Searches the orders in which at most so many harts are preempted.
+/// Searches the orders in which at most `switches` harts are preempted.
 fn search_few<R: Threads + Sync>(
     rt: &R,
     alloc: Global,
@@ -128,7 +128,7 @@ fn search_few<R: Threads + Sync>(
     }
 }
 
-/// Searches the orders in which there are at most so many power-ons.
+/// Searches the orders in which there are at most `most` power-ons.
 fn search_lives<R: Threads + Sync>(
     rt: &R,
     alloc: Global,

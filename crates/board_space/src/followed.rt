@@ -29,7 +29,7 @@ fn has_turn(graph: &Graph, row: usize, hart: u32) -> bool
     false
 }
 
-/// Whether a turn of each of so many harts, at most 8, is among the steps of an expanded row.
+/// Whether a turn of each of `harts` harts, at most 8, is among the steps of an expanded row.
 #[tactic(auto, using(crate::proofs::Searching::each_below))]
 fn has_turns(graph: &Graph, row: usize, harts: u32) -> bool
     requires whole { IsWhole graph.now }

@@ -16,7 +16,7 @@ use hart::Hart;
 use model_board::{Board, Power};
 use state_space::Interner;
 
-/// Puts those harts of a row into a board of so many that differ from those of the row that was put there.
+/// Puts those harts of a row into a board of `count` that differ from those of the row that was put there.
 fn put_other_harts(
     harts: &Records<Hart>,
     count: usize,

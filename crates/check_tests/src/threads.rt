@@ -55,7 +55,7 @@ const ASKED: [&[&str]; 4] = [
     ],
 ];
 
-/// What is told where so many threads search.
+/// What is told where `jobs` threads search.
 fn told<R: Abort + Threads + Sync>(rt: &R, alloc: Global, words: &[&str], jobs: u32) -> Vec<u8> {
     let mut out = Vec::new(alloc);
     let mut options = options_of(alloc, words).expect(rt, "the words are right");

@@ -197,7 +197,7 @@ or the next power-on is due
     },
 ];
 
-/// What is told of a kernel, and the verdict, where so many threads search.
+/// What is told of a kernel, and the verdict, where `jobs` threads search.
 fn tells<R: Abort + Threads + Sync>(rt: &R, alloc: Global, case: &Case, jobs: u32) {
     let mut out = Vec::new(alloc);
     let mut options = options_of(alloc, case.words).expect(rt, "the words are right");

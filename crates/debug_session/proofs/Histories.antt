@@ -17,7 +17,7 @@ All-back : (P : Line → Type 0) (xs ys : List Line) → All P (xs ++ ys) → Al
 All-back P [] ys all = all
 All-back P (x ∷ xs) ys all = All-back P xs ys (All-tail P x (xs ++ ys) all)
 
--- the row of a place is that of a hart of the board, with so many turns
+-- the row of a place is that of a hart of the board, with n turns
 place_row : (size : Size) (h i k n : ℕ) (past after : List Line) → past ≡ take i past ++ lines.Turn h n ∷ after → AreInRange size past → IsLineInRange size (lines.Turn h n)
 place_row size h i k n past after is are =
     let all : AreInRange size (take i past ++ lines.Turn h n ∷ after) = subst (AreInRange size) is are in
@@ -42,7 +42,7 @@ cut_ranges size h i k past new (n, after, is, less) e are = subst (AreInRange si
 pub row_cut_ranges : (size : Size) (h : ℕ) (old new : List Line) → IsRowCut h old new → AreInRange size old → AreInRange size new
 row_cut_ranges size h old new (i, n, after, is, some, e) are = subst (AreInRange size) (sym e) (left_ranges size h i (n - 1) n old after is (omega arith) are)
 
--- the moments of so many turns
+-- the moments of k turns
 some_moments : (h k : ℕ) → moments (some_turns h k) ≡ replicate k (lines.Turn h 1)
 some_moments h zero = refl
 some_moments h (suc k) = append-nil (replicate (suc k) (lines.Turn h 1))

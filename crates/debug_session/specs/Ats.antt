@@ -59,7 +59,7 @@ pub record MadeTurns (size : Size) (h : ℕ) (points : List ℕ) (row : TurnRow)
   pub grew : moments new.history ≡ moments old.history ++ replicate (made_in row) (lines.Turn h 1)
   pub busy : is_idle_row row ≡ false
 
--- line i is a row of hart h that has more turns than so many
+-- line i is a row of hart h with more than k turns
 abbrev pub IsPlace : ℕ → ℕ → ℕ → List Line → Type 0
 IsPlace h i k past =
     (n : ℕ) × (after : List Line) × (past ≡ take i past ++ lines.Turn h n ∷ after) × (k < n)

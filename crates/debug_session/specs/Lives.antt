@@ -76,7 +76,7 @@ abbrev pub register_in : ℕ → ℕ → Option Machine → Option ℕ
 register_in h n None = None
 register_in h n (Some m) = if nat_lt h (length m.harts) then register_at m h n else None
 
--- so many bytes of RAM from that address on, where the machine has all of them
+-- n bytes of RAM from the address a on, where the machine has all of them
 abbrev pub memory_in : ℕ → ℕ → Option Machine → Option (List ℕ)
 memory_in a n None = None
 memory_in a n (Some m) =

@@ -32,7 +32,7 @@ abbrev pub is_stepping : Machine → ℕ → Bool
 is_stepping m h = is_started (status_at m h) && not (is_interrupted m h)
 
 -- ---- the instruction
--- so many bytes from that address on lie in RAM, and the address is a multiple of their number
+-- n bytes from the address a on lie in RAM, and the address is a multiple of n
 abbrev pub is_there : List ℕ → ℕ → ℕ → Bool
 is_there memory a n = (a % n == 0) && (nat_le 0x80000000 a && nat_le (a + n) (0x80000000 + length memory))
 

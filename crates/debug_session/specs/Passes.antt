@@ -21,7 +21,7 @@ PassesOne size h points b new =
     (word : Word) × RowMoves size h (rows.Made 1 word) b new × (ends word ≡ false)
     × (stands_in points (pc_in h (machine_left new.power)) ≡ false)
 
--- so many of them
+-- n of them
 abbrev pub Passes : Size → ℕ → List ℕ → ℕ → Bench → Bench → Type 0
 Passes size h points zero b new = new ≡ b
 Passes size h points (suc n) b new = (mid : Bench) × Passes size h points n b mid × PassesOne size h points mid new

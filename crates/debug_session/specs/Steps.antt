@@ -34,7 +34,7 @@ IsStep size h halt old new =
     (row : TurnRow) × (rests : Bool) × IsWithin 1 row × MadeTurns size h [] row rests old new
     × EndsStep row rests (pc_in h (machine_of new.bench)) halt
 
--- why it ends so where all halts, or nothing does and so many turns were made
+-- why a step ends where all halts, or where nothing does and `made` turns were made
 abbrev pub halt_step : Option HaltReason → ℕ → HaltReason
 halt_step None made = if made == 0 then halts.Idle else halts.Stepped
 halt_step (Some halt) made = halt
@@ -44,7 +44,7 @@ abbrev pub IsTurnOf : (ℕ → Type 0) → Line → Type 0
 IsTurnOf May (lines.Turn h n) = (n ≡ 1) × May h
 IsTurnOf May line = ⊥
 
--- So many turns of harts that may run became part of the history, and nothing else.
+-- `count` turns of harts that may run became part of the history, and nothing else.
 pub record Went (May : ℕ → Type 0) (count : ℕ) (size : Size) (old new : Timeline) : Type 0 where
   pub at : IsAt size new
   pub begins : new.begins ≡ old.begins

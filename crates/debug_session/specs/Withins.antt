@@ -34,7 +34,7 @@ is_pc_in within h b = is_in within (pc_in h (machine_left b.power))
 abbrev pub TurnsOnce : Size → ℕ → Bench → Bench → Type 0
 TurnsOnce size h b new = (row : TurnRow) × (made_in row ≡ 1) × RowMoves size h row b new
 
--- so many, of which each left the pc within the addresses
+-- n turns, each of which left the pc within the addresses
 abbrev pub StaysWithin : Size → StepRange → ℕ → ℕ → Bench → Bench → Type 0
 StaysWithin size within h zero b new = new ≡ b
 StaysWithin size within h (suc n) b new =

@@ -131,7 +131,7 @@ fn later_place(
     }
 }
 
-/// The last of so many turns, which it makes, before which the way back ends: how many stand before it, and why.
+/// Makes `turns` turns. Answers the last of them before which the way back ends: how many stand before it, and why.
 fn last_halt_in<C: Crew>(
     setting: &Setting<'_, C>,
     stops: &Stops,

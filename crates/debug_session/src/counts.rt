@@ -43,7 +43,7 @@ pub(crate) fn turns_told(lines: &[Line]) -> u64
     sum
 }
 
-/// How many turns a history lacks of so many, at most that many.
+/// How many turns a history lacks of `turns`, and no more than `most`.
 pub(crate) fn turns_left(lines: &[Line], turns: u64, most: u64) -> u64
     ensures { result ≡ min (turns - turns_told lines.now) most }
 {

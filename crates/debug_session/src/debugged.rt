@@ -74,7 +74,7 @@ impl DebuggedBench {
         self.live.run(setting, line)
     }
 
-    /// Up to so many turns of a hart, one after another: what the line `turn` does.
+    /// Up to `count` turns of a hart, one after another: what the line `turn` does.
     pub fn turns<C: Crew>(&mut self, setting: &Setting<'_, C>, hart: HartId, count: u32) -> TurnRow
         requires some { 1 ≤ count }
         requires sound { IsSound self.old }

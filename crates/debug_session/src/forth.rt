@@ -105,7 +105,7 @@ fn touched_behind(
     first_touched(timeline.bench(), load, before)
 }
 
-/// Up to so many turns of a hart, to the first that halts everything; what the line `turn` would have said of the
+/// Up to `most` turns of a hart, to the first that halts everything; what the line `turn` would have said of the
 /// last is told where it does so by itself.
 fn stretch<C: Crew>(
     setting: &Setting<'_, C>,
@@ -228,7 +228,7 @@ fn watched_part<C: Crew>(
     })
 }
 
-/// A hart's part of a round: up to so many turns.
+/// A hart's part of a round: up to `most` turns.
 fn run_part<C: Crew>(
     setting: &Setting<'_, C>,
     stops: &Stops,

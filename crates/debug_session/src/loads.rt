@@ -65,7 +65,7 @@ fn is_stepping(board: &mut Board<SimDisk>, hart: HartId) -> bool
     }
 }
 
-/// Whether so many bytes of a memory are there, from an address on that is a multiple of their number.
+/// Whether `count` bytes of a memory are there, from an address on that is a multiple of their number.
 fn is_there(bytes: &[u8], address: u64, count: u64) -> bool
     requires { 0 < count }
     ensures { result ≡ is_there bytes.now address count }

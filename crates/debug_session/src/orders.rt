@@ -151,7 +151,7 @@ impl OrderPlace {
         }
     }
 
-    /// Passes over so many turns of a hart: whether they come next.
+    /// Passes over `count` turns of a hart: whether they come next.
     fn pass_turns(&mut self, order: &ScriptOrder, hart: HartId, count: u32) -> bool {
         let mut left = count;
         for _ in self.line..order.lines.len() {

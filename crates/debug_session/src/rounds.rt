@@ -98,7 +98,7 @@ impl Round {
         }
     }
 
-    /// A part made so many turns.
+    /// A part made `count` turns.
     pub(crate) fn made(&mut self, count: u32)
         requires left { count ≤ self.old.left }
         ensures harts { self.new.harts ≡ self.old.harts }

@@ -314,7 +314,7 @@ impl<'a, C: Crew> Session<'a, C> {
         self.go_few(first, *harts, most, interrupt, told)
     }
 
-    /// Goes on with these harts, in turn, from that one on, with so many turns at most, to the first halt.
+    /// Goes on with these harts, in turn, from that one on, with `most` turns at most, to the first halt.
     fn go_few(
         &mut self,
         first: HartId,
@@ -353,7 +353,7 @@ impl<'a, C: Crew> Session<'a, C> {
         )
     }
 
-    /// Goes on with all harts, in turn, from that one on, until the history has so many turns of any harts, to the first
+    /// Goes on with all harts, in turn, from that one on, until the history has `turns` turns of any harts, to the first
     /// halt; `most` turns at most. The interrupt is looked at before each hart's part.
     pub fn go_on_to(
         &mut self,

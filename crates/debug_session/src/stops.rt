@@ -163,7 +163,7 @@ fn bytes_of(bench: &DebuggedBench, watch: Watchpoint) -> &[u8]
     }
 }
 
-/// Whether an address lies before the end of so many bytes from another on.
+/// Whether an address lies before the end of `count` bytes from another on.
 fn is_before(address: u64, first: u64, count: u64) -> bool
     ensures { result ≡ nat_lt address (first + count) }
 {

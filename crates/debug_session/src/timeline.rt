@@ -86,7 +86,7 @@ impl Timeline {
         self.bench.load_among(hart, before)
     }
 
-    /// Up to so many turns of a hart, which become part of the history: what came of them. Where memory is refused the timeline is of no
+    /// Up to `count` turns of a hart, which become part of the history: what came of them. Where memory is refused the timeline is of no
     /// use.
     fn turns<C: Crew>(
         &mut self,

@@ -136,7 +136,7 @@ script_text size begins past = ended_text (length past) (history_text size begin
 abbrev pub goto_in : List ℕ → Option ℕ
 goto_in text = option_and_then number_of (behind_prefix (codes "goto ") text)
 
--- All harts went on until the history had so many turns, or to the first halt before. What the turns report is said, and where the
+-- All harts went on until the history had n turns, or to the first halt before. What the turns report is said, and where the
 -- history stands then.
 abbrev pub WentForth : ℕ → Size → Stops → ℕ → Timeline → Timeline → List ℕ → Type 0
 WentForth n size stops h old new said =

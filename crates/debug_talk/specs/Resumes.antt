@@ -30,7 +30,7 @@ steps (Some Step) = true
 steps (Some (StepWithin first end)) = true
 steps (Some Go) = false
 
--- none of the first so many harts is to step
+-- none of the first n harts is to step
 abbrev pub NoneSteps : ℕ → List (List ℕ) → Type 0
 NoneSteps n words = (h : ℕ) → h < n → steps (first_asked (h + 1) words) ≡ false
 

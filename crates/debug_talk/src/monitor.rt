@@ -110,7 +110,7 @@ fn run_text<C: Crew>(session: &mut Session<'_, C>, text: &[u8]) -> Result<String
     }
 }
 
-/// Ends a script of so many lines.
+/// Ends a script of `lines` lines.
 fn end_script(script: &mut String, lines: usize) -> Result<(), AllocError>
     ensures { OnOk result (string_bytes script.new ≡ ended_text lines (string_bytes script.old)) }
 {
@@ -155,7 +155,7 @@ fn report_and_when<C: Crew>(
     format!(in alloc; "{report}{when}")
 }
 
-/// Goes on until the history has so many turns, to the first halt: what the last of them reports, and where the history stands.
+/// Goes on until the history has `turns` turns, to the first halt: what the last of them reports, and where the history stands.
 fn go_forth<C: Crew>(
     session: &mut Session<'_, C>,
     hart: HartId,

@@ -11,7 +11,7 @@ pub rows_both : {Row : Type 0} (is : ℕ → Row → Type 0) (first n : ℕ) (xs
 rows_both is first n [] ys len a b = subst (λ (k : ℕ). AreRows is k ys) (let e : first + n ≡ first = omega (arith, len) in e) b
 rows_both is first n (x ∷ xs) ys len a b = (a.0, rows_both is (first + 1) (length xs) xs ys refl a.1 (subst (λ (k : ℕ). AreRows is k ys) (let e : first + n ≡ first + 1 + length xs = omega (arith, len) in e) b))
 
--- and then so many more
+-- and then n more
 pub handed_both : {Row S : Type 0} (is : ℕ → Row → Type 0) (takes : S → Row → S → Type 0) (first m n : ℕ) (s t u : S) → Handed is takes first m s t → Handed is takes (first + m) n t u → Handed is takes first (m + n) s u
 handed_both is takes first m n s t u a b = record {
   rows = a.rows ++ b.rows;

@@ -8,7 +8,7 @@ abbrev pub MayBeMade : {Row : Type 0} → (ℕ → Row → Type 0) → ℕ → O
 MayBeMade is n None = Unit {0}
 MayBeMade is n (Some made) = IfOk made (is n)
 
--- a place of a window of so many rows, which begins with that number, and what was made for it
+-- a place of a window of `size` rows from the number `first` on, and what was made for it
 abbrev pub IsPlaced : {Row : Type 0} → (ℕ → Row → Type 0) → ℕ → ℕ → ℕ × Result Row AllocError → Type 0
 IsPlaced is first size made = (made.0 < size) × MayBeMade is (first + made.0) (Some made.1)
 
@@ -27,7 +27,7 @@ abbrev pub TakesAll : {Row S : Type 0} → (S → Row → S → Type 0) → S �
 TakesAll takes s [] t = t ≡ s
 TakesAll {Row} {S} takes s (row ∷ rows) t = (mid : S) × takes s row mid × TakesAll takes mid rows t
 
--- The rows of so many numbers from that one on are taken in their order.
+-- The rows of `count` numbers from `first` on are taken in their order.
 pub record Handed {Row S : Type 0} (is : ℕ → Row → Type 0) (takes : S → Row → S → Type 0) (first count : ℕ) (old new : S) : Type 0 where
   pub rows : List Row
   pub many : length rows ≡ count

@@ -16,7 +16,7 @@ chunk_from from each k = from + k * each
 abbrev pub chunk_to : ℕ → ℕ → ℕ → ℕ → ℕ
 chunk_to from to each k = min to (chunk_from from each k + each)
 
--- part k of so many, k from 1
+-- part k of `of`, k from 1
 abbrev pub piece : {X : Type 0} → ℕ → ℕ → List X → List X
 piece k of xs = window ((k - 1) * length xs / of) (k * length xs / of) xs
 

@@ -13,7 +13,7 @@ use std::thread::Threads;
 /// The place of a row in the window, and the row, or why it was not made.
 type Placed<Row> = (usize, Result<Row, AllocError>);
 
-/// Makes rows of a window of so many, which begins with that number: each of the first place that no thread has taken yet, as long as
+/// Makes rows of a window of `size` rows from the number `first` on: each of the first place that no thread has taken yet, as long as
 /// there is one and memory to keep it.
 fn make_some<T: Task>(
     task: &T,
@@ -77,7 +77,7 @@ fn with_others<T: Task>(
     all
 }
 
-/// Makes rows as [`made_alone`] does, by so many threads. This one makes each of the others, so that the system finds a processor of its
+/// Makes rows as [`made_alone`] does, by `threads` threads. This one makes each of the others, so that the system finds a processor of its
 /// own for each, and then makes rows beside them.
 #[cycle(hands)]
 fn made_by<R: Threads + Sync, T: Task>(
@@ -131,8 +131,8 @@ fn place_one<T: Task>(
     slots[at] = Some(row);
 }
 
-/// Makes rows of the slots, which begin with that number, by so many threads, and puts them there. What memory is lacking for is left
-/// out.
+/// Makes rows of the slots, from the number `first` on, by `threads` threads, and puts them there. A row for which memory is lacking is
+/// left out.
 pub(crate) fn make_rows<R: Threads + Sync, T: Task>(
     rt: &R,
     alloc: Global,

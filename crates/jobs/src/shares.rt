@@ -55,7 +55,7 @@ impl Window {
         }
     }
 
-    /// How many chunks of so many each they are: each chunk has some, and the last may have fewer.
+    /// How many chunks of `each` numbers they are: each chunk has some, and the last may have fewer.
     #[tactic(auto, using(crate::proofs::Chunked::chunks_cover, crate::proofs::Chunked::chunk_begins))]
     pub fn chunks(self, each: u64) -> u64
         requires { 0 < each }
@@ -65,7 +65,7 @@ impl Window {
         (self.to - self.from).div_ceil(each)
     }
 
-    /// Chunk k of so many each, k from 0.
+    /// Chunk k, k from 0, where a chunk has `each`.
     pub fn chunk(self, each: u64, k: u64) -> Window
         requires { chunk_from self.from each k < self.to }
         ensures from { result.from ≡ chunk_from self.from each k }

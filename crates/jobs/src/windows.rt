@@ -24,7 +24,7 @@ pub struct Jobs<'a, R, P = ()> {
 }
 
 impl<'a, R> Jobs<'a, R, ()> {
-    /// At most so many threads, of which the handle makes them. One hands on each row as it is made. Nobody is told how far they are.
+    /// At most `count` threads, which the handle makes. One hands on each row as it is made. Nobody is told how far they are.
     pub fn new(rt: &'a R, count: usize) -> Jobs<'a, R, ()>
         requires { 0 < count }
     {
@@ -33,7 +33,7 @@ impl<'a, R> Jobs<'a, R, ()> {
 }
 
 impl<'a, R, P: Progress> Jobs<'a, R, P> {
-    /// At most so many threads, of which the handle makes them, and who is told how far they are. One hands on each row as it is made.
+    /// At most `count` threads, which the handle makes, and who is told how far they are. One hands on each row as it is made.
     pub fn telling(rt: &'a R, count: usize, progress: P) -> Jobs<'a, R, P>
         requires { 0 < count }
     {
@@ -140,8 +140,8 @@ fn no_rows<Row: Drop>(
     Ok(slots)
 }
 
-/// Makes so many rows from that number on, and hands them on. Where there are several threads, and several rows, these make
-/// them first.
+/// Makes `size` rows from the number `first` on, and hands them on. Where there are several threads, and several rows, the
+/// threads make them first.
 fn run_window<R: Threads + Sync, P: Progress, T: Task, S: Sink<T::Row>>(
     jobs: &Jobs<'_, R, P>,
     alloc: Global,
@@ -162,7 +162,7 @@ fn run_window<R: Threads + Sync, P: Progress, T: Task, S: Sink<T::Row>>(
     hand_on(task, first, slots.as_mut_slice(), sink, &jobs.progress)
 }
 
-/// Makes so many rows from that number on, by the threads of these jobs, and hands them on in order. A window of rows is
+/// Makes `count` rows from the number `first` on, by the threads of these jobs, and hands them on in order. A window of rows is
 /// kept at a time, which are handed on once all of them are made. The sink tells how far the run is.
 ///
 /// It ends at the first row for which there is no memory, or that the sink refuses, with that error. All rows before it were

@@ -20,7 +20,7 @@ use Rattle.kernel_check.specs.Tells.{Comes, EndsWith, ShownBy}
 use Rattle.kernel_check.specs.declared.facts.EndShown.TheVariants as shown
 use Rattle.kernel_check.specs.declared.looks.Look.{Look}
 
--- bytes among the first so many
+-- bytes among the first `ram`
 part_in : (memory : List ℕ) (ram start bytes : ℕ) → start + bytes ≤ ram
     → slice_range (take ram memory) start (start + bytes) ≡ slice_range memory start (start + bytes)
 part_in memory ram start bytes within =
@@ -35,7 +35,7 @@ looked_in (look ∷ looks) ram memory are =
     ap (λ (part : List ℕ). part ++ looked looks (take ram memory)) (part_in memory ram look.start look.bytes (All-head (IsIn ram) look looks are))
     ∙ ap (λ (rest : List ℕ). slice_range memory look.start (look.start + look.bytes) ++ rest) (looked_in looks ram memory (All-tail (IsIn ram) look looks are))
 
--- the first so many bytes
+-- the first `ram` bytes
 whole : (memory : List ℕ) (ram : ℕ) → slice_range memory 0 ram ≡ take ram memory
 whole memory ram = let e : ram - 0 ≡ ram = omega arith in ap (λ (n : ℕ). take n memory) e
 

@@ -44,7 +44,7 @@ HasSymbol None name symbol = ⊥
 HasSymbol (Some elf) name symbol =
     (k : ℕ) × IsFirstNamed elf.tables.symbols.now elf.tables.names.now name k × (symbol ≡ symbol_of (entry_at elf.tables.symbols.now k))
 
--- the bytes of a symbol, and so many where it has no size
+-- the bytes of a symbol, and `bytes` where it has no size
 abbrev pub bytes_or : ℕ → Symbol → ℕ
 bytes_or bytes symbol = if symbol.size == 0 then bytes else symbol.size
 

@@ -9,7 +9,7 @@ abbrev pub looked : List Look → List ℕ → List ℕ
 looked [] memory = []
 looked (look ∷ looks) memory = slice_range memory look.start (look.start + look.bytes) ++ looked looks memory
 
--- their bytes are in a RAM of so many bytes
+-- a look's bytes are in a RAM of `ram` bytes
 abbrev pub IsIn : ℕ → Look → Type 0
 IsIn ram look = look.start + look.bytes ≤ ram
 

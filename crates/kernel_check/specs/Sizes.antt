@@ -5,7 +5,7 @@ use Rattle.kernel_check.specs.declared.given.FailureKind.{FailureKind}
 use Rattle.kernel_check.specs.declared.given.FailureKind.TheVariants as failures
 use lib.Chars.{codes}
 
--- so many of a unit, below 2 ^ 64
+-- n of a unit, below 2 ^ 64
 abbrev pub times : ℕ → Option ℕ → Option ℕ
 times unit None = None
 times unit (Some n) = if nat_lt (n * unit) (2 ^ 64) then Some (n * unit) else None

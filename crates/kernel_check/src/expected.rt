@@ -6,7 +6,7 @@ ghost use Rattle.kernel_check.specs.Shown.{IsAsExpected, Meet, ShowsSome};
 use crate::facts::EndShown;
 use crate::looks::Look;
 
-/// The first bytes, so many if there are, and those after them.
+/// The first bytes, `count` if there are, and those after them.
 pub fn parted(bytes: &[u8], count: usize) -> (&[u8], &[u8])
     ensures front { result.0.now ≡ take count bytes.now }
     ensures back { result.1.now ≡ drop count bytes.now }

@@ -53,7 +53,7 @@ pub struct Kernel<'a> {
 /// The symbol that the guest kit's linker script puts at the end of the RAM for which a kernel is built.
 const RAM_END: &[u8] = b"stacks_end";
 
-/// The fewest pages that hold so many bytes, at least one.
+/// The fewest pages that hold `bytes` bytes, at least one.
 fn pages_of(bytes: u64) -> u64 {
     bytes.div_ceil(PAGE_BYTES as u64).max(1)
 }

@@ -50,7 +50,7 @@ fn symbol_of(elf: Option<&Elf<'_>>, name: &str) -> Option<Symbol>
     elf?.symbol(name.as_bytes())
 }
 
-/// The bytes of a symbol, and so many where it has no size.
+/// The bytes of a symbol, and `bytes` where it has no size.
 fn bytes_or(bytes: u64, symbol: Symbol) -> u64
     ensures { result ≡ bytes_or bytes symbol }
 {
@@ -68,7 +68,7 @@ fn place_of(elf: Option<&Elf<'_>>, name: &str) -> Option<(u64, u64)>
     Some((symbol.address, bytes_or(WORD_BYTES, symbol)))
 }
 
-/// The place of so many bytes from an address on, from the start of RAM on, where they all are in a RAM of that size.
+/// The place of `bytes` bytes from an address on, from the start of RAM on, where they all are in a RAM of that size.
 fn place_in(ram_bytes: usize, address: u64, bytes: u64) -> Option<usize>
     ensures at { IfSome result (λ start. 0x80000000 + start ≡ address) }
     ensures within { IfSome result (λ start. start + bytes ≤ ram_bytes) }
@@ -81,7 +81,7 @@ fn place_in(ram_bytes: usize, address: u64, bytes: u64) -> Option<usize>
     Some(start as usize)
 }
 
-/// The bytes that a word names on a board with a RAM of so many bytes.
+/// The bytes that a word names on a board with a RAM of `ram_bytes` bytes.
 pub fn look_at(
     alloc: Global,
     elf: Option<&Elf<'_>>,

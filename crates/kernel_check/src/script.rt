@@ -69,7 +69,7 @@ fn add_step(lines: &mut Vec<Line>, shape: &Shape, step: &OrderStep) -> Result<()
     Ok(())
 }
 
-/// A line that looks at so many bytes, from so many past the begin of RAM on.
+/// A line that looks at `bytes` bytes, from `start` bytes past the begin of RAM on.
 fn look_line(start: u64, bytes: u64) -> Line {
     let address = RAM_BASE.saturating_add(start);
     Line::Show(LineLook::Mem(address, bytes.min(MOST_LOOK) as u32))

@@ -15,7 +15,7 @@ use Rattle.sbigdb.specs.declared.given.Begin.TheVariants.{Cut, End, Failure, Sch
 use Rattle.sbigdb.specs.declared.given.DebugOptions.{DebugOptions}
 use lib.Chars.{codes}
 
--- a number from 1 to so many
+-- a number from 1 to `most`
 abbrev pub number_up_to : ℕ → Option ℕ → Option ℕ
 number_up_to most None = None
 number_up_to most (Some n) = if nat_lt n 1 then None else (if nat_lt most n then None else Some n)
