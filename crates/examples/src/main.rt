@@ -1,22 +1,26 @@
 //! `examples`: runs each script of a folder and of `cases` there, once with each crew, and compares what it
-//! writes with the report beside it; and makes the runs of `runs` there, and compares what each comes to
-//! (README.md). Status 0 where all is so; else 1, and standard error names the first that is not. The folder is the
-//! word on the command line, or the one that the program runs in.
+//! writes with the report beside it; makes the runs of `runs` there, and compares what each comes to; and checks the
+//! kernels of `checks` as the command lines of the transcript there ask, and compares what is told of them (README.md).
+//! Status 0 where all is so; else 1, and standard error names the first that is not. The folder is the word on the
+//! command line, or the one that the program runs in.
 //!
 //! With the word `--left` it runs the script of standard input alone, and writes how that ended, what a power-on
-//! over the disk that is left finds, and the report, as far as it was written (tools/refuse-memory).
+//! over the disk that is left finds, and the report, as far as it was written (tools/trials/refuse-memory).
 #![tactic(auto)]
 
+mod checks;
 mod files;
 mod left;
 mod reported;
 mod runs;
 mod streams;
 
+use crate::checks::retell;
 use crate::files::Folder;
 use crate::left::tell;
 use crate::reported::{AsReported, ExampleFault, compare_report};
 use crate::runs::{AsTold, RunFault, compare_run};
+use bench_sweep::line_apart;
 use crew::{Crew, Sequential, Threads};
 use std::path::Path;
 use std::process::ExitCode;
@@ -30,6 +34,12 @@ const CASES: &str = "cases";
 
 /// The folder of the runs, beside the examples.
 const RUNS: &str = "runs";
+
+/// The folder of the kernels that are checked, beside the examples.
+const CHECKS: &str = "checks";
+
+/// The file there that has command lines of `sbicheck`, and what is told of each.
+const TRANSCRIPT: &str = "transcript";
 
 /// How a run's name ends.
 const RUN: &str = ".run";
@@ -141,7 +151,27 @@ fn compare_runs<R: thread::Threads + Sync>(
     Ok(true)
 }
 
-/// Compares the scripts of the folder and of its `cases`, and makes its `runs`. Answers whether all is well.
+/// Checks the kernels of the folder as its transcript asks. Answers whether that is what comes of it.
+fn compare_checks<R: thread::Threads + Sync>(
+    threads: &R,
+    folder: Folder<'_>,
+) -> anyhow::Result<bool> {
+    let rt = folder.rt;
+    let transcript = file_of(rt, folder.path, TRANSCRIPT, "")?;
+    let mut told = Vec::new(rt.alloc());
+    retell(threads, folder, str::from_utf8(&transcript)?, &mut told)?;
+    match line_apart(told.as_slice(), transcript.as_slice()) {
+        None => println!(rt; "{CHECKS}/{TRANSCRIPT} as told")?,
+        Some(line) => {
+            eprintln!(rt; "examples: {CHECKS}/{TRANSCRIPT}: differs from line {line} on")?;
+            return Ok(false);
+        }
+    }
+    Ok(true)
+}
+
+/// Compares the scripts of the folder and of its `cases`, makes its `runs`, and checks the kernels of its `checks`. Answers
+/// whether all is well.
 fn compare_folder<R: thread::Threads + Sync>(
     rt: &HostRuntime,
     threads: &R,
@@ -150,9 +180,15 @@ fn compare_folder<R: thread::Threads + Sync>(
     let crews = (Sequential::<R>::new([0, 1, 2, 3])?, Threads::new(threads));
     let cases = format!(in rt.alloc(); "{folder}/{CASES}")?;
     let runs = format!(in rt.alloc(); "{folder}/{RUNS}")?;
+    let checks = format!(in rt.alloc(); "{folder}/{CHECKS}")?;
+    let checked = Folder {
+        rt,
+        path: checks.as_str(),
+    };
     let is_well = compare_all(rt, &crews.0, &crews.1, folder)?
         && compare_all(rt, &crews.0, &crews.1, &cases)?
-        && compare_runs(threads, Folder { rt, path: folder }, &runs)?;
+        && compare_runs(threads, Folder { rt, path: folder }, &runs)?
+        && compare_checks(threads, checked)?;
     Ok(is_well)
 }
 
