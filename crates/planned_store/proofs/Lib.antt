@@ -7,3 +7,13 @@ pub mod Applying
 pub mod Opening
 pub mod FormatEnds
 pub mod Begins
+mod Counting
+mod LoadBounds
+mod LoadSteps
+mod LoadEnds
+mod Chunks
+mod SaveBounds
+mod SaveSteps
+mod SavingArea
+mod SavedRecords
+mod SaveEnds

@@ -5,3 +5,11 @@ pub mod Reached
 pub mod Stores
 pub mod Opens
 pub mod Formats
+pub mod Loads
+pub mod LoadServed
+pub mod LoadReached
+pub mod Images
+pub mod Saves
+pub mod SaveServed
+pub mod SaveReached
+pub mod Suspends

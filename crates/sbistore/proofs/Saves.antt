@@ -11,10 +11,10 @@ use Rattle.planned_store.specs.declared.commits.Selected.{Selected}
 use Rattle.planned_store.specs.declared.plans.Plan.TheVariants.{Committing}
 use Rattle.planned_store.specs.declared.plans.Request.TheVariants.{Done}
 use Rattle.planned_store.specs.declared.stores.OpenStore.{OpenStore}
-use Rattle.planned_images.specs.Saves.{save_sector, save_asks, save_asks_at, saved_record, commit_at, commit_of, HasPage, NoSave}
-use Rattle.planned_images.specs.declared.saves.Saving.{Saving}
-use Rattle.planned_images.specs.declared.saves.SaveStep.{SaveStep}
-use Rattle.planned_images.specs.declared.saves.SaveStep.TheVariants.{WriteHead, WritePage, SyncArea, Saved, Failed}
+use Rattle.planned_store.specs.Saves.{save_sector, save_asks, save_asks_at, saved_record, commit_at, commit_of, HasPage, NoSave}
+use Rattle.planned_store.specs.declared.saves.Saving.{Saving}
+use Rattle.planned_store.specs.declared.saves.SaveStep.{SaveStep}
+use Rattle.planned_store.specs.declared.saves.SaveStep.TheVariants.{WriteHead, WritePage, SyncArea, Saved, Failed}
 use Rattle.sbistore.specs.Ends.{Keeps}
 use Rattle.sbistore.specs.Images.{save_number, with_save, resumption, IsSavePacked, IsSaveSound, AsksSave, IsAskedSave, SaveBegun}
 use Rattle.sbistore.specs.Packed.{IsSelectedSound}

@@ -4,16 +4,16 @@ use Rattle.std.specs.Prelude.{◌≡◌, ◌⊎◌, ◌+◌, ◌^◌, ◌<◌, �
 use Rattle.board_model.specs.Shapes.{Size, IsValidAddress}
 use Rattle.board_model.specs.Views.{number_of_refusal}
 use Rattle.board_model.specs.declared.refusal.Refusal.{Refusal}
-use Rattle.planned_images.specs.Loads.{load_asks, LoadGoes, loaded_by, PlansLoad, NoLoad}
-use Rattle.planned_images.specs.declared.loads.Loading.{Loading}
-use Rattle.planned_images.specs.declared.loads.LoadStep.{LoadStep}
-use Rattle.planned_images.specs.declared.loads.LoadStep.TheVariants.{ReadHead, ReadPage}
-use Rattle.planned_images.specs.declared.requests.ImageRequest.{ImageRequest}
-use Rattle.planned_images.specs.declared.requests.ImageRequest.TheVariants as requests
-use Rattle.planned_images.specs.Saves.{save_asks, SavePuts, SaveGoes, commit_of, PlansSave, NoSave}
-use Rattle.planned_images.specs.declared.saves.Saving.{Saving}
-use Rattle.planned_images.specs.declared.saves.SaveStep.{SaveStep}
-use Rattle.planned_images.specs.declared.saves.SaveStep.TheVariants as saves
+use Rattle.planned_store.specs.Loads.{load_asks, LoadGoes, loaded_by, PlansLoad, NoLoad}
+use Rattle.planned_store.specs.declared.loads.Loading.{Loading}
+use Rattle.planned_store.specs.declared.loads.LoadStep.{LoadStep}
+use Rattle.planned_store.specs.declared.loads.LoadStep.TheVariants.{ReadHead, ReadPage}
+use Rattle.planned_store.specs.declared.requests.ImageRequest.{ImageRequest}
+use Rattle.planned_store.specs.declared.requests.ImageRequest.TheVariants as requests
+use Rattle.planned_store.specs.Saves.{save_asks, SavePuts, SaveGoes, commit_of, PlansSave, NoSave}
+use Rattle.planned_store.specs.declared.saves.Saving.{Saving}
+use Rattle.planned_store.specs.declared.saves.SaveStep.{SaveStep}
+use Rattle.planned_store.specs.declared.saves.SaveStep.TheVariants as saves
 use Rattle.planned_store.specs.Commits.{Answer}
 use Rattle.planned_store.specs.Plans.{asked, Puts}
 use Rattle.planned_store.specs.declared.commits.Commit.{Commit}

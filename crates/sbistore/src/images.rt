@@ -1,12 +1,12 @@
 //! A load and a suspension: their plans, to the numbers and bytes that C keeps beside the open store, and back.
 ghost use Rattle.std.specs.Prelude.{◌≡◌, ◌<◌, ◌≤◌, Some, None, IfSome, IfNone};
 ghost use Rattle.board_model.specs.Shapes.{Size, IsValidAddress};
-ghost use Rattle.planned_images.specs.Loads.{HasPlace, LoadGoes, load_asks, loaded_by};
-ghost use Rattle.planned_images.specs.Saves.{HasPage, SaveGoes, SavePuts, save_asks};
-ghost use Rattle.planned_images.specs.declared.loads.Loading.{Loading};
-ghost use Rattle.planned_images.specs.declared.loads.LoadStep.{LoadStep};
-ghost use Rattle.planned_images.specs.declared.saves.Saving.{Saving};
-ghost use Rattle.planned_images.specs.declared.saves.SaveStep.{SaveStep};
+ghost use Rattle.planned_store.specs.Loads.{HasPlace, LoadGoes, load_asks, loaded_by};
+ghost use Rattle.planned_store.specs.Saves.{HasPage, SaveGoes, SavePuts, save_asks};
+ghost use Rattle.planned_store.specs.declared.loads.Loading.{Loading};
+ghost use Rattle.planned_store.specs.declared.loads.LoadStep.{LoadStep};
+ghost use Rattle.planned_store.specs.declared.saves.Saving.{Saving};
+ghost use Rattle.planned_store.specs.declared.saves.SaveStep.{SaveStep};
 ghost use Rattle.planned_store.specs.Commits.{Answer};
 ghost use Rattle.planned_store.specs.declared.stores.OpenStore.{OpenStore};
 ghost use Rattle.sbistore.specs.Ends.{answer_code};
@@ -18,8 +18,7 @@ use crate::state::{DONE, READ, READ_PAGE, SPOILT, SYNC, Sbistore, WRITE, WRITE_P
 use crate::{answer, ask, code_of, end};
 use board_model::{Refusal, Shape};
 use disk::Sector;
-use planned_images::{ImageRequest, LoadStep, Loading, SaveStep, Saving};
-use planned_store::{OpenStore, Plan};
+use planned_store::{ImageRequest, LoadStep, Loading, OpenStore, Plan, SaveStep, Saving};
 use store::Resumption;
 
 /// A load is under way.

@@ -6,10 +6,10 @@ ghost use Rattle.std.specs.Prelude.{◌≡◌, ◌<◌, ℕ, Bool, Some, None, I
 ghost use Rattle.layout.specs.Records.{durable_in};
 ghost use Rattle.board_model.specs.Shapes.{IsSize, board_size};
 ghost use Rattle.board_model.specs.declared.durable.Command.{Command};
-ghost use Rattle.planned_images.specs.Saves.{HasBoard, NoSave};
+ghost use Rattle.planned_store.specs.Saves.{HasBoard, NoSave};
 ghost use Rattle.store.specs.declared.saving.Resumption.{Resumption};
-ghost use Rattle.planned_images.specs.declared.loads.Loading.{Loading};
-ghost use Rattle.planned_images.specs.declared.saves.Saving.{Saving};
+ghost use Rattle.planned_store.specs.declared.loads.Loading.{Loading};
+ghost use Rattle.planned_store.specs.declared.saves.Saving.{Saving};
 ghost use Rattle.planned_store.specs.Commits.{Answer};
 ghost use Rattle.planned_store.specs.Opens.{opened_by};
 ghost use Rattle.planned_store.specs.Plans.{asked, Puts, Goes, BeginsOpen, BeginsFormat};
@@ -29,8 +29,7 @@ use board_model::{Command, Entry, Reason, Refusal, Shape};
 use disk::{Fault, Sector};
 use images::{LOADING, SAVING, begin_load, begin_save, next_of_load, next_of_save, resumption};
 use packing::{NONE, keep, pack, plan_of, store_of};
-use planned_images::{plan_load, plan_suspend};
-use planned_store::{OpenStore, Plan, Request};
+use planned_store::{OpenStore, Plan, Request, plan_load, plan_suspend};
 use state::{DONE, Durable, NO_COMMAND, NOT_OPEN, READ, SPOILT, SYNC, Sbistore, WRITE, tell};
 
 /// Begins an open of a device of so many sectors. What was open in this state is no more.

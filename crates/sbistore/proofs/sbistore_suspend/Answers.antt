@@ -1,6 +1,6 @@
 use Rattle.std.proofs.Common.{subst}
 use Rattle.store.specs.declared.saving.Resumption.{Resumption}
-use Rattle.planned_images.specs.Saves.{NoSave}
+use Rattle.planned_store.specs.Saves.{NoSave}
 use Rattle.planned_store.specs.declared.stores.OpenStore.{OpenStore}
 use Rattle.sbistore.specs.Images.{resumption}
 use Rattle.sbistore.proofs.Packed.{some_is}

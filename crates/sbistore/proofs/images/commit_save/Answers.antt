@@ -2,7 +2,7 @@ use Rattle.std.proofs.Common.{◌≡◌, ◌∙◌, Option, Some, refl, sym, ap,
 use Rattle.layout.specs.Records.{IsInRange}
 use Rattle.planned_store.specs.declared.commits.Commit.{Commit}
 use Rattle.planned_store.specs.declared.plans.Plan.TheVariants.{Committing}
-use Rattle.planned_images.specs.Saves.{commit_of}
+use Rattle.planned_store.specs.Saves.{commit_of}
 use Rattle.sbistore.specs.Images.{CommitsOrEnds}
 use Rattle.sbistore.specs.Packed.{IsSelectedSound, IsSound}
 use Rattle.sbistore.proofs.Saves.{commit_is, commit_asks}

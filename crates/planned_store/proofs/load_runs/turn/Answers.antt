@@ -1,0 +1,17 @@
+use Rattle.std.proofs.Common.{◌≡◌, ◌∙◌, rules, subst}
+use Rattle.planned_store.specs.LoadServed.{IsLoadServed}
+use Rattle.planned_store.specs.declared.requests.ImageRequest.{ImageRequest}
+use Rattle.planned_store.specs.declared.requests.ImageRequest.TheVariants.{Done}
+use Rattle.planned_store.proofs.LoadBounds.{goes_fewer}
+use Rattle.planned_store.proofs.LoadSteps.{goes_on}
+use Rattle.planned_store.proofs.load_runs.turn.Goals as goal
+
+pub returns-clause-goes : goal.returns-clause-goes
+returns-clause-goes g c start at =
+    let served = subst (λ (q : ImageRequest). IsLoadServed q (g.D.Disk.facts c.args.disk.now) (g.D.Disk.facts c.serve-answer.new.disk) (g.D.Disk.fault_state c.args.disk.now) (g.D.Disk.fault_state c.serve-answer.new.disk) c.serve-answer.result c.serve-answer.new.sector c.args.ram.now c.serve-answer.new.ram) c.asks-request.ensures.asked c.serve-answer.ensures.served in
+    goes_on g.D.Disk.facts g.D.Disk.fault_state (λ d. g.met.D.Disk.bounded d) start c.args.disk.now c.serve-answer.new.disk c.args.plan.now c.serve-answer.result c.serve-answer.new.sector c.args.ram.now c.serve-answer.new.ram at c.told.new.self served c.told.ensures.goes
+
+pub returns-clause-fewer : goal.returns-clause-fewer
+returns-clause-fewer g c is =
+    let more : c.asks-request.result ≡ Done → ⊥ = search rules in
+    goes_fewer c.args.plan.now c.serve-answer.new.sector c.told.new.self c.serve-answer.result c.requires.place (λ done. more (c.asks-request.ensures.asked ∙ done)) c.told.ensures.goes
