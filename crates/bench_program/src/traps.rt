@@ -1,12 +1,11 @@
 //! Harts that only trap: the first instruction of a trap's handler traps itself, and so on for ever.
 
-ghost use Rattle.std.specs.Prelude.{◌<◌, length, All, IfOk, OnOk};
+ghost use Rattle.std.specs.Prelude.{◌<◌, length, All};
 ghost use Rattle.script_lang.specs.Lines.{IsLineInRange};
 ghost use Rattle.script_lang.specs.Looks.{IsLookInRange};
-ghost use Rattle.bench_live.specs.Lives.{IsSound};
+ghost use Rattle.bench_report.specs.Lives.{IsSound};
 
-use bench_live::LiveBench;
-use bench_report::{Answer, Printed, Setting, lane_by_lane};
+use bench_report::{Answer, LiveBench, Printed, Setting, lane_by_lane};
 use board::Payloads;
 use board_model::{HartId, Refusal, Value};
 use crew::Crew;
@@ -62,7 +61,7 @@ fn shown<C: Crew>(
 ) -> Result<Option<u64>, AllocError>
     requires range { IsLookInRange setting.now.shape.now look }
     requires sound { IsSound live.old }
-    ensures sound { OnOk result (IsSound live.new) }
+    ensures sound { IsSound live.new }
 {
     let answer = live.run(setting, &Line::Show(look))?;
     match answer.line {
@@ -80,7 +79,7 @@ fn trap_of<C: Crew>(
 ) -> Result<Option<Trap>, AllocError>
     requires hart { hart < setting.now.shape.now.harts }
     requires sound { IsSound live.old }
-    ensures sound { OnOk result (IsSound live.new) }
+    ensures sound { IsSound live.new }
 {
     let pc = shown(setting, live, Look::Pc(hart))?;
     let handler = shown(setting, live, Look::Csr(hart, STVEC))?;
@@ -97,20 +96,20 @@ fn trap_of<C: Crew>(
     }
 }
 
-/// The bench after those lines.
-fn bench_behind<C: Crew>(
+/// Whether the hart has just come to its handler from the handler's first instruction; not where the board is off.
+fn traps_at_handler<C: Crew>(
     setting: &Setting<'_, C>,
-    lines: &[Line],
-    payloads: &Payloads,
-) -> Result<LiveBench, AllocError>
-    requires ranges { All (IsLineInRange setting.now.shape.now) lines.now }
-    ensures sound { IfOk result (λ live. IsSound live) }
+    live: &mut LiveBench,
+    hart: HartId,
+) -> Result<bool, AllocError>
+    requires hart { hart < setting.now.shape.now.harts }
+    requires sound { IsSound live.old }
+    ensures sound { IsSound live.new }
 {
-    let mut live = LiveBench::blank(setting.alloc, setting.shape, payloads)?;
-    for line in lines {
-        live.run(setting, line)?;
+    match trap_of(setting, live, hart)? {
+        Some(now) => Ok(now.is_from(now.handler)),
+        None => Ok(false),
     }
-    Ok(live)
 }
 
 /// Whether a hart made its turn: one that waits, or was not started, makes none.
@@ -121,26 +120,42 @@ fn is_made(answer: &Answer) -> bool {
     )
 }
 
+/// A turn of that hart. Answers where it stands then, and whether the turn was made; None where the board is off.
+fn turn_of<C: Crew>(
+    setting: &Setting<'_, C>,
+    live: &mut LiveBench,
+    hart: HartId,
+) -> Result<Option<(Trap, bool)>, AllocError>
+    requires hart { hart < setting.now.shape.now.harts }
+    requires sound { IsSound live.old }
+    ensures sound { IsSound live.new }
+{
+    let answer = live.run(setting, &Line::Turn(hart, 1))?;
+    match trap_of(setting, live, hart)? {
+        Some(now) => Ok(Some((now, is_made(&answer)))),
+        None => Ok(None),
+    }
+}
+
 /// The trap from which on a hart only traps, in `count` turns from there on; None where there is none.
 fn first_trap<C: Crew>(
     setting: &Setting<'_, C>,
-    mut live: LiveBench,
+    live: &mut LiveBench,
     hart: HartId,
     count: u32,
 ) -> Result<Option<Trap>, AllocError>
     requires hart { hart < setting.now.shape.now.harts }
-    requires sound { IsSound live }
+    requires sound { IsSound live.old }
 {
-    let Some(mut before) = trap_of(setting, &mut live, hart)? else {
+    let Some(mut before) = trap_of(setting, live, hart)? else {
         return Ok(None);
     };
     let mut first = before;
     for _ in 0..count {
-        let answer = live.run(setting, &Line::Turn(hart, 1))?;
-        let Some(now) = trap_of(setting, &mut live, hart)? else {
+        let Some((now, made)) = turn_of(setting, live, hart)? else {
             return Ok(None);
         };
-        if is_made(&answer) && now.is_from(before.pc) {
+        if made && now.is_from(before.pc) {
             if before.pc == now.handler {
                 return Ok(Some(first));
             }
@@ -149,6 +164,42 @@ fn first_trap<C: Crew>(
         before = now;
     }
     Ok(None)
+}
+
+/// Runs those lines.
+fn run_lines<C: Crew>(
+    setting: &Setting<'_, C>,
+    lines: &[Line],
+    live: &mut LiveBench,
+) -> Result<(), AllocError>
+    requires ranges { All (IsLineInRange setting.now.shape.now) lines.now }
+    requires sound { IsSound live.old }
+    ensures sound { IsSound live.new }
+{
+    for line in lines {
+        live.run(setting, line)?;
+    }
+    Ok(())
+}
+
+/// The trap from which on a hart only traps, in `count` turns after those lines; None where there is none.
+fn first_trap_after<C: Crew>(
+    setting: &Setting<'_, C>,
+    lines: &[Line],
+    payloads: &Payloads,
+    hart: HartId,
+    count: u32,
+) -> Result<Option<Trap>, AllocError>
+    requires ranges { All (IsLineInRange setting.now.shape.now) lines.now }
+    requires hart { hart < setting.now.shape.now.harts }
+{
+    let mut live = LiveBench::blank(setting.alloc, setting.shape, payloads)?;
+    let found = match run_lines(setting, lines, &mut live) {
+        Ok(()) => first_trap(setting, &mut live, hart, count),
+        Err(refused) => Err(refused),
+    };
+    live.release();
+    found
 }
 
 /// Tells of a hart that only traps, and of the trap with which that began.
@@ -172,19 +223,15 @@ fn trap_in_row<C: Crew>(
     requires ranges { All (IsLineInRange setting.now.shape.now) lines.now }
     requires place { place < length lines.now }
     requires sound { IsSound live.old }
-    ensures sound { OnOk result (IsSound live.new) }
+    ensures sound { IsSound live.new }
 {
     let &Line::Turn(hart, count) = &lines[place] else {
         return Ok(None);
     };
-    let Some(now) = trap_of(setting, live, hart)? else {
-        return Ok(None);
-    };
-    if !now.is_from(now.handler) {
+    if !traps_at_handler(setting, live, hart)? {
         return Ok(None);
     }
-    let before = bench_behind(setting, &lines[..place], payloads)?;
-    match first_trap(setting, before, hart, count)? {
+    match first_trap_after(setting, &lines[..place], payloads, hart, count)? {
         Some(first) => Ok(Some((hart, first))),
         None => Ok(None),
     }
@@ -199,15 +246,16 @@ fn is_told(told: &[bool; 8], line: &Line) -> bool {
 }
 
 /// Runs those lines, and tells of each hart that comes to trap at its own handler for ever.
-fn tell_traps_of<C: Crew, F: Write>(
+fn tell_while_running<C: Crew, F: Write>(
     setting: &Setting<'_, C>,
     lines: &[Line],
+    live: &mut LiveBench,
     payloads: &Payloads,
     faults: &mut F,
 ) -> Result<(), AllocError>
     requires ranges { All (IsLineInRange setting.now.shape.now) lines.now }
+    requires sound { IsSound live.old }
 {
-    let mut live = LiveBench::blank(setting.alloc, setting.shape, payloads)?;
     let mut left = MOST_TURNS;
     let mut told = [false; 8];
     for place in 0..lines.len() {
@@ -220,12 +268,27 @@ fn tell_traps_of<C: Crew, F: Write>(
         if is_told(&told, line) {
             continue;
         }
-        if let Some((hart, first)) = trap_in_row(setting, &mut live, lines, place, payloads)? {
+        if let Some((hart, first)) = trap_in_row(setting, live, lines, place, payloads)? {
             tell_trap(faults, hart, first);
             told[hart.index()] = true;
         }
     }
     Ok(())
+}
+
+/// Tells of each hart that comes to trap at its own handler for ever in those lines, over a blank bench.
+fn tell_traps_of<C: Crew, F: Write>(
+    setting: &Setting<'_, C>,
+    lines: &[Line],
+    payloads: &Payloads,
+    faults: &mut F,
+) -> Result<(), AllocError>
+    requires ranges { All (IsLineInRange setting.now.shape.now) lines.now }
+{
+    let mut live = LiveBench::blank(setting.alloc, setting.shape, payloads)?;
+    let told = tell_while_running(setting, lines, &mut live, payloads, faults);
+    live.release();
+    told
 }
 
 /// Tells of each hart of a script that comes to trap at its own handler for ever, which a report does not show: the cause and the

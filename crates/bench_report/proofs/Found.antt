@@ -52,7 +52,7 @@ use Rattle.bench_report.specs.Prefix.{AskedLine, Boot, Command, Guest, Nothing, 
 use Rattle.bench_report.specs.AllFound.{LineMakes, ShownMakes, AreAllFound, FindAll, FindsAll}
 use Rattle.bench_report.proofs.Issues.{is_up, takes_more, GoesOn, IsSound}
 use Rattle.board.proofs.Few.{few_commands}
-use Rattle.bench_report.proofs.Rows.{commands_taken, all_or_failed}
+use Rattle.bench_report.proofs.TurnLines.{commands_taken, all_or_failed}
 use Rattle.bench_report.proofs.Determined.{CalmDisk, IsCalm, DiskHasFailed, fails, kept_as}
 use Rattle.bench_report.proofs.Single.{moves_fair, run_fair, struck_fails}
 use Rattle.bench_report.proofs.Asks.{line_asks-asked_by, firmware_alone}

@@ -15,7 +15,7 @@ pub mod Dozed
 pub mod Ended
 pub mod Told
 pub mod Determined
-pub mod Rows
+pub mod TurnLines
 pub mod Asks
 pub mod Beside
 pub mod Questions
@@ -42,4 +42,10 @@ pub mod Crews
 pub mod Lines
 pub mod RunLines
 pub mod Found
-pub mod Cuts
+pub mod CutLines
+pub mod Turns
+pub mod Joins
+pub mod Idles
+pub mod IdleRows
+pub mod InPlace
+pub mod Lives

@@ -1,7 +1,9 @@
 -- The lines of a run, one after another.
-use Rattle.std.proofs.Common.{◌≡◌, ◌∙◌, ℕ, zero, suc, ◌+◌, ◌<◌, ◌≤◌, List, [], ◌∷◌, ◌++◌, length, take, drop, get_or, refl, sym, ap, subst, arith, Result, Ok, Err, OnOk, OnErr}
+use Rattle.std.proofs.Common.{◌≡◌, ◌∙◌, ℕ, zero, suc, ◌+◌, ◌<◌, ◌≤◌, List, [], ◌∷◌, ◌++◌, length, take, drop, get_or, Option, None, Some, refl, sym, ap, subst, arith, Result, Ok, Err, OnOk, OnErr}
 use Rattle.std.proofs.lemmas.List.{take_more}
 use Rattle.board_model.specs.Shapes.{Size}
+use Rattle.board_model.specs.declared.durable.Durable.{Durable}
+use Rattle.report_lines.specs.Texts.{found_count}
 use Rattle.script_lang.specs.declared.line.Line.{Line}
 use Rattle.report_lines.specs.declared.printed.Answer.{Answer}
 use Rattle.bench_report.specs.Bench.{Bench, bench_with}
@@ -23,6 +25,11 @@ pub run_more : (size : Size) (ls : List Line) (i : ℕ) (d : Line) (b : Bench) (
 run_more size ls i d b answers mid a new less run moves =
     let P : List Line → Type 0 = λ xs. Run size b xs (answers ++ a ∷ []) new in
     subst P (sym (take_more ls i d less)) (run_snoc size (take i ls) b answers mid (get_or ls i d) a new run moves)
+
+-- an answer counts a found line at most beside its own
+pub few_found : (found : Option Durable) → found_count found ≤ 1
+few_found None = omega arith
+few_found (Some d) = omega arith
 
 -- what holds where a call is answered
 pub on_ok : {A E : Type 0} (r : Result A E) (P Q : Type 0) → (P → Q) → OnOk r P → OnOk r Q

@@ -37,7 +37,7 @@ use Rattle.bench_report.proofs.Determined.{begun_size, kept_as}
 use Rattle.bench_report.proofs.Devices.{fails_as, stays_as}
 use Rattle.bench_report.proofs.Sides.{sides_before, starved_sides, all_written}
 use Rattle.board.proofs.Few.{few_commands}
-use Rattle.bench_report.proofs.Rows.{AreTaken, taken_at, commands_taken, few_of, follows_all, all_issue, all_but}
+use Rattle.bench_report.proofs.TurnLines.{AreTaken, taken_at, commands_taken, few_of, follows_all, all_issue, all_but}
 use Rattle.bench_report.proofs.Ended.{left_only, left_either}
 use Rattle.bench_report.proofs.KeptDisks.{KeptLaw, BlankLaw}
 use Rattle.bench_report.proofs.Opening.{opens, open_err}

@@ -40,3 +40,7 @@ pub mod Resumes
 pub mod Views
 -- How the code's disk and board stand for the bench of the model.
 pub mod Agree
+-- Turns of a hart, as the relation of a line has them.
+pub mod Rows
+-- How a bench that is run line by line stands for the bench of the model.
+pub mod Lives

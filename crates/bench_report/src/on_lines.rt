@@ -21,18 +21,6 @@ use report_lines::{Answer, Printed};
 use simdisk::SimDisk;
 use std::alloc::Global;
 
-/// Issues a command of the console on a board that is on.
-fn issue(board: &mut Board<SimDisk>, command: ConsoleCommand) -> Answer
-    ensures { (size : Size) (b : Bench) (life : BenchLife) → b.power ≡ Some life → OnIs size b board.old
-        → (new : Bench) × ConsoleStep command (Some life) b result new × OnIs size new board.new
-        × (new.payloads ≡ b.payloads) }
-{
-    match board.console(command) {
-        Ok(receipt) => says(Printed::Acknowledged(command, receipt.number())),
-        Err(e) => says(Printed::CommandRefused(command, e.code())),
-    }
-}
-
 /// Calls the wake-up device of a board that is on.
 fn wake(board: &mut Board<SimDisk>) -> Answer
     ensures { (size : Size) (b : Bench) (life : BenchLife) → b.power ≡ Some life → OnIs size b board.old
@@ -52,7 +40,10 @@ pub fn console(command: ConsoleCommand, power: &mut Power) -> Answer
 {
     match power {
         Power::Off(_) => says(Printed::Off),
-        Power::On(board) => issue(board, command),
+        Power::On(board) => match board.console(command) {
+            Ok(receipt) => says(Printed::Acknowledged(command, receipt.number())),
+            Err(e) => says(Printed::CommandRefused(command, e.code())),
+        },
     }
 }
 

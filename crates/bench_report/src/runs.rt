@@ -1,27 +1,27 @@
 //! Whole scripts.
 //! A law runs nothing, and tells the prover a fact: `blank_disks`.
 
-ghost use Rattle.std.specs.Prelude.{◌≡◌, ◌⊎◌, ◌+◌, ◌++◌, ◌<◌, ◌≤◌, ◌^◌, length, take, Option, Result, ℕ, List, All, IfOk, IfErr, IfSome, OnErr, OnOk, Ok, Err, None, MatchResult};
+ghost use Rattle.std.specs.Prelude.{◌≡◌, ◌⊎◌, ◌+◌, ◌++◌, ◌<◌, ◌≤◌, length, take, Option, Result, ℕ, List, All, IfOk, IfErr, IfSome, OnErr, OnOk, Ok, Err, None, MatchResult};
 ghost use Rattle.script_lang.specs.Lines.{IsLineInRange};
 ghost use Rattle.script_lang.specs.Scripts.{script_of, Script as Said};
 ghost use Rattle.script_lang.specs.Views.{view};
 ghost use Rattle.store.specs.Leaves.{IsIdle};
 ghost use Rattle.bench_report.specs.Reports.{AreByFirmware, IsReport, IsReportWith, IsCutShort, IsCutShortWith};
-ghost use Rattle.report_lines.specs.Counts.{Adds, Reported};
+ghost use Rattle.report_lines.specs.Counts.{Reported};
 ghost use Rattle.bench_report.specs.Prefix.{KeepsPrefixLaw};
 ghost use Rattle.bench_report.specs.Bench.{Bench, bench_with};
 ghost use Rattle.bench_report.specs.Views.{facts};
-ghost use Rattle.bench_report.specs.Agree.{ArmsIts, CutsIts, PokesIts, InspectsOrLost, fill_after, fills_after, EndsBy, Agrees, OffIs, IsBench};
+ghost use Rattle.bench_report.specs.Agree.{OffIs, fills_after};
+ghost use Rattle.bench_report.specs.Lives.{IsSound, Shows};
 ghost use Rattle.bench_report.specs.Laws.{KeepsLaws};
 ghost use Rattle.report_lines.specs.declared.printed.Answer.{Answer};
 ghost use Rattle.board_model.specs.declared.refusal.Refusal.{Refusal};
 ghost use Rattle.bench_report.specs.Happens.{off};
-ghost use Rattle.bench_report.specs.Steps.{Moves, Run};
+ghost use Rattle.bench_report.specs.Steps.{Run};
 
-use crate::bench_board::BenchBoard;
+use crate::live::LiveBench;
 use crate::power::{OffDisk, Power};
 use crate::setting::Setting;
-use crate::steps::{disk_left, line_with_cuts};
 use board::Payloads;
 use board_model::{Refusal, unwritten};
 use crew::Crew;
@@ -63,71 +63,34 @@ impl From<AllocError> for StoppedRun {
     }
 }
 
-/// Runs one line of a script. Where it is refused the line may have been run.
-fn run_line<C: Crew, W: Write>(
-    setting: &Setting<'_, C>,
-    line: &Line,
-    bench: BenchBoard,
-    out: &mut W,
-    report: &mut Report,
-) -> (BenchBoard, io::Result<()>)
-    requires few { report.old.lines < 2 ^ 40 }
-    requires range { IsLineInRange setting.now.shape.now line.now }
-    ensures ok { OnOk result.1 ((b : Bench) → IsBench setting.now.shape.now b bench.power bench.payloads
-        → (answer : Answer) × (new : Bench) × Moves setting.now.shape.now line.now b answer new
-        × EndsBy setting.now.shape.now line.now result.0.fill b answer result.0.power
-        × IsBench setting.now.shape.now new result.0.power result.0.payloads
-        × Adds (W.contents out.old) (W.contents out.new) report.old report.new answer
-        × PokesIts line.now bench.power (Ok answer) result.0.power × InspectsOrLost line.now bench.power answer) }
-    ensures arms { OnOk result.1 ((b : Bench) → IsBench setting.now.shape.now b bench.power bench.payloads
-        → ArmsIts line.now result.0.power) }
-    ensures cuts { (b : Bench) → IsBench setting.now.shape.now b bench.power bench.payloads
-        → CutsIts line.now bench.power result.0.power }
-    ensures fill { result.0.fill ≡ fill_after line.now bench.fill }
-    ensures few { OnOk result.1 (report.new.lines ≤ report.old.lines + 2) }
-    ensures stopped { OnErr result.1 ((b : Bench) → IsBench setting.now.shape.now b bench.power bench.payloads → Agrees setting.now.shape.now b result.0.power
-        ⊎ ((answer : Answer) × (new : Bench) × Moves setting.now.shape.now line.now b answer new × Agrees setting.now.shape.now new result.0.power)) }
-{
-    let (after, answer) = line_with_cuts(setting, line, bench);
-    match answer {
-        Ok(answer) => {
-            let added = add(out, report, &answer);
-            (after, added)
-        }
-        Err(refused) => (after, Err(refused.into())),
-    }
-}
-
-/// Runs the lines after the board line, up to the first that is refused.
+/// Runs the lines after the board line, up to the first that is refused, which may have been run.
 fn run_lines<C: Crew, W: Write>(
     setting: &Setting<'_, C>,
     lines: &[Line],
-    bench: BenchBoard,
+    bench: &mut LiveBench,
     out: &mut W,
     report: &mut Report,
-) -> (BenchBoard, io::Result<()>)
+) -> io::Result<()>
     requires few { length lines.now ≤ 65535 }
     requires ranges { All (IsLineInRange setting.now.shape.now) lines.now }
     requires first { report.old.lines ≤ 1 }
-    ensures fill { OnOk result.1 (result.0.fill ≡ fills_after lines.now bench.fill) }
-    ensures ok { OnOk result.1 ((b : Bench) → IsBench setting.now.shape.now b bench.power bench.payloads
+    requires sound { IsSound bench.old }
+    ensures fill { OnOk result (bench.new.fill ≡ fills_after lines.now bench.old.fill) }
+    ensures ok { OnOk result ((b : Bench) → Shows setting.now.shape.now b bench.old
         → (answers : List Answer) × (new : Bench) × Run setting.now.shape.now b lines.now answers new
-        × Agrees setting.now.shape.now new result.0.power
+        × Shows setting.now.shape.now new bench.new
         × ((before : List Answer) (start : Option (List ℕ)) → Reported start (W.contents out.old) report.old before
         → Reported start (W.contents out.new) report.new (before ++ answers))) }
-    ensures stopped { OnErr result.1 ((b : Bench) → IsBench setting.now.shape.now b bench.power bench.payloads
+    ensures stopped { OnErr result ((b : Bench) → Shows setting.now.shape.now b bench.old
         → (n : ℕ) × (answers : List Answer) × (new : Bench) × Run setting.now.shape.now b (take n lines.now) answers new
-        × Agrees setting.now.shape.now new result.0.power) }
+        × Shows setting.now.shape.now new bench.new) }
+    ensures sound { IsSound bench.new }
 {
-    let mut bench = bench;
     for line in lines {
-        let (after, ran) = run_line(setting, line, bench, out, report);
-        if let Err(error) = ran {
-            return (after, Err(error));
-        }
-        bench = after;
+        let answer = bench.run(setting, line)?;
+        add(out, report, &answer)?;
     }
-    (bench, Ok(()))
+    Ok(())
 }
 
 /// Runs a script that begins with these payloads, over a blank disk of the size that its board needs.
@@ -164,18 +127,19 @@ fn run_script<C: Crew, W: Write>(
     if let Err(error) = add(out, &mut report, &board) {
         return (disk, Err(error));
     }
-    let bench = BenchBoard {
+    let mut bench = LiveBench {
         power: Power::Off(OffDisk { disk }),
         payloads,
         fill: Fill::Old,
+        refused: false,
     };
     let setting = Setting {
         alloc,
         crew,
         shape: &shape,
     };
-    let (bench, ran) = run_lines(&setting, &script.lines, bench, out, &mut report);
-    let left = disk_left(bench.power);
+    let ran = run_lines(&setting, &script.lines, &mut bench, out, &mut report);
+    let left = bench.into_disk();
     match ran {
         Ok(()) => (left, Ok(report)),
         Err(error) => (left, Err(error)),

@@ -1,5 +1,7 @@
 //! What the lines of a script are run with.
 
+ghost use Rattle.std.specs.Prelude.{◌≡◌, ◌∷◌, []};
+
 use board_model::Shape;
 use crew::Sequential;
 use std::alloc::{AllocError, Global};
@@ -24,7 +26,9 @@ impl<'a, C> Clone for Setting<'a, C> {
 impl<'a, C> Copy for Setting<'a, C> {}
 
 /// Who writes the lanes of an image one after another, lane 0 first.
-pub fn lane_by_lane<R: Threads + Sync>() -> Sequential<R> {
+pub fn lane_by_lane<R: Threads + Sync>() -> Sequential<R>
+    ensures order { result.order ≡ 0 ∷ 1 ∷ 2 ∷ 3 ∷ [] }
+{
     let crew = Sequential::new([0, 1, 2, 3]);
     crew.unwrap()
 }

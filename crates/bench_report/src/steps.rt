@@ -13,7 +13,6 @@ ghost use Rattle.simdisk.specs.declared.SimDisk.{SimDisk};
 ghost use Rattle.bench_report.specs.Agree.{HasDisk, IsCutBy, IsArmed, ArmsIts, CutsIts, MovesEnough, PokesIts, StepsEnough, InspectsIts, InspectsOrLost, fill_after, EndsBy, Agrees, HadEnough, OffIs, IsBench, IsUnstruck, Matches, StepsTo};
 
 use crate::armings::{fault_of, newest_fill};
-use crate::bench_board::BenchBoard;
 use crate::looks::look_line;
 use crate::off_lines::{format_line, inspect_line, on_line, payload_line, poke_line};
 use crate::on_lines::{call_line, console, turn_line, wake_line};
@@ -88,7 +87,7 @@ fn arm(power: Power, fault: ArmedFault) -> (Power, Answer)
 }
 
 /// What an armed cut is to leave after this line, by what it was to leave before.
-fn fill_after(line: &Line, fill: Fill) -> Fill
+pub(crate) fn fill_after(line: &Line, fill: Fill) -> Fill
     ensures { result ≡ fill_after line.now fill }
 {
     match line {
@@ -196,56 +195,36 @@ pub fn line_alone<C: Crew>(
 
 /// One line of a script, with the cut that a line before it may have armed. Where that cut strikes within the
 /// line, the answer is `power lost`, the board is off, and what was written since the last sync holds what the
-/// newest armed cut is to leave (`fill`, which the line itself may set). Refused as [`line_alone`] is: only where
-/// there is no memory for a payload or a poke, and then the bench is as it was. Source: docs/SCRIPT.md.
-pub fn line_with_cuts<C: Crew>(
+/// newest armed cut is to leave after this line (`fill`). Refused as [`line_alone`] is: only where there is no memory
+/// for a payload or a poke, and then the bench is as it was. Source: docs/SCRIPT.md.
+pub(crate) fn line_with_cuts<C: Crew>(
     setting: &Setting<'_, C>,
     line: &Line,
-    bench: BenchBoard,
-) -> (BenchBoard, Result<Answer, AllocError>)
+    power: Power,
+    payloads: &mut Payloads,
+    fill: Fill,
+) -> (Power, Result<Answer, AllocError>)
     requires range { IsLineInRange setting.now.shape.now line.now }
-    ensures reported { (b : Bench) → IsBench setting.now.shape.now b bench.power bench.payloads → MatchResult result.1
+    requires calm { IsUnstruck power }
+    ensures reported { (b : Bench) → IsBench setting.now.shape.now b power payloads.old → MatchResult result.1
         (λ answer. (new : Bench) × Moves setting.now.shape.now line.now b answer new
-        × EndsBy setting.now.shape.now line.now result.0.fill b answer result.0.power
-        × IsBench setting.now.shape.now new result.0.power result.0.payloads)
-        (λ e. Matches setting.now.shape.now b result.0.power result.0.payloads) }
-    ensures fill { result.0.fill ≡ fill_after line.now bench.fill }
-    ensures arms { (b : Bench) → IsBench setting.now.shape.now b bench.power bench.payloads
-        → OnOk result.1 (ArmsIts line.now result.0.power) }
-    ensures cuts { (b : Bench) → IsBench setting.now.shape.now b bench.power bench.payloads
-        → CutsIts line.now bench.power result.0.power }
-    ensures pokes { (b : Bench) → IsBench setting.now.shape.now b bench.power bench.payloads
-        → PokesIts line.now bench.power result.1 result.0.power }
-    ensures inspects { IfOk result.1 (InspectsOrLost line.now bench.power) }
-    ensures enough { MovesEnough setting.now.shape.now line.now bench.power bench.payloads result.1 result.0.power
-        result.0.payloads }
-    ensures slots { length result.0.payloads ≡ length bench.payloads }
+        × EndsBy setting.now.shape.now line.now fill b answer result.0
+        × IsBench setting.now.shape.now new result.0 payloads.new)
+        (λ e. Matches setting.now.shape.now b result.0 payloads.new) }
+    ensures calm { IsUnstruck result.0 }
+    ensures arms { (b : Bench) → IsBench setting.now.shape.now b power payloads.old → OnOk result.1 (ArmsIts line.now result.0) }
+    ensures cuts { (b : Bench) → IsBench setting.now.shape.now b power payloads.old → CutsIts line.now power result.0 }
+    ensures pokes { (b : Bench) → IsBench setting.now.shape.now b power payloads.old
+        → PokesIts line.now power result.1 result.0 }
+    ensures inspects { IfOk result.1 (InspectsOrLost line.now power) }
+    ensures enough { MovesEnough setting.now.shape.now line.now power payloads.old result.1 result.0 payloads.new }
+    ensures slots { length payloads.new ≡ length payloads.old }
 {
-    let BenchBoard {
-        power,
-        mut payloads,
-        fill,
-    } = bench;
-    let fill = fill_after(line, fill);
-    let (after, answer) = line_alone(setting, line, power, &mut payloads);
+    let (after, answer) = line_alone(setting, line, power, payloads);
     if struck(&after) {
         let power = cut(after, fill);
-        (
-            BenchBoard {
-                power,
-                payloads,
-                fill,
-            },
-            Ok(says(Printed::PowerLost)),
-        )
+        (power, Ok(says(Printed::PowerLost)))
     } else {
-        (
-            BenchBoard {
-                power: after,
-                payloads,
-                fill,
-            },
-            answer,
-        )
+        (after, answer)
     }
 }

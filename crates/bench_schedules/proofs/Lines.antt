@@ -11,8 +11,8 @@ use Rattle.bench_report.specs.Steps.{Run}
 use Rattle.report_lines.specs.declared.printed.Answer.{Answer}
 use Rattle.bench_report.proofs.RunLines.{run_snoc}
 use Rattle.bench_orders.specs.Orders.{IsOrderFor, is_other, other_count}
-use Rattle.bench_live.specs.Lives.{Shows}
-use Rattle.bench_live.specs.declared.live.LiveBench.{LiveBench}
+use Rattle.bench_report.specs.Lives.{Shows}
+use Rattle.bench_report.specs.declared.live.LiveBench.{LiveBench}
 use Rattle.bench_schedules.specs.declared.runs.Difference.{Difference}
 use Rattle.bench_schedules.specs.declared.runs.RunUnderWay.{RunUnderWay}
 use Rattle.bench_schedules.specs.Schedules.{other_answer, other_answers, Ran, RanLike, RanOwn}

@@ -5,8 +5,8 @@ use Rattle.script_lang.specs.declared.line.Line.{Line}
 use Rattle.bench_report.specs.Bench.{Bench}
 use Rattle.bench_report.specs.Steps.{Moves, Run}
 use Rattle.report_lines.specs.declared.printed.Answer.{Answer}
-use Rattle.bench_live.specs.Lives.{Shows}
-use Rattle.bench_live.specs.declared.live.LiveBench.{LiveBench}
+use Rattle.bench_report.specs.Lives.{Shows}
+use Rattle.bench_report.specs.declared.live.LiveBench.{LiveBench}
 use Rattle.bench_schedules.specs.Schedules.{other_answers}
 
 -- a line ran on the one bench, which is the other then, and memory was not refused in it

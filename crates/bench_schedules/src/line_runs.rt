@@ -4,11 +4,10 @@ ghost use Rattle.std.specs.Prelude.{◌≡◌, IfOk, OnOk};
 ghost use Rattle.script_lang.specs.Lines.{IsLineInRange};
 ghost use Rattle.bench_orders.specs.Orders.{is_other};
 ghost use Rattle.bench_report.specs.Bench.{Bench};
-ghost use Rattle.bench_live.specs.Lives.{IsSound, Shows};
+ghost use Rattle.bench_report.specs.Lives.{IsSound, Shows};
 ghost use Rattle.bench_schedules.specs.RunSoFar.{LineRan};
 
-use bench_live::LiveBench;
-use bench_report::{Answer, Setting};
+use bench_report::{Answer, LiveBench, Setting};
 use board_model::Shape;
 use crew::Crew;
 use script_lang::Line;
@@ -40,11 +39,6 @@ pub fn run_line<C: Crew>(
         return Err(AllocError);
     }
     Ok(answer)
-}
-
-/// Lets go of a bench. That of its board's many parts is proved here, and not for each function that has a bench.
-pub fn release(live: LiveBench) {
-    let _live = live;
 }
 
 /// Ends a run. Refused where, in this run, the disk was refused memory for its record of what it had to keep.

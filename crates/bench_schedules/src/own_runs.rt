@@ -5,15 +5,14 @@ ghost use Rattle.std.specs.Option.{option_to_list};
 ghost use Rattle.script_lang.specs.Lines.{IsLineInRange};
 ghost use Rattle.bench_orders.specs.Orders.{IsOrderFor, is_other, other_count};
 ghost use Rattle.bench_report.specs.Bench.{bench_with};
-ghost use Rattle.bench_live.specs.Lives.{IsSound, Shows};
+ghost use Rattle.bench_report.specs.Lives.{IsSound, Shows};
 ghost use Rattle.bench_schedules.specs.RunSoFar.{RunSoFar};
 ghost use Rattle.bench_schedules.specs.Schedules.{RanOwn, other_answer};
 
-use crate::line_runs::{end_run, is_other, release, run_line};
+use crate::line_runs::{end_run, is_other, run_line};
 use crate::stretches::Stretches;
-use bench_live::LiveBench;
 use bench_orders::{generator, schedule};
-use bench_report::{Answer, Setting};
+use bench_report::{Answer, LiveBench, Setting};
 use board::Payloads;
 use crew::Crew;
 use script_lang::Line;
@@ -74,7 +73,7 @@ pub fn run_own<C: Crew>(
     let mut live = LiveBench::blank(setting.alloc, setting.shape, payloads)?;
     let mut stretches = Stretches::new(setting.alloc);
     let Ok(answers) = run_lines(setting, lines, &mut live, &mut stretches) else {
-        release(live);
+        live.release();
         return Err(AllocError);
     };
     end_run(live, setting.shape)?;

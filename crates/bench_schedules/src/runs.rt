@@ -3,14 +3,13 @@
 ghost use Rattle.std.specs.Prelude.{◌≡◌, ◌+◌, ◌<◌, ◌≤◌, length, true, All, IfErr, IfOk};
 ghost use Rattle.script_lang.specs.Lines.{IsLineInRange};
 ghost use Rattle.bench_orders.specs.Orders.{is_other, other_count};
-ghost use Rattle.bench_live.specs.Lives.{IsSound};
+ghost use Rattle.bench_report.specs.Lives.{IsSound};
 ghost use Rattle.bench_schedules.specs.Compared.{IsDifference, IsNextPlace};
 ghost use Rattle.bench_schedules.specs.GoingOn.{EndsSo, WentSo};
 ghost use Rattle.bench_schedules.specs.Schedules.{RanLike};
 
-use crate::line_runs::{end_run, is_other, release, run_line};
-use bench_live::LiveBench;
-use bench_report::{Answer, Setting};
+use crate::line_runs::{end_run, is_other, run_line};
+use bench_report::{Answer, LiveBench, Setting};
 use board::Payloads;
 use crew::Crew;
 use script_lang::Line;
@@ -98,7 +97,7 @@ pub fn run_to_end<C: Crew>(
     ensures ran { IfOk result (λ differs. EndsSo setting.now.shape.now lines.now own.now going differs) }
 {
     let Ok(differs) = go_on(setting, lines, own, &mut going) else {
-        release(going.live);
+        going.live.release();
         return Err(AllocError);
     };
     end_run(going.live, setting.shape)?;

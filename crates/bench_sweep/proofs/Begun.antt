@@ -1,15 +1,11 @@
 -- Where a bench begins.
-use Rattle.std.proofs.Common.{◌≡◌, ◌<◌, ◌+◌, ◌++◌, ◌∷◌, ℕ, Bool, true, Result, Ok, Err, length, take, get_or, inl, inr, List, [], Option, None, Some, sym, ◌∙◌, ap, subst}
+use Rattle.std.proofs.Common.{◌≡◌, ◌<◌, ◌+◌, ◌++◌, ◌∷◌, ℕ, length, take, get_or, inl, inr, List, [], Option, None, Some, sym, ◌∙◌, ap, subst}
 use Rattle.board_model.specs.Durable.{Change, CarriesWhole}
 use Rattle.board_model.specs.Kept.{Kept, nothing_kept}
 use Rattle.board_model.specs.Shapes.{Size}
-use Rattle.std.specs.declared.alloc.AllocError.{AllocError}
-use Rattle.simdisk.specs.declared.fill.Fill.{Fill}
-use Rattle.std.specs.Prelude.{MatchResult}
 use Rattle.script_lang.specs.declared.line.Line.{Line}
 use Rattle.script_lang.specs.declared.line.Line.TheVariants as lines
 use Rattle.bench_report.specs.declared.power.OffDisk.{OffDisk}
-use Rattle.bench_report.specs.declared.power.Power.{Power}
 use Rattle.bench_report.specs.declared.power.Power.TheVariants.{Off}
 use Rattle.report_lines.specs.declared.printed.Answer.{Answer}
 use Rattle.report_lines.specs.declared.printed.Printed.{Printed}
@@ -19,13 +15,13 @@ use Rattle.bench_report.specs.Happens.{says, off, formatted_anew}
 use Rattle.bench_report.specs.PowerOns.{FormatsOn}
 use Rattle.bench_report.specs.Steps.{FormatStep, Step, Moves, Run}
 use Rattle.bench_report.proofs.RunLines.{run_more}
-use Rattle.bench_report.specs.Agree.{OffIs, Agrees, IsBench, EndsBy, Matches}
+use Rattle.bench_report.specs.Agree.{OffIs, Agrees}
+use Rattle.bench_report.specs.Lives.{Shows}
+use Rattle.bench_report.specs.declared.live.LiveBench.{LiveBench}
 use Rattle.bench_sweep.specs.declared.ledgers.RunLedger.{RunLedger}
 use Rattle.bench_sweep.specs.Ledgers.{Tells}
 use Rattle.bench_sweep.specs.Made.{IsFormatted}
 use Rattle.bench_sweep.specs.Runs.{TellsWhole, Runs, Begins, Begun, Formats}
-use Rattle.bench_sweep.specs.Told.{ShowsEnoughMemory}
-use Rattle.bench_sweep.proofs.Fed.{off_grows}
 
 -- ---- the line that formats the disk
 abbrev Fresh : Bench → Bench → Type 0
@@ -64,16 +60,10 @@ moved_fresh size line b a new is (inl x) = fresh_by size line b a new is x.0
 moved_fresh size line b a new is (inr x) = absurd (let no : printed.Formatted ≡ printed.PowerLost = sym (said line a is) ∙ ap (λ (y : Answer). y.line) x.4 in let never : ⊥ = cc in never)
 
 -- ---- a line before it
-pub moved_by : (size : Size) (line : Line) (b : Bench) (answer : Result Answer AllocError) (fill : Fill) (power : Power) (slots : List (List ℕ)) (did : Bool) → b.power ≡ None
-    → MatchResult answer (λ a. (new : Bench) × Moves size line b a new × EndsBy size line fill b a power × IsBench size new power slots) (λ e. Matches size b power slots) → MatchResult answer (λ a. ShowsEnoughMemory a.line × (did ≡ true → Formats line a)) (λ e. ⊥)
-    → (a : Answer) × (new : Bench) × Moves size line b a new × IsBench size new power slots × (new.growths ≡ b.growths) × (did ≡ true → Formats line a)
-moved_by size line b (Ok a) fill power slots did off (new, moves, ends, is) (enough, formats) = (a, new, moves, is, off_grows size line b a new off enough moves, formats)
-moved_by size line b (Err e) fill power slots did off moved told = absurd told
-
 -- after the lines before it
-pub begun_by : (size : Size) (start : List (List ℕ)) (lines : List Line) (i : ℕ) (line : Line) (d : Line) (power : Power) (slots : List (List ℕ)) (b new : Bench) (answers : List Answer) (a : Answer) → i < length lines → line ≡ get_or lines i d → Run size (bench_with start) (take i lines) answers b
-    → Formats line a → Moves size line b a new → IsBench size new power slots → new.growths ≡ 0 → Begun size start (take (i + 1) lines) power slots
-begun_by size start lines i line d power slots b new answers a less is run did moves matches enough =
+pub begun_by : (size : Size) (start : List (List ℕ)) (lines : List Line) (i : ℕ) (line : Line) (d : Line) (live : LiveBench) (b new : Bench) (answers : List Answer) (a : Answer) → i < length lines → line ≡ get_or lines i d → Run size (bench_with start) (take i lines) answers b
+    → Formats line a → Moves size line b a new → Shows size new live → new.growths ≡ 0 → Begun size start (take (i + 1) lines) live
+begun_by size start lines i line d live b new answers a less is run did moves shows enough =
     let f = moved_fresh size line b a new did moves in
     let M : Line → Type 0 = λ l. Moves size l b a new in record {
       bench = new;
@@ -81,37 +71,36 @@ begun_by size start lines i line d power slots b new answers a less is run did m
       last = a;
       run = run_more size lines i d (bench_with start) answers b a new less run (subst M is moves);
       formats = said line a did;
-      agrees = matches.0;
-      same = matches.1;
+      shows = shows;
       formatted = f.0;
       kept = f.1;
       enough = enough;
     }
 
 -- one line more
-pub begins_more : (size : Size) (start : List (List ℕ)) (lines : List Line) (i : ℕ) (line : Line) (d : Line) (power : Power) (slots : List (List ℕ)) (b new : Bench) (answers : List Answer) (a : Answer) → i < length lines → line ≡ get_or lines i d → Run size (bench_with start) (take i lines) answers b
-    → Moves size line b a new → IsBench size new power slots → new.growths ≡ 0 → Begins size start (take (i + 1) lines) power slots
-begins_more size start lines i line d power slots b new answers a less is run moves matches enough =
+pub begins_more : (size : Size) (start : List (List ℕ)) (lines : List Line) (i : ℕ) (line : Line) (d : Line) (live : LiveBench) (b new : Bench) (answers : List Answer) (a : Answer) → i < length lines → line ≡ get_or lines i d → Run size (bench_with start) (take i lines) answers b
+    → Moves size line b a new → Shows size new live → new.growths ≡ 0 → Begins size start (take (i + 1) lines) live
+begins_more size start lines i line d live b new answers a less is run moves shows enough =
     let M : Line → Type 0 = λ l. Moves size l b a new in record {
       bench = new;
       answers = answers ++ a ∷ [];
       run = run_more size lines i d (bench_with start) answers b a new less run (subst M is moves);
-      is = matches;
+      shows = shows;
       enough = enough;
     }
 
 -- ---- the site after it
-pub site_runs : (size : Size) (start : List (List ℕ)) (lines : List Line) (power : Power) (disk : OffDisk) (slots : List (List ℕ)) (ledger : RunLedger) → Begun size start lines power slots → ((z : Size) (b : Bench) → Agrees z b power → OffIs z (off b) disk.disk) → Tells ledger nothing_kept
-    → (b : Bench) × IsFormatted size start lines b × Runs size (off b) (Off disk) slots ledger
-site_runs size start lines power disk slots ledger g ends tells =
+pub site_runs : (size : Size) (start : List (List ℕ)) (lines : List Line) (live : LiveBench) (disk : OffDisk) (ledger : RunLedger) → Begun size start lines live → ((z : Size) (b : Bench) → Agrees z b live.power → OffIs z (off b) disk.disk) → Tells ledger nothing_kept
+    → (b : Bench) × IsFormatted size start lines b × Runs size (off b) (Off disk) live.payloads ledger
+site_runs size start lines live disk ledger g ends tells =
     let P : Kept → Type 0 = λ k. TellsWhole size ledger k in
     let doubt : (c : Change) → None ≡ Some c → CarriesWhole size c = λ c e. absurd (let no : ⊥ = cc in no) in
-    let at : OffIs size (off g.bench) disk.disk = ends size g.bench g.agrees in (
+    let at : OffIs size (off g.bench) disk.disk = ends size g.bench g.shows.0 in (
       g.bench,
       record { before = g.before; last = g.last; run = g.run; formats = g.formats },
       record {
         agrees = at;
-        same = g.same;
+        same = g.shows.1;
         follows = record { formatted = g.formatted; kept = subst P (sym g.kept) (record { tells = tells; whole = tt; doubt = doubt }); enough = g.enough };
       },
     )

@@ -13,7 +13,7 @@ use Rattle.bench_report.specs.PowerOns.{PowersOn}
 use Rattle.bench_report.specs.Deeds as deeds
 use Rattle.bench_report.specs.Deeds.{Deed, deed_of}
 use Rattle.bench_report.specs.Prefix.{asked_of}
-use Rattle.bench_report.specs.Steps.{ConsoleStep, TurnStep, CallStep, DeedStep, Step, Moves}
+use Rattle.bench_report.specs.Steps.{ConsoleStep, TurnStep, CallStep, DeedStep, Step}
 use Rattle.bench_report.proofs.Growths as growths
 use Rattle.bench_report.proofs.Growths.{Counts, Grows, Refuses, said_counts}
 use Rattle.bench_sweep.specs.Told.{ShowsEnoughMemory, is_guest, moves_harts}
@@ -48,8 +48,3 @@ deed_grows size deed b a new still shows x = fed a b new shows (growths.deed_gro
 
 pub line_grows : (size : Size) (line : Line) (b : Bench) (a : Answer) (new : Bench) → (b.power ≡ None) ⊎ (moves_harts line ≡ false) → ShowsEnoughMemory a.line → Step size line b a new → Counts b new
 line_grows size line b a new still shows x = deed_grows size (deed_of line) b a new still shows x
-
--- in a run, on a board that is off
-pub off_grows : (size : Size) (line : Line) (b : Bench) (a : Answer) (new : Bench) → b.power ≡ None → ShowsEnoughMemory a.line → Moves size line b a new → Counts b new
-off_grows size line b a new off shows (inl (step, calm)) = line_grows size line b a new (inl off) shows step
-off_grows size line b a new off shows (inr (would, mid, step, hit, e, is)) = absurd (let P : Answer → Type 0 = λ x. ShowsEnoughMemory x.line in subst P e shows)

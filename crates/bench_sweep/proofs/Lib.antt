@@ -6,6 +6,7 @@ pub mod Told
 pub mod Turned
 pub mod Followed
 pub mod Left
+pub mod KeptRows
 pub mod Begun
 pub mod Loaded
 pub mod Serials

@@ -1,9 +1,9 @@
 -- Scripts that no bench runs.
-use Rattle.std.proofs.Common.{◌≡◌, ◌⊎◌, ℕ, List, Result, Ok, Err, inl, inr, ⊎_elim, sym, ◌∙◌, subst}
+use Rattle.std.proofs.Common.{◌≡◌, ◌⊎◌, ℕ, List, Result, Ok, Err, inl, inr, sym, ◌∙◌, subst}
 use Rattle.std.specs.Result.{IsErrAnd}
 use Rattle.board_model.specs.declared.refusal.Refusal.{Refusal}
-use Rattle.board_model.specs.declared.refusal.Refusal.TheVariants.{Memory}
-use Rattle.script_lang.specs.Scripts.{script_of, Script, Fails}
+use Rattle.board_model.specs.declared.refusal.Refusal.TheVariants.{Memory, NotPlain}
+use Rattle.script_lang.specs.Scripts.{script_of, Script}
 use Rattle.script_lang.specs.declared.line.Line.{Line}
 use Rattle.bench_sweep.specs.Swept.{IsNotPlain, NoBenchRuns}
 use Rattle.board_model.proofs.Exits.{err_is}
@@ -28,15 +28,20 @@ no_fault script said e is fault =
     let no : ⊥ = cc in
     absurd no
 
--- of one that has a fault that is told, or memory was refused
-pub fault_told : {T : Type 0} (script : List ℕ) (r : Result T Refusal) (said e : Refusal) → IsErrAnd r (λ y. y ≡ said) → Fails said (script_of script) → script_of script ≡ Err e → (r ≡ Err e) ⊎ (r ≡ Err Memory)
-fault_told script r said e is fails fault = ⊎_elim
-    (λ memory. inr (err_is r said Memory is memory))
-    (λ told.
+-- why a bench refuses a script before it runs anything
+abbrev pub Refuses : List ℕ → Refusal → Type 0
+Refuses script e = (e ≡ Memory) ⊎ (script_of script ≡ Err e) ⊎ ((e ≡ NotPlain) × NoBenchRuns script)
+
+-- of one that has a fault, and of one that has none
+pub fault_told : {T : Type 0} (script : List ℕ) (r : Result T Refusal) (said e : Refusal) → IsErrAnd r (λ y. y ≡ said) → Refuses script said → script_of script ≡ Err e → (r ≡ Err e) ⊎ (r ≡ Err Memory)
+fault_told script r said e is (inl memory) fault = inr (err_is r said Memory is memory)
+fault_told script r said e is (inr (inl told)) fault =
     let both : ◌≡◌ {A = Result Script Refusal} (Err said) (Err e) = sym told ∙ fault in
     let one : said ≡ e = cc in
-    inl (err_is r said e is one))
-    fails
+    inl (err_is r said e is one)
+fault_told script r said e is (inr (inr none)) fault = no_fault script none.1.0 e none.1.1 fault
 
-pub memory_told : {T : Type 0} (script : List ℕ) (r : Result T Refusal) (fail : Refusal) (said : Script) → IsErrAnd r (λ y. y ≡ fail) → Fails fail (script_of script) → script_of script ≡ Ok said → r ≡ Err Memory
-memory_told script r fail said is fails read = ⊎_elim (λ memory. err_is r fail Memory is memory) (λ told. no_fault script said fail read told) fails
+pub plain_told : {T : Type 0} (script : List ℕ) (r : Result T Refusal) (fail : Refusal) (said : Script) → IsErrAnd r (λ y. y ≡ fail) → Refuses script fail → script_of script ≡ Ok said → (r ≡ Err NotPlain) ⊎ (r ≡ Err Memory)
+plain_told script r fail said is (inl memory) read = inr (err_is r fail Memory is memory)
+plain_told script r fail said is (inr (inl told)) read = no_fault script said fail read told
+plain_told script r fail said is (inr (inr none)) read = inl (err_is r fail NotPlain is none.0)

@@ -18,7 +18,7 @@ use Rattle.bench_report.specs.Examined.{OpensOf}
 use Rattle.bench_report.specs.Happens.{says, off, unpowered, armed_with}
 use Rattle.bench_report.specs.PowerOns.{PowersOn}
 use Rattle.bench_report.specs.Steps.{Run}
-use Rattle.bench_report.specs.Views.{sim_log_of}
+use Rattle.bench_report.specs.Views.{facts, sim_log_of}
 use Rattle.bench_sweep.specs.declared.points.BenchKind.{BenchKind}
 use Rattle.bench_sweep.specs.declared.points.BenchKind.TheVariants.{Cuts, Fails}
 use Rattle.bench_sweep.specs.declared.points.Caller.{Caller}
@@ -111,6 +111,13 @@ pub record RunsArmed (size : Size) (kind : BenchKind) (caller : Caller) (call : 
 -- what a cut with that fill leaves of the disk
 abbrev pub cut_content : SimDisk → Fill → Content
 cut_content disk fill = left_by_fill fill (synced (sim_log_of disk)) (sim_log_of disk).written
+
+-- a power-on that keeps the image said that of the disk of a bench that is off: it found a state
+pub record IsFound (size : Size) (b : Bench) (disk : SimDisk) (left : Answer) : Type 0 where
+  pub after : Bench
+  pub says : LooksAt size b left after
+  pub finds : ShowsState left
+  pub opens : OpensOf (facts disk).content left
 
 -- The run ended with that disk, and power is still to be taken. What the fill leaves of the disk is what a power-on that keeps the image
 -- said that of: it found a state.

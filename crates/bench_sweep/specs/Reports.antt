@@ -15,7 +15,7 @@ use Rattle.bench_sweep.specs.declared.rows.Row.{Row}
 use Rattle.bench_sweep.specs.declared.judging.PointRows.{PointRows}
 use Rattle.bench_sweep.specs.declared.site.Site.{Site}
 use Rattle.bench_sweep.specs.declared.sweeps.SweepReport.{SweepReport}
-use Rattle.bench_sweep.specs.Made.{BeginsOn, CallsIn, IsLeft, IsRunOf, RunsWith}
+use Rattle.bench_sweep.specs.Made.{BeginsOn, CallsIn, IsFound, IsLeft, IsRunOf, RunsWith}
 use Rattle.bench_sweep.specs.Points.{callers, cut_fill, MadeCalls}
 use Rattle.bench_sweep.specs.Runs.{RunsAt, Sits}
 use Rattle.bench_sweep.specs.Took.{RunTook, StandsOn}
@@ -35,6 +35,10 @@ pub record Reports {W : Type 0} (contents : W → Option (List ℕ)) (kind : Ben
 -- a row whose run ended at that bench, with that disk
 abbrev pub IsLeftBy : Size → Bench → SimDisk → Row → Type 0
 IsLeftBy size end disk row = IsLeft size end disk (cut_fill row.fill) row.left
+
+-- a row that says what a power-on said of the disk that a cut left
+abbrev pub IsFoundOn : Size → Bench → SimDisk → Row → Type 0
+IsFoundOn size b disk row = IsFound size b disk row.left
 
 -- a row that says what that one says, for a cut with another fill
 abbrev pub again : Row → Caller → ℕ → Fill → Row

@@ -17,10 +17,12 @@ use Rattle.report_lines.specs.declared.printed.Printed.TheVariants as printed
 use Rattle.bench_report.specs.declared.power.OffDisk.{OffDisk}
 use Rattle.bench_report.specs.declared.power.Power.{Power}
 use Rattle.bench_report.specs.declared.power.Power.TheVariants.{Off, On}
+use Rattle.bench_report.specs.Lives.{Shows}
+use Rattle.bench_report.specs.declared.live.LiveBench.{LiveBench}
 use Rattle.bench_report.specs.Bench.{Formatted, Bench, bench_with}
 use Rattle.bench_report.specs.Happens.{off, says, unpowered}
 use Rattle.bench_report.specs.Steps.{Run, Step}
-use Rattle.bench_report.specs.Agree.{OffIs, BoardAfter, Agrees, IsBench}
+use Rattle.bench_report.specs.Agree.{OffIs, BoardAfter, Agrees}
 use Rattle.bench_report.specs.Views.{SimStore, SimBoard, machine_in, fault_state, store_in, store_size, store_now, store_fault_state}
 use Rattle.bench_sweep.specs.Judged.{IsRight}
 use Rattle.bench_sweep.specs.Ledgers.{Tells}
@@ -156,24 +158,23 @@ pub record HartMoves (size : Size) (b : Bench) (word : Word) (new : Bench) (boar
   pub after : BoardAfter size word new board
 
 -- ---- before the disk is formatted
--- lines of the script were run on a blank disk, and come to a bench for which the board with its payloads stands; no
+-- lines of the script were run on a blank disk, and come to a bench for which the one under way stands; no
 -- memory was refused
-pub record Begins (size : Size) (start : List (List ℕ)) (lines : List Line) (power : Power) (slots : List (List ℕ)) : Type 0 where
+pub record Begins (size : Size) (start : List (List ℕ)) (lines : List Line) (live : LiveBench) : Type 0 where
   pub bench : Bench
   pub answers : List Answer
   pub run : Run size (bench_with start) lines answers bench
-  pub is : IsBench size bench power slots
+  pub shows : Shows size bench live
   pub enough : bench.growths ≡ 0
 
 -- the last of them formatted it just now
-pub record Begun (size : Size) (start : List (List ℕ)) (lines : List Line) (power : Power) (slots : List (List ℕ)) : Type 0 where
+pub record Begun (size : Size) (start : List (List ℕ)) (lines : List Line) (live : LiveBench) : Type 0 where
   pub bench : Bench
   pub before : List Answer
   pub last : Answer
   pub run : Run size (bench_with start) lines (before ++ last ∷ []) bench
   pub formats : last.line ≡ printed.Formatted
-  pub agrees : Agrees size bench power
-  pub same : slots ≡ bench.payloads
+  pub shows : Shows size bench live
   pub formatted : bench.disk_state ≡ Formatted
   pub kept : bench.kept ≡ nothing_kept
   pub enough : bench.growths ≡ 0

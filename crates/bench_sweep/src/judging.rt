@@ -10,20 +10,22 @@ ghost use Rattle.bench_sweep.specs.declared.rows.Row.{Row as RowOf};
 ghost use Rattle.board_model.specs.Shapes.{Size};
 ghost use Rattle.bench_report.specs.Bench.{Bench};
 ghost use Rattle.bench_report.specs.Happens.{off};
-ghost use Rattle.bench_sweep.specs.Runs.{Runs, RunsAt, RunsCalm, Sits, SitsCalm};
+ghost use Rattle.bench_report.specs.Agree.{OffIs};
+ghost use Rattle.bench_sweep.specs.Runs.{LeftOff, Runs, RunsAt, RunsCalm, Sits, SitsCalm};
 ghost use Rattle.bench_sweep.specs.Swept.{AreSwept, cell, runs_of};
-ghost use Rattle.bench_sweep.specs.Reports.{again, Keeps, Judged, IsLeftBy};
+ghost use Rattle.bench_sweep.specs.Reports.{again, Keeps, Judged, IsFoundOn, IsLeftBy};
 ghost use Rattle.bench_sweep.specs.Made.{cut_content, RunsWith};
 ghost use Rattle.bench_sweep.specs.Took.{disk_at};
 
 use crate::finds::count_run;
 use crate::judges::Sweep;
+use crate::ledgers::RunLedger;
 use crate::points::{BenchKind, FILLS, FIRST_FILLS, LAST_FILL, Point, cut_fill};
 use crate::rows::Row;
 use crate::runner::Runner;
 use crate::site::{Going, Site};
 use crate::sites::{Went, cut_by, cut_off, run_lines};
-use bench_report::Setting;
+use bench_report::{OffDisk, Setting};
 use crew::Crew;
 use simdisk::Fill;
 use std::alloc::{AllocError, Global};
@@ -53,6 +55,31 @@ impl PointRows {
     }
 }
 
+/// Powers a board on over `off`, what a power cut left of the disk of a run, counts the run, and keeps what the power-on told as that of
+/// the fill.
+fn judge_left<C: Crew>(
+    runner: &Runner<'_, C>,
+    off: OffDisk,
+    ledger: &RunLedger,
+    point: Point,
+    fill: Option<Fill>,
+    made: &mut PointRows,
+) -> Result<(), AllocError>
+    requires left { (slots : List (List ℕ)) × (b : Bench) × LeftOff runner.now.setting.shape.now b off slots ledger.now }
+    ensures kept { OnOk result ((b : Bench) → OffIs runner.now.setting.shape.now b off.disk
+        → Keeps (IsFoundOn runner.now.setting.shape.now b off.disk) made.old made.new (cell point.caller point.number fill)) }
+{
+    let Setting { alloc, shape, .. } = runner.setting;
+    let left = count_run(alloc, shape, off, ledger, &mut made.sweep)?;
+    made.rows.push(Row {
+        caller: point.caller,
+        number: point.number,
+        fill,
+        left,
+    })?;
+    Ok(())
+}
+
 /// Cuts power, powers a board on over what that leaves of the disk, counts the run, and keeps what it told. What was not synced is
 /// left by the run's fill; where a run has none, after a failure, with zeros.
 fn judge_run<C: Crew>(
@@ -67,23 +94,8 @@ fn judge_run<C: Crew>(
         → RunsAt runner.now.setting.shape.now b site.now
         → Keeps (IsLeftBy runner.now.setting.shape.now b site.now.off.disk) made.old made.new (cell point.caller point.number fill)) }
 {
-    let bytes = cut_fill(fill);
-    let off = cut_by(&site.off, bytes)?;
-    let left = count_run(
-        runner.setting.alloc,
-        runner.setting.shape,
-        off,
-        &site.ledger,
-        &mut made.sweep,
-    )?;
-    let row = Row {
-        caller: point.caller,
-        number: point.number,
-        fill,
-        left,
-    };
-    made.rows.push(row)?;
-    Ok(())
+    let off = cut_by(&site.off, cut_fill(fill))?;
+    judge_left(runner, off, &site.ledger, point, fill, made)
 }
 
 /// Judges as [`judge_run`] does, at a site that nothing else is made of: its own disk is cut, and not another one like it.
@@ -99,16 +111,8 @@ fn judge_last<C: Crew>(
         → RunsAt runner.now.setting.shape.now b site
         → Keeps (IsLeftBy runner.now.setting.shape.now b site.off.disk) made.old made.new (cell point.caller point.number fill)) }
 {
-    let Setting { alloc, shape, .. } = runner.setting;
     let off = cut_off(site.off, cut_fill(fill));
-    let left = count_run(alloc, shape, off, &site.ledger, &mut made.sweep)?;
-    made.rows.push(Row {
-        caller: point.caller,
-        number: point.number,
-        fill,
-        left,
-    })?;
-    Ok(())
+    judge_left(runner, off, &site.ledger, point, fill, made)
 }
 
 /// Keeps the first of these rows for another fill, which leaves the same, and counts its run.

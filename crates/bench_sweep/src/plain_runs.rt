@@ -1,14 +1,17 @@
 //! Which lines a bench runs, and their run as they are.
 
-ghost use Rattle.std.specs.Prelude.{◌≡◌, ◌↔◌, ◌≤◌, ◌<◌, ◌+◌, ◌^◌, ℕ, List, length, take, All, Ok, Err, IsTrue, IfOk, IfErr, OnOk};
+ghost use Rattle.std.specs.Prelude.{◌≡◌, ◌⊎◌, ◌↔◌, ◌≤◌, ◌<◌, ◌+◌, ◌^◌, ℕ, List, length, take, All, Ok, Err, IsTrue, IfOk, IfErr, OnOk};
 ghost use Rattle.std.specs.List.{AllZip};
 ghost use Rattle.board_model.specs.declared.refusal.Refusal.{Refusal};
-ghost use Rattle.board_model.specs.declared.refusal.Refusal.TheVariants.{NotPlain};
+ghost use Rattle.board_model.specs.declared.refusal.Refusal.TheVariants.{Memory, NotPlain};
+ghost use Rattle.script_lang.specs.Lines.{IsLineInRange};
+ghost use Rattle.script_lang.specs.Scripts.{script_of};
+ghost use Rattle.script_lang.specs.Views.{view};
 ghost use Rattle.bench_report.specs.Bench.{Bench};
 ghost use Rattle.bench_report.specs.Happens.{unpowered};
 ghost use Rattle.bench_sweep.specs.Points.{callers, calls_of, MadeCalls};
 ghost use Rattle.bench_sweep.specs.Runs.{RunsAt, Sits, IsEnd, IsLife};
-ghost use Rattle.bench_sweep.specs.Swept.{IsPlainLine, IsNoFormat, IsNotPlain, AreSwept, all_points};
+ghost use Rattle.bench_sweep.specs.Swept.{IsPlainLine, IsNoFormat, IsNotPlain, NoBenchRuns, AreSwept, all_points};
 ghost use Rattle.bench_sweep.specs.Took.{RunTook};
 
 use crate::judging::turn_off;
@@ -18,8 +21,8 @@ use crate::site::{Going, Site};
 use crate::sites::run_lines;
 use board_model::Refusal;
 use crew::Crew;
-use script_lang::Line;
-use std::alloc::AllocError;
+use script_lang::{Line, Script, parse_script};
+use std::alloc::{AllocError, Global};
 
 /// Lines of the plain run up to the next moment at which the board is off.
 #[derive(Drop)]
@@ -147,7 +150,7 @@ fn format_none(lines: &[Line]) -> bool
 }
 
 /// Refused `NotPlain` exactly where no bench runs a script of these lines.
-pub fn check_plain(lines: &[Line]) -> Result<(), Refusal>
+fn check_plain(lines: &[Line]) -> Result<(), Refusal>
     ensures plain { OnOk result (All IsPlainLine lines.now) }
     ensures runs { OnOk result (IsNotPlain lines.now → ⊥) }
     ensures refused { IfErr result (λ e. (e ≡ NotPlain) × IsNotPlain lines.now) }
@@ -159,4 +162,19 @@ pub fn check_plain(lines: &[Line]) -> Result<(), Refusal>
         return Err(Refusal::NotPlain);
     }
     Ok(())
+}
+
+/// The script that the bytes say, if a bench runs it. Refused as [`parse_script`] is, and `NotPlain` exactly where the script has no fault
+/// and no bench runs it.
+pub fn plain_script(alloc: Global, script: &[u8]) -> Result<Script, Refusal>
+    ensures value { IfOk result (λ read. script_of script.now ≡ Ok (view read)) }
+    ensures ranges { IfOk result (λ read. All (IsLineInRange read.shape) read.lines.items) }
+    ensures plain { IfOk result (λ read. All IsPlainLine read.lines.items) }
+    ensures runs { IfOk result (λ read. IsNotPlain read.lines.items → ⊥) }
+    ensures refused { IfErr result (λ e. (e ≡ Memory) ⊎ (script_of script.now ≡ Err e)
+        ⊎ ((e ≡ NotPlain) × NoBenchRuns script.now)) }
+{
+    let read = parse_script(alloc, script)?;
+    check_plain(&read.lines)?;
+    Ok(read)
 }

@@ -11,7 +11,7 @@ ghost use Rattle.script_lang.specs.Lines.{IsLineInRange};
 ghost use Rattle.script_lang.specs.Scripts.{script_of, Script as Said};
 ghost use Rattle.bench_report.specs.Bench.{Bench};
 ghost use Rattle.bench_report.specs.Happens.{unpowered};
-ghost use Rattle.bench_sweep.specs.Made.{IsEnded, RunsArmed};
+ghost use Rattle.bench_sweep.specs.Made.{CallsIn, IsEnded, RunsArmed};
 ghost use Rattle.bench_sweep.specs.Points.{callers, MadeCalls};
 ghost use Rattle.bench_sweep.specs.Runs.{Runs, RunsAt, Sits};
 ghost use Rattle.bench_sweep.specs.Shown.{arming, fill_at, row_lines, run_cell, runs_each, HasFewer, HasNoRun, HasRun, IsNamed, IsNthRun, IsRowOf, NoRow, NoRowOf, ShowsFrom, ShowsNone, ShownRow, WroteScript};
@@ -19,7 +19,7 @@ ghost use Rattle.bench_sweep.specs.Swept.{AreSwept, IsNotPlain, IsPlainLine, NoB
 
 use crate::begins::run_to_format;
 use crate::judging::{turn_off, turn_off_failed};
-use crate::plain_runs::{calls_between, check_plain, run_plain};
+use crate::plain_runs::{calls_between, plain_script, run_plain};
 use crate::points::{BenchKind, CALLERS, Caller, FILLS, Point, RunAt, cut_fill};
 use crate::runner::Runner;
 use crate::site::{Going, Site};
@@ -28,9 +28,7 @@ use bench_report::{Setting, lane_by_lane};
 use board::Payloads;
 use board_model::{BootMode, Refusal, Shape, shape_in_range};
 use crew::Crew;
-use script_lang::{
-    Arming, Line, Script, fits, parse_script, scripts_read_as_written, write_script,
-};
+use script_lang::{Arming, Line, Script, fits, scripts_read_as_written, write_script};
 use simdisk::Fill;
 use std::alloc::{AllocError, Global};
 use std::io::Write;
@@ -106,6 +104,21 @@ fn run_of_number(bench: BenchKind, counts: &[u64], number: u64) -> Option<RunAt>
     None
 }
 
+/// Runs the lines as they are, and answers how many calls each caller made in them.
+fn count_calls<C: Crew>(runner: &Runner<'_, C>, site: &Site) -> Result<Vec<u64>, AllocError>
+    requires lines { AreSwept runner.now.setting.shape.now runner.now.lines.now }
+    requires sits { Sits runner.now.setting.shape.now site.now }
+    ensures calls { IfOk result (λ counts. (b : Bench)
+        → RunsAt runner.now.setting.shape.now b site.now
+        → CallsIn runner.now.setting.shape.now site.now.off.disk (unpowered b) runner.now.lines.now counts.items) }
+    ensures each { IfOk result (λ counts. length counts.items ≡ 5) }
+{
+    let end = run_plain(runner, site)?;
+    let counts = counts_of(runner.setting.alloc, site, &end);
+    end.release();
+    counts
+}
+
 /// Runs the lines as they are, and answers which run of the bench has that number. Refused `BadShape` where none has.
 fn find_run<C: Crew>(runner: &Runner<'_, C>, site: &Site, number: u64) -> Result<RunAt, Refusal>
     requires lines { AreSwept runner.now.setting.shape.now runner.now.lines.now }
@@ -117,8 +130,7 @@ fn find_run<C: Crew>(runner: &Runner<'_, C>, site: &Site, number: u64) -> Result
         → RunsAt runner.now.setting.shape.now b site.now
         → HasNoRun runner.now.bench runner.now.setting.shape.now site.now.off.disk (unpowered b) runner.now.lines.now number))) }
 {
-    let end = run_plain(runner, site)?;
-    let counts = counts_of(runner.setting.alloc, site, &end)?;
+    let counts = count_calls(runner, site)?;
     match run_of_number(runner.bench, &counts, number) {
         None => Err(Refusal::BadShape),
         Some(run) => Ok(run),
@@ -395,7 +407,6 @@ pub fn show_row<R: Threads + Sync, W: Write>(
     // Where there is no such row, nothing is written.
     ensures none { result ≡ Err BadShape → W.contents out.new ≡ W.contents out.old }
 {
-    let script = parse_script(alloc, script)?;
-    check_plain(&script.lines)?;
+    let script = plain_script(alloc, script)?;
     show_plain_script::<R, W>(alloc, wanted, &script, &payloads, out)
 }

@@ -23,7 +23,7 @@ use crate::chunks::{RunsAtCalls, chunk_size, marks_of};
 use crate::judges::Sweep;
 use crate::judging::PointRows;
 use crate::plain_runs::{
-    LifeSpan, calls_between, calls_of_all, check_plain, run_plain, stretch_of,
+    LifeSpan, calls_between, calls_of_all, plain_script, run_plain, stretch_of,
 };
 use crate::plan::SweepPlan;
 use crate::points::{CALLERS, Caller};
@@ -35,7 +35,7 @@ use board::Payloads;
 use board_model::{Refusal, unwritten};
 use crew::Crew;
 use jobs::{Chunk, Jobs, Part, Progress, Sink, Window, hand_on_all};
-use script_lang::{Line, Script, parse_script};
+use script_lang::{Line, Script};
 use std::alloc::{AllocError, Global};
 use std::io::{self, Write};
 use std::mem::replace;
@@ -414,8 +414,7 @@ pub fn run_bench<R: Threads + Sync, P: Progress, W: Write>(
     ensures plain { (said : Said) → script_of script.now ≡ Ok said → IsNotPlain said.lines
         → (W.contents out.new ≡ W.contents out.old) × ((result ≡ Err NotPlain) ⊎ (result ≡ Err Memory)) }
 {
-    let script = parse_script(alloc, script)?;
-    check_plain(&script.lines)?;
+    let script = plain_script(alloc, script)?;
     match sweep_plain_script::<R, P, W>(jobs, alloc, plan, &script, &payloads, out) {
         Ok(sweep) => Ok(sweep),
         Err(error) => Err(unwritten(error)),

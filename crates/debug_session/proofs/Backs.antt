@@ -7,11 +7,11 @@ use Rattle.std.proofs.lemmas.List.Elements.{All-head, All-tail}
 use Rattle.board_model.specs.Shapes.{Size}
 use Rattle.script_lang.specs.declared.line.Line.{Line}
 use Rattle.script_lang.specs.declared.line.Line.TheVariants as lines
-use Rattle.bench_live.specs.Pasts.{moments, singles, some_turns}
+use Rattle.debug_session.specs.Pasts.{moments, singles, some_turns}
 use Rattle.report_lines.specs.declared.printed.Answer.{Answer}
 use Rattle.bench_report.specs.Bench.{Bench, bench_with}
 use Rattle.bench_report.specs.Steps.{Run}
-use Rattle.bench_live.specs.Notes.{Leaves}
+use Rattle.debug_session.specs.Notes.{Leaves}
 use Rattle.debug_session.specs.Ats.{IsPlace}
 use Rattle.debug_session.specs.declared.timeline.Timeline.{Timeline}
 use Rattle.debug_session.proofs.Histories.{left_moments, place_at, place_before}

@@ -12,11 +12,11 @@ use Rattle.sbi.specs.declared.words.Word.TheVariants as words
 use Rattle.sbi_calls.specs.declared.words.Did.TheVariants as dids
 use Rattle.script_lang.specs.declared.line.Line.{Line}
 use Rattle.script_lang.specs.declared.line.Line.TheVariants as lines
-use Rattle.bench_live.specs.Pasts.{moments}
+use Rattle.debug_session.specs.Pasts.{moments}
 use Rattle.bench_report.specs.Bench.{Bench}
-use Rattle.bench_live.specs.declared.rows.TurnRow.{TurnRow}
-use Rattle.bench_live.specs.declared.rows.TurnRow.TheVariants as rows
-use Rattle.bench_live.specs.Rows.{IsWithin, RowMoves, last_of, made_in}
+use Rattle.bench_report.specs.declared.rows.TurnRow.{TurnRow}
+use Rattle.bench_report.specs.declared.rows.TurnRow.TheVariants as rows
+use Rattle.bench_report.specs.Rows.{IsWithin, RowMoves, last_of, made_in}
 use Rattle.debug_session.specs.declared.timeline.Timeline.{Timeline}
 use Rattle.debug_session.specs.Ats.{IsLeft}
 use Rattle.debug_session.specs.Lives.{machine_of, pc_in, stands_in}
@@ -221,7 +221,7 @@ module _ (size : Size) (stops : Stops) where
   map_turns (suc n) h = ap (λ (xs : List Line). lines.Turn h 1 ∷ xs) (map_turns n h)
 
   shown : (t : Timeline) (b : Bench) → IsLeft size t b → machine_of t.bench ≡ machine_left b.power
-  shown t b left = shown_machine size b t.bench.live.power t.bench.live.payloads left.2
+  shown t b left = shown_machine size b t.bench.power t.bench.payloads left.2
 
   pub stretch_halts : (h most made : ℕ) (rests : Bool) (halt : Option HaltReason) (old new : Timeline) → stops.watches.items ≡ [] → Stretched size h most stops.points.items made rests halt old new
       → ToHalt size stops h halt old new

@@ -9,8 +9,8 @@ use Rattle.board_model.specs.Shapes.{Size}
 use Rattle.script_lang.specs.Lines.{IsLineInRange}
 use Rattle.script_lang.specs.declared.line.Line.{Line}
 use Rattle.script_lang.specs.declared.line.Line.TheVariants as lines
-use Rattle.bench_live.specs.Pasts.{IsRowCut, moments, singles, some_turns}
-use Rattle.bench_live.specs.Notes.{AreInRange}
+use Rattle.debug_session.specs.Pasts.{IsRowCut, moments, singles, some_turns}
+use Rattle.debug_session.specs.Notes.{AreInRange}
 use Rattle.debug_session.specs.Ats.{IsBefore, IsPlace}
 
 All-back : (P : Line → Type 0) (xs ys : List Line) → All P (xs ++ ys) → All P ys

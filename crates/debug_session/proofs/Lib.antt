@@ -1,3 +1,5 @@
+pub mod Moments
+pub mod Noted
 pub mod Rests
 pub mod Histories
 pub mod Timelines
@@ -6,7 +8,7 @@ pub mod OneLoad
 pub mod Unread
 pub mod Wents
 pub mod Scripts
-pub mod Places
+pub mod RowPlaces
 pub mod Firsts
 pub mod Backs
 pub mod Withins

@@ -11,29 +11,27 @@ use Rattle.machine.specs.declared.line.MachineLine.TheVariants as shown
 use Rattle.report_lines.specs.declared.printed.Printed.TheVariants as printed
 use Rattle.report_lines.specs.declared.printed.Answer.{Answer}
 use Rattle.bench_report.specs.Steps.{Moves, TurnStep}
-use Rattle.bench_report.specs.Agree.{BoardIs}
+use Rattle.bench_report.specs.Agree.{BoardIs, IsBench}
 use Rattle.bench_report.specs.Bench.{Bench, BenchLife, DiskState}
 use Rattle.bench_report.specs.Views.{SimBoard}
 use Rattle.bench_report.specs.declared.power.Power.{Power}
 use Rattle.bench_report.specs.declared.power.Power.TheVariants.{Off, On}
-use Rattle.bench_live.specs.declared.rows.TurnRow.{TurnRow}
-use Rattle.bench_live.specs.declared.rows.TurnRow.TheVariants as rows
-use Rattle.bench_live.specs.Rows.{IsOpenRow, IsWithin, RowMoves, RowsJoin, is_off, made_in, row_answer, row_then}
-use Rattle.bench_live.specs.Lives.{PowerShows}
-use Rattle.bench_live.specs.declared.live.LiveBench.{LiveBench}
-use Rattle.bench_live.specs.Lives as live
+use Rattle.bench_report.specs.declared.rows.TurnRow.{TurnRow}
+use Rattle.bench_report.specs.declared.rows.TurnRow.TheVariants as rows
+use Rattle.bench_report.specs.Rows.{IsOpenRow, IsWithin, RowMoves, RowsJoin, is_off, made_in, row_answer, row_then}
+use Rattle.bench_report.specs.declared.live.LiveBench.{LiveBench}
+use Rattle.bench_report.specs.Lives as live
 use Rattle.debug_session.specs.Lives.{machine_on, pc_in, stands_in}
 use Rattle.debug_session.specs.Passes.{GoesTo, Passes, machine_left}
 
 -- ---- the machine that a bench shows
-on_machine : (size : Size) (disk_state : DiskState) (kept : Kept) (p : Option BenchLife) (board : SimBoard) → BoardIs size disk_state kept p board → machine_on (Some (On board)) ≡ machine_left p
+on_machine : (size : Size) (disk_state : DiskState) (kept : Kept) (p : Option BenchLife) (board : SimBoard) → BoardIs size disk_state kept p board → machine_on (On board) ≡ machine_left p
 on_machine size disk_state kept None board is = absurd is
 on_machine size disk_state kept (Some life) board is = ap (λ (m : Machine). Some m) is.1
 
-pub shown_machine : (size : Size) (b : Bench) (power : Option Power) (payloads : List (List ℕ)) → PowerShows size b power payloads → machine_on power ≡ machine_left b.power
-shown_machine size b None payloads shows = absurd shows
-shown_machine size b (Some (Off disk)) payloads shows = sym (ap machine_left shows.0.0)
-shown_machine size b (Some (On board)) payloads shows = on_machine size b.disk_state b.kept b.power board shows.0.0
+pub shown_machine : (size : Size) (b : Bench) (power : Power) (payloads : List (List ℕ)) → IsBench size b power payloads → machine_on power ≡ machine_left b.power
+shown_machine size b (Off disk) payloads shows = sym (ap machine_left shows.0.0)
+shown_machine size b (On board) payloads shows = on_machine size b.disk_state b.kept b.power board shows.0.0
 
 -- ---- where no turn is made
 none_at : (h : ℕ) (m : Machine) → (HasHart m h → ⊥) → pc_in h (Some m) ≡ None

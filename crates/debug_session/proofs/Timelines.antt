@@ -9,20 +9,20 @@ use Rattle.script_lang.specs.declared.line.Line.TheVariants as lines
 use Rattle.report_lines.specs.declared.printed.Answer.{Answer}
 use Rattle.bench_report.specs.Bench.{Bench, bench_with}
 use Rattle.bench_report.specs.Steps.{Moves}
-use Rattle.bench_live.specs.declared.rows.TurnRow.{TurnRow}
-use Rattle.bench_live.specs.declared.rows.TurnRow.TheVariants as rows
-use Rattle.bench_live.specs.Rows.{RowMoves, goes_on, made_in}
+use Rattle.bench_report.specs.declared.rows.TurnRow.{TurnRow}
+use Rattle.bench_report.specs.declared.rows.TurnRow.TheVariants as rows
+use Rattle.bench_report.specs.Rows.{RowMoves, goes_on, made_in}
 use Rattle.bench_report.specs.Agree.{fill_after, fills_after}
 use Rattle.bench_report.proofs.RunLines.{fills_snoc}
-use Rattle.bench_live.specs.Notes.{AreInRange, Joins, Leaves, NotesRow}
-use Rattle.bench_live.proofs.Noted.{leaves_more, ranges_more}
+use Rattle.debug_session.specs.Notes.{AreInRange, Joins, Leaves, NotesRow}
+use Rattle.debug_session.proofs.Noted.{leaves_more, ranges_more}
 use Rattle.script_lang.specs.Lines.{IsLineInRange}
 use Rattle.simdisk.specs.declared.fill.Fill.TheVariants as fills
-use Rattle.debug_session.specs.declared.debugged.DebuggedBench.{DebuggedBench}
+use Rattle.bench_report.specs.declared.live.LiveBench.{LiveBench}
 use Rattle.std.specs.declared.alloc.AllocError.{AllocError}
 use Rattle.debug_session.specs.declared.timeline.Timeline.{Timeline}
 use Rattle.debug_session.specs.Ats.{GoesOnBy, IsAt, IsLeft, IsNoted, Ran}
-use Rattle.debug_session.specs.Lives.{IsSound, Shows}
+use Rattle.bench_report.specs.Lives.{IsSound, Shows}
 use Rattle.debug_session.proofs.Rests.{not_true}
 
 -- what holds whatever is answered
@@ -31,11 +31,11 @@ always_ok (Ok x) P h = h
 always_ok (Err e) P h = tt
 
 -- what a history and a bench together are
-abbrev pub Left : Size → List (List ℕ) → List Line → Bool → DebuggedBench → Bench → Type 0
+abbrev pub Left : Size → List (List ℕ) → List Line → Bool → LiveBench → Bench → Type 0
 Left size begins past joins live b = Leaves size (bench_with begins) past b × Joins size (bench_with begins) joins past b × Shows size b live
 
 -- a row of turns was made and noted
-pub row_left : (size : Size) (h : ℕ) (row : TurnRow) (begins : List (List ℕ)) (was now : List Line) (joined joins : Bool) (before after : DebuggedBench) (Also : Bench → Bench → Type 0)
+pub row_left : (size : Size) (h : ℕ) (row : TurnRow) (begins : List (List ℕ)) (was now : List Line) (joined joins : Bool) (before after : LiveBench) (Also : Bench → Bench → Type 0)
     → NotesRow size h row joined joins was now
     → ((b : Bench) → Shows size b before → (x : Bench) × RowMoves size h row b x × Also b x × Shows size x after)
     → (b : Bench) → Left size begins was joined before b → (x : Bench) × RowMoves size h row b x × Also b x × Left size begins now joins after x
@@ -45,7 +45,7 @@ row_left size h row begins was now joined joins before after Also notes moves b 
     (did.0, did.1, did.2, (noted.0, noted.1, did.3))
 
 -- a line was run and noted
-pub line_left : (size : Size) (line : Line) (answer : Answer) (begins : List (List ℕ)) (was : List Line) (joined : Bool) (before after : DebuggedBench)
+pub line_left : (size : Size) (line : Line) (answer : Answer) (begins : List (List ℕ)) (was : List Line) (joined : Bool) (before after : LiveBench)
     → ((b : Bench) → Shows size b before → (x : Bench) × Moves size line b answer x × Shows size x after)
     → (b : Bench) → Left size begins was joined before b → (x : Bench) × Moves size line b answer x × Left size begins (was ++ line ∷ []) false after x
 line_left size line answer begins was joined before after moves b left =
@@ -53,16 +53,16 @@ line_left size line answer begins was joined before after moves b left =
     (did.0, did.1, (leaves_more size (bench_with begins) was b line answer did.0 left.0 did.1, tt, did.2))
 
 -- that of a timeline whose parts are these
-left_as : (size : Size) (t : Timeline) (begins : List (List ℕ)) (past : List Line) (joins : Bool) (live : DebuggedBench) (b : Bench) → t.begins ≡ begins → t.history ≡ past → t.joins ≡ joins → t.bench ≡ live
+left_as : (size : Size) (t : Timeline) (begins : List (List ℕ)) (past : List Line) (joins : Bool) (live : LiveBench) (b : Bench) → t.begins ≡ begins → t.history ≡ past → t.joins ≡ joins → t.bench ≡ live
     → Left size begins past joins live b → Left size t.begins t.history t.joins t.bench b
 left_as size t begins past joins live b e f g h left =
     let P : List (List ℕ) → Type 0 = λ x. Left size x past joins live b in
     let Q : List Line → Type 0 = λ x. Left size t.begins x joins live b in
     let R : Bool → Type 0 = λ x. Left size t.begins t.history x live b in
-    let S : DebuggedBench → Type 0 = λ x. Left size t.begins t.history t.joins x b in
+    let S : LiveBench → Type 0 = λ x. Left size t.begins t.history t.joins x b in
     subst S (sym h) (subst R (sym g) (subst Q (sym f) (subst P (sym e) left)))
 
-pub line_moves : (size : Size) (line : Line) (answer : Answer) (r : Result Answer AllocError) (old new : Timeline) (after : DebuggedBench)
+pub line_moves : (size : Size) (line : Line) (answer : Answer) (r : Result Answer AllocError) (old new : Timeline) (after : LiveBench)
     → ((b : Bench) → Shows size b old.bench → (x : Bench) × Moves size line b answer x × Shows size x after) → new.bench ≡ after → new.begins ≡ old.begins
     → IfOk r (λ said. said ≡ answer) → OnOk r (new.history ≡ old.history ++ line ∷ []) → OnOk r (new.joins ≡ false)
     → IfOk r (λ said. (b : Bench) → IsLeft size old b → (x : Bench) × Moves size line b said x × IsLeft size new x)
@@ -72,16 +72,16 @@ line_moves size line answer (Ok said) old new after moves same begins is grew ap
     let P : Answer → Type 0 = λ a. Moves size line b a did.0 in
     (did.0, subst P (sym is) did.1, left_as size new old.begins (old.history ++ line ∷ []) false after did.0 begins grew apart same did.2)
 
-pub line_at : (size : Size) (line : Line) (answer : Answer) (r : Result Answer AllocError) (old new : Timeline) (after : DebuggedBench) → IsAt size old → IsLineInRange size line
-    → ((b : Bench) → Shows size b old.bench → (x : Bench) × Moves size line b answer x × Shows size x after) → IsSound after → after.live.fill ≡ fill_after line old.bench.live.fill
+pub line_at : (size : Size) (line : Line) (answer : Answer) (r : Result Answer AllocError) (old new : Timeline) (after : LiveBench) → IsAt size old → IsLineInRange size line
+    → ((b : Bench) → Shows size b old.bench → (x : Bench) × Moves size line b answer x × Shows size x after) → IsSound after → after.fill ≡ fill_after line old.bench.fill
     → new.bench ≡ after → new.begins ≡ old.begins → OnOk r (new.history ≡ old.history ++ line ∷ []) → OnOk r (new.joins ≡ false) → OnOk r (IsAt size new)
 line_at size line answer (Err e) old new after at range moves sound fill same begins grew apart = tt
 line_at size line answer (Ok said) old new after at range moves sound fill same begins grew apart =
     let did = line_left size line answer old.begins old.history old.joins old.bench after moves at.left.0 at.left.1 in
     record {
       left = (did.0, left_as size new old.begins (old.history ++ line ∷ []) false after did.0 begins grew apart same did.2);
-      sound = (let P : DebuggedBench → Type 0 = λ x. IsSound x in subst P (sym same) sound);
-      fill = ap (λ (x : DebuggedBench). x.live.fill) same ∙ fill ∙ ap (fill_after line) at.fill ∙ sym (ap (λ (xs : List Line). fills_after xs fills.Old) grew ∙ fills_snoc old.history line fills.Old);
+      sound = (let P : LiveBench → Type 0 = λ x. IsSound x in subst P (sym same) sound);
+      fill = ap (λ (x : LiveBench). x.fill) same ∙ fill ∙ ap (fill_after line) at.fill ∙ sym (ap (λ (xs : List Line). fills_after xs fills.Old) grew ∙ fills_snoc old.history line fills.Old);
       ranges = subst (AreInRange size) (sym grew) (ranges_more size old.history line at.ranges range);
     }
 
@@ -113,7 +113,7 @@ joins_more size start mid new false past line leaves goes = tt
 joins_more size start mid new true past line leaves (h, n, word, is, moves, runs) =
     (past, h, n, mid, word, ap (λ (l : Line). past ++ l ∷ []) is, leaves, moves, runs)
 
-pub again_more : (size : Size) (begins : List (List ℕ)) (lines : List Line) (i : ℕ) (d : Line) (joined joins : Bool) (before after : DebuggedBench) → i < length lines
+pub again_more : (size : Size) (begins : List (List ℕ)) (lines : List Line) (i : ℕ) (d : Line) (joined joins : Bool) (before after : LiveBench) → i < length lines
     → ((b : Bench) → Shows size b before → (answer : Answer) × (new : Bench) × Moves size (get_or lines i d) b answer new × Shows size new after × GoesOnBy size joins (get_or lines i d) b new)
     → (b : Bench) × Left size begins (take i lines) joined before b → (b : Bench) × Left size begins (take (i + 1) lines) joins after b
 again_more size begins lines i d joined joins before after less moves (b, left) =

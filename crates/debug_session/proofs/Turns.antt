@@ -4,7 +4,7 @@ use Rattle.std.specs.Prelude.{min}
 use Rattle.std.proofs.lemmas.List.{take_more}
 use Rattle.std.proofs.lemmas.List.Sums.{sum_by_push, sum_by-append}
 use Rattle.script_lang.specs.declared.line.Line.{Line}
-use Rattle.bench_live.specs.Pasts.{some_turns}
+use Rattle.debug_session.specs.Pasts.{some_turns}
 use Rattle.debug_session.specs.Ats.{IsBefore}
 use Rattle.debug_session.specs.declared.timeline.Timeline.{Timeline}
 use Rattle.debug_session.specs.Turns.{WentTo, turns_made, turns_of, turns_told}

@@ -5,11 +5,11 @@ use Rattle.std.proofs.lemmas.List.{append-nil, replicate-append-replicate}
 use Rattle.board_model.specs.Shapes.{Size}
 use Rattle.machine.specs.Machine.{Machine}
 use Rattle.script_lang.specs.declared.line.Line.{Line}
-use Rattle.bench_live.specs.Pasts.{moments}
+use Rattle.debug_session.specs.Pasts.{moments}
 use Rattle.bench_report.specs.Bench.{Bench}
-use Rattle.bench_live.specs.declared.rows.TurnRow.{TurnRow}
-use Rattle.bench_live.specs.declared.rows.TurnRow.TheVariants as rows
-use Rattle.bench_live.specs.Rows.{IsWithin, is_off, made_in}
+use Rattle.bench_report.specs.declared.rows.TurnRow.{TurnRow}
+use Rattle.bench_report.specs.declared.rows.TurnRow.TheVariants as rows
+use Rattle.bench_report.specs.Rows.{IsWithin, is_off, made_in}
 use Rattle.debug_session.specs.declared.timeline.Timeline.{Timeline}
 use Rattle.debug_session.specs.Ats.{IsLeft, MadeTurns}
 use Rattle.debug_session.specs.Lives.{Rests, machine_of, pc_in}
@@ -65,7 +65,7 @@ some_is (Some x) halt P e has = let same : x ≡ halt = cc in subst P same has
 
 module _ (size : Size) (within : StepRange) (h : ℕ) where
   is_shown : (t : Timeline) (b : Bench) → IsLeft size t b → is_in within (pc_in h (machine_of t.bench)) ≡ is_pc_in within h b
-  is_shown t b left = ap (λ (m : Option Machine). is_in within (pc_in h m)) (shown_machine size b t.bench.live.power t.bench.live.payloads left.2)
+  is_shown t b left = ap (λ (m : Option Machine). is_in within (pc_in h m)) (shown_machine size b t.bench.power t.bench.payloads left.2)
 
   joined : (n made : ℕ) (old mid new : Timeline) → moments mid.history ≡ moments old.history ++ replicate n (one_turn h) → moments new.history ≡ moments mid.history ++ replicate made (one_turn h)
       → moments new.history ≡ moments old.history ++ replicate (n + made) (one_turn h)
@@ -137,7 +137,7 @@ module _ (size : Size) (within : StepRange) (h : ℕ) where
 
     -- since the board is off, or lacks the hart
     off_so : pc_in h (machine_of last.bench) ≡ None → (b : Bench) → IsLeft size last b → pc_in h (machine_left b.power) ≡ None
-    off_so off b left = sym (ap (λ (m : Option Machine). pc_in h m) (shown_machine size b last.bench.live.power last.bench.live.payloads left.2)) ∙ off
+    off_so off b left = sym (ap (λ (m : Option Machine). pc_in h m) (shown_machine size b last.bench.power last.bench.payloads left.2)) ∙ off
 
     -- since the hart has nothing to do
     idle_none : (rests : Bool) → part.rests ≡ rests → MadeTurns size h points rows.Off part.rests mid last → HaltsBy rows.Off rests (pc_in h (machine_of last.bench)) part.halt → part.halt ≡ None → StepsWithin size within h halts.Idle first last

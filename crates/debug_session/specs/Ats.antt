@@ -6,17 +6,18 @@ use Rattle.sbi.specs.declared.words.Word.{Word}
 use Rattle.script_lang.specs.declared.line.Line.{Line}
 use Rattle.script_lang.specs.declared.line.Line.TheVariants as lines
 use Rattle.simdisk.specs.declared.fill.Fill.TheVariants as fills
-use Rattle.bench_live.specs.Pasts.{moments}
+use Rattle.debug_session.specs.Pasts.{moments}
 use Rattle.report_lines.specs.declared.printed.Answer.{Answer}
 use Rattle.bench_report.specs.Bench.{Bench, bench_with}
 use Rattle.bench_report.specs.Agree.{fills_after}
 use Rattle.bench_report.specs.Steps.{Moves}
-use Rattle.bench_live.specs.declared.rows.TurnRow.{TurnRow}
-use Rattle.bench_live.specs.declared.rows.TurnRow.TheVariants as rows
-use Rattle.bench_live.specs.Rows.{IsWithin, RowMoves, is_idle_row, made_in, row_answer}
-use Rattle.bench_live.specs.Notes.{AreInRange, Joins, Leaves}
+use Rattle.bench_report.specs.declared.rows.TurnRow.{TurnRow}
+use Rattle.bench_report.specs.declared.rows.TurnRow.TheVariants as rows
+use Rattle.bench_report.specs.Rows.{IsWithin, RowMoves, is_idle_row, made_in, row_answer}
+use Rattle.debug_session.specs.Notes.{AreInRange, Joins, Leaves}
 use Rattle.debug_session.specs.declared.timeline.Timeline.{Timeline}
-use Rattle.debug_session.specs.Lives.{IsSound, Rests, Shows}
+use Rattle.bench_report.specs.Lives.{IsSound, Shows}
+use Rattle.debug_session.specs.Lives.{Rests}
 use Rattle.debug_session.specs.Passes.{GoesTo}
 
 -- a line is a row of turns of which all were made, and a further turn of the hart is one row with it
@@ -36,7 +37,7 @@ IsLeft size t b =
 pub record IsAt (size : Size) (t : Timeline) : Type 0 where
   pub left : (b : Bench) × IsLeft size t b
   pub sound : IsSound t.bench
-  pub fill : t.bench.live.fill ≡ fills_after t.history fills.Old
+  pub fill : t.bench.fill ≡ fills_after t.history fills.Old
   pub ranges : AreInRange size t.history
 
 -- A line became part of the history; a row of turns with as many as its answer says.

@@ -8,11 +8,11 @@ use Rattle.sbi_calls.specs.declared.words.Did.{Did}
 use Rattle.sbi_calls.specs.declared.words.Did.TheVariants as dids
 use Rattle.script_lang.specs.declared.line.Line.{Line}
 use Rattle.script_lang.specs.declared.line.Line.TheVariants as lines
-use Rattle.bench_live.specs.Pasts.{moments}
+use Rattle.debug_session.specs.Pasts.{moments}
 use Rattle.bench_report.specs.Bench.{Bench}
-use Rattle.bench_live.specs.declared.rows.TurnRow.{TurnRow}
-use Rattle.bench_live.specs.declared.rows.TurnRow.TheVariants as rows
-use Rattle.bench_live.specs.Rows.{IsWithin, RowMoves, is_off, made_in}
+use Rattle.bench_report.specs.declared.rows.TurnRow.{TurnRow}
+use Rattle.bench_report.specs.declared.rows.TurnRow.TheVariants as rows
+use Rattle.bench_report.specs.Rows.{IsWithin, RowMoves, is_off, made_in}
 use Rattle.debug_session.specs.declared.timeline.Timeline.{Timeline}
 use Rattle.debug_session.specs.Ats.{IsLeft, MadeTurns}
 use Rattle.debug_session.specs.Lives.{machine_of, memory_in, pc_in, stands_in}

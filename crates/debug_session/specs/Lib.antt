@@ -1,3 +1,5 @@
+pub mod Pasts
+pub mod Notes
 pub mod Lives
 pub mod Loads
 pub mod Passes

@@ -1,4 +1,4 @@
--- How the bench of a debugger stands for the bench of the model, and what it shows.
+-- What the bench of a debugger shows.
 use Rattle.std.specs.Prelude.{◌≡◌, ◌⊎◌, ℕ, ◌+◌, ◌-◌, Bool, true, false, List, Option, Some, None, nat_lt, nat_le, ◌==◌, ◌&&◌, if◌then◌else◌, length, slice_range, ⊤}
 use Rattle.std.specs.List.{list_any}
 use Rattle.board_model.specs.Shapes.{Size}
@@ -18,30 +18,20 @@ use Rattle.bench_report.specs.Bench.{Bench}
 use Rattle.bench_report.specs.Happens.{shows}
 use Rattle.bench_report.specs.Steps.{Moves}
 use Rattle.bench_report.specs.Views.{machine_in}
-use Rattle.bench_live.specs.declared.rows.TurnRow.{TurnRow}
-use Rattle.bench_live.specs.Rows.{goes_on, is_idle, is_off}
-use Rattle.bench_live.specs.Lives as live
-use Rattle.debug_session.specs.declared.debugged.DebuggedBench.{DebuggedBench}
-
--- it stands for the bench, between two lines
-abbrev pub Shows : Size → Bench → DebuggedBench → Type 0
-Shows size b bench = live.Shows size b bench.live
-
--- what the next line needs
-abbrev pub IsSound : DebuggedBench → Type 0
-IsSound bench = live.IsSound bench.live
+use Rattle.bench_report.specs.declared.rows.TurnRow.{TurnRow}
+use Rattle.bench_report.specs.Rows.{goes_on, is_idle, is_off}
+use Rattle.bench_report.specs.declared.live.LiveBench.{LiveBench}
 
 -- ---- what is shown
 
 -- the machine of a board that is on
-abbrev pub machine_on : Option Power → Option Machine
-machine_on None = None
-machine_on (Some (Off disk)) = None
-machine_on (Some (On board)) = Some (machine_in board)
+abbrev pub machine_on : Power → Option Machine
+machine_on (Off disk) = None
+machine_on (On board) = Some (machine_in board)
 
 -- the machine of a bench whose board is on
-abbrev pub machine_of : DebuggedBench → Option Machine
-machine_of bench = machine_on bench.live.power
+abbrev pub machine_of : LiveBench → Option Machine
+machine_of bench = machine_on bench.power
 
 -- the pc of a hart that the machine has
 abbrev pub pc_in : ℕ → Option Machine → Option ℕ

@@ -5,9 +5,9 @@ use Rattle.machine.specs.Machine.{Machine}
 use Rattle.sbi.specs.Words.{ends}
 use Rattle.sbi.specs.declared.words.Word.{Word}
 use Rattle.bench_report.specs.Bench.{Bench, BenchLife}
-use Rattle.bench_live.specs.declared.rows.TurnRow.{TurnRow}
-use Rattle.bench_live.specs.declared.rows.TurnRow.TheVariants as rows
-use Rattle.bench_live.specs.Rows.{RowMoves, last_of, made_in}
+use Rattle.bench_report.specs.declared.rows.TurnRow.{TurnRow}
+use Rattle.bench_report.specs.declared.rows.TurnRow.TheVariants as rows
+use Rattle.bench_report.specs.Rows.{RowMoves, last_of, made_in}
 use Rattle.debug_session.specs.Lives.{pc_in, stands_in}
 
 -- the machine of a board that is on

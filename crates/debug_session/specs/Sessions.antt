@@ -3,7 +3,7 @@ use Rattle.std.specs.Prelude.{ℕ, List, Option}
 use Rattle.board_model.specs.Shapes.{Size}
 use Rattle.machine.specs.Machine.{Machine}
 use Rattle.script_lang.specs.declared.line.Line.{Line}
-use Rattle.debug_session.specs.declared.debugged.DebuggedBench.{DebuggedBench}
+use Rattle.bench_report.specs.declared.live.LiveBench.{LiveBench}
 use Rattle.debug_session.specs.declared.stops.Stops.{Stops}
 use Rattle.debug_session.specs.declared.stops.Watchpoint.{Watchpoint}
 use Rattle.debug_session.specs.declared.session.SessionPlan.{SessionPlan}
@@ -29,7 +29,7 @@ module _ {C : Type 0} where
   begins_of s = s.timeline.begins
 
   -- the bench as it stands
-  abbrev pub bench_of : Session C → DebuggedBench
+  abbrev pub bench_of : Session C → LiveBench
   bench_of s = s.timeline.bench
 
   -- the memory and harts of a board that is on

@@ -9,7 +9,7 @@ use Rattle.script_lang.specs.Spellings.{board_text}
 use Rattle.script_lang.specs.declared.line.Line.{Line}
 use Rattle.hsm.specs.declared.state.State.{State}
 use Rattle.hsm.specs.declared.state.State.TheVariants as states
-use Rattle.debug_session.specs.declared.debugged.DebuggedBench.{DebuggedBench}
+use Rattle.bench_report.specs.declared.live.LiveBench.{LiveBench}
 use Rattle.debug_session.specs.Lives.{machine_of, state_in}
 use lib.Chars.{codes}
 
@@ -40,5 +40,5 @@ status_text (Some states.Stopped) = codes "STOPPED"
 status_text (Some states.StartPending) = codes "START_PENDING"
 status_text (Some states.Suspended) = codes "SUSPENDED"
 
-abbrev pub state_text : ℕ → DebuggedBench → List ℕ
+abbrev pub state_text : ℕ → LiveBench → List ℕ
 state_text h bench = status_text (state_in h (machine_of bench))

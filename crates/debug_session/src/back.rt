@@ -2,22 +2,23 @@
 
 ghost use Rattle.std.specs.Prelude.{◌≡◌, ◌⊎◌, ◌<◌, All, replicate, take, IfOk, IfSome, IfNone, OnOk};
 ghost use Rattle.board_model.specs.Shapes.{Size};
-ghost use Rattle.bench_live.specs.Notes.{AreInRange};
-ghost use Rattle.bench_live.specs.Pasts.{moments, singles};
+ghost use Rattle.debug_session.specs.Notes.{AreInRange};
+ghost use Rattle.debug_session.specs.Pasts.{moments, singles};
 ghost use Rattle.bench_report.specs.Bench.{Bench, bench_with};
 ghost use Rattle.debug_session.specs.Ats.{IsAt, IsPlace};
 ghost use Rattle.debug_session.specs.Backs.{BackTo, FoundIn, FoundOf, IfEnded, IsEnd, IsRowPast, IsSeen, MayMove, StaysBack, halt_back, later_place, later_turn};
 ghost use Rattle.debug_session.specs.Firsts.{one_turn};
 ghost use Rattle.debug_session.specs.Steps.{MakesNone};
-ghost use Rattle.debug_session.specs.Lives.{IsSound, Shows};
+ghost use Rattle.bench_report.specs.Lives.{IsSound, Shows};
 ghost use Rattle.script_lang.specs.Lines.{IsLineInRange};
 
-use crate::debugged::DebuggedBench;
 use crate::halts::{HaltReason, Stop};
+use crate::loads::next_load;
+use crate::looks::stands_at;
 use crate::replays::replay;
 use crate::stops::{Stops, Watchpoint, first_touched};
 use crate::timeline::Timeline;
-use bench_report::Setting;
+use bench_report::{LiveBench, Setting};
 use board_model::HartId;
 use crew::Crew;
 use script_lang::Line;
@@ -86,7 +87,7 @@ fn halt_back(stands: bool, touched: Option<Watchpoint>) -> Option<HaltReason>
 fn seen_back<C: Crew>(
     setting: &Setting<'_, C>,
     stops: &Stops,
-    bench: &mut DebuggedBench,
+    bench: &mut LiveBench,
     hart: HartId,
 ) -> Result<Option<HaltReason>, AllocError>
     requires sound { IsSound bench.old }
@@ -94,8 +95,8 @@ fn seen_back<C: Crew>(
         × (MayMove size (one_turn hart) b new × IsSeen halt stops.now hart b new) × Shows size new bench.new) }
     ensures sound { OnOk result (IsSound bench.new) }
 {
-    let load = bench.next_load(hart);
-    let stands = bench.stands_at(hart, stops.points());
+    let load = next_load(bench, hart);
+    let stands = stands_at(bench, hart, stops.points());
     let before = stops.watched(setting.alloc, bench)?;
     bench.turns(setting, hart, 1);
     let touched = first_touched(bench, load, &before);
@@ -135,7 +136,7 @@ fn later_place(
 fn last_halt_in<C: Crew>(
     setting: &Setting<'_, C>,
     stops: &Stops,
-    bench: &mut DebuggedBench,
+    bench: &mut LiveBench,
     hart: HartId,
     turns: u32,
 ) -> Result<Option<(u32, Stop)>, AllocError>
@@ -157,7 +158,7 @@ fn last_halt_in<C: Crew>(
 fn last_halt_of<C: Crew>(
     setting: &Setting<'_, C>,
     stops: &Stops,
-    bench: &mut DebuggedBench,
+    bench: &mut LiveBench,
     line: &Line,
 ) -> Result<Option<(u32, Stop)>, AllocError>
     requires range { IsLineInRange setting.now.shape.now line.now }
@@ -183,7 +184,7 @@ fn last_halt_along<C: Crew>(
     stops: &Stops,
     timeline: &Timeline,
     interrupt: &AtomicBool,
-    bench: &mut DebuggedBench,
+    bench: &mut LiveBench,
 ) -> Result<Way, AllocError>
     requires ranges { AreInRange setting.now.shape.now timeline.now.history }
     requires shows { Shows setting.now.shape.now (bench_with timeline.now.begins) bench.old }
@@ -218,7 +219,7 @@ fn last_halt<C: Crew>(
     ensures found { IfOk result (λ way. IfEnded way (λ found. (last : Bench) × FoundOf setting.now.shape.now stops.now found
         timeline.now.history (moments timeline.now.history) (bench_with timeline.now.begins) last)) }
 {
-    let mut bench = DebuggedBench::blank(setting.alloc, setting.shape, timeline.begins())?;
+    let mut bench = LiveBench::blank(setting.alloc, setting.shape, timeline.begins())?;
     let way = last_halt_along(setting, stops, timeline, interrupt, &mut bench);
     bench.release();
     way

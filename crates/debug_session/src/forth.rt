@@ -1,7 +1,7 @@
 //! Running forward: turns of one hart, and of harts in turn.
 
 ghost use Rattle.std.specs.Prelude.{◌≡◌, ◌≤◌, ◌<◌, ◌+◌, ℕ, true, false, slice_index_or, None, Some, IfOk, OnOk};
-ghost use Rattle.bench_live.specs.declared.rows.TurnRow.{TurnRow};
+ghost use Rattle.bench_report.specs.declared.rows.TurnRow.{TurnRow};
 ghost use Rattle.debug_session.specs.Ats.{IsAt};
 ghost use Rattle.debug_session.specs.Steps.{IsStep, Went, halt_step};
 ghost use Rattle.debug_session.specs.Withins.{MadeOne, StepsWithin, is_in};
@@ -10,12 +10,12 @@ ghost use Rattle.debug_session.specs.Lives.{machine_of, pc_in, stands_in};
 
 use crate::halts::{HaltReason, Stop};
 use crate::loads::Load;
+use crate::looks::{pc, stands_at};
 use crate::orders::{Ahead, ScriptOrder};
 use crate::rounds::{NextPart, Round};
 use crate::stops::{SeenBytes, Stops, Watchpoint, first_touched};
 use crate::timeline::Timeline;
-use bench_live::TurnRow;
-use bench_report::{Answer, Setting};
+use bench_report::{Answer, Setting, TurnRow};
 use board_model::HartId;
 use crew::Crew;
 use machine::{Did, Word};
@@ -69,7 +69,7 @@ fn halt_behind(
         TurnRow::Made(_, word) => {
             if halts_all(word) {
                 Some(HaltReason::Ended)
-            } else if timeline.bench().stands_at(hart, points) {
+            } else if stands_at(timeline.bench(), hart, points) {
                 Some(HaltReason::Point)
             } else {
                 None
@@ -288,7 +288,7 @@ fn halt_step(halt: Option<HaltReason>, made: u32) -> HaltReason
 fn stands_within(timeline: &Timeline, hart: HartId, within: StepRange) -> bool
     ensures { result ≡ is_in within (pc_in hart (machine_of timeline.now.bench)) }
 {
-    match timeline.bench().pc(hart) {
+    match pc(timeline.bench(), hart) {
         Some(pc) => within.first <= pc && pc < within.end,
         None => false,
     }

@@ -7,12 +7,14 @@
 
 mod back;
 mod counts;
-mod debugged;
 mod forth;
 mod halts;
 mod loads;
 mod looks;
+mod notes;
 mod orders;
+mod past;
+mod places;
 mod reads;
 mod replays;
 mod rounds;
@@ -21,12 +23,14 @@ mod session;
 mod starts;
 mod stops;
 mod timeline;
+mod to_points;
 
-pub use bench_live::TurnRow;
-pub use debugged::DebuggedBench;
+pub use bench_report::{LiveBench, TurnRow};
 pub use halts::{HaltReason, Stop};
 pub use loads::Load;
-pub use looks::{PC, REGISTERS};
+pub use looks::{PC, REGISTERS, memory, pc};
+pub use notes::note;
+pub use past::LineHistory;
 pub use replays::replay;
 pub use session::{Session, SessionPlan};
 pub use stops::{WatchKind, Watchpoint};

@@ -2,15 +2,14 @@
 
 ghost use Rattle.std.specs.Prelude.{◌≡◌, ◌<◌, length, Some, IfSome};
 ghost use Rattle.bench_report.specs.Views.{machine_in};
-ghost use Rattle.debug_session.specs.Lives.{machine_of, machine_on};
+ghost use Rattle.debug_session.specs.Lives.{machine_of};
 ghost use Rattle.debug_session.specs.Loads.{Fetches, LoadsAt, LoadsNext, is_interrupted, is_set, is_stepping, is_there, load_in, made_load};
 ghost use Rattle.hart.specs.Means.{load_bytes, sum};
 ghost use Rattle.hart.specs.Values.{residue};
 ghost use Rattle.machine.specs.Machine.{hart_at};
 
-use crate::debugged::DebuggedBench;
 use crate::looks::register_of;
-use bench_report::Power;
+use bench_report::{LiveBench, Power};
 use board::Board;
 use board_model::{HartId, RAM_BASE};
 use hart::Hart;
@@ -165,13 +164,13 @@ fn load_at(board: &mut Board<SimDisk>, hart: HartId) -> Option<Load>
     made
 }
 
-/// What the next turn of a hart reads, of a board that may be off, or lack the hart.
-fn load_on(power: &mut Power, hart: HartId) -> Option<Load>
-    ensures same { power.new ≡ power.old }
-    ensures loads { LoadsNext (machine_on (Some power.old)) hart result }
+/// The bytes of memory that the next turn of a hart reads, if it reads any: those that its instruction loads. The look
+/// leaves the board as it was.
+pub(crate) fn next_load(bench: &mut LiveBench, hart: HartId) -> Option<Load>
+    ensures same { bench.new ≡ bench.old }
+    ensures loads { LoadsNext (machine_of bench.old) hart result }
 {
-    match power {
-        Power::Off(_) => None,
+    match &mut bench.power {
         Power::On(board) => {
             if board.machine().has(hart) {
                 load_at(board, hart)
@@ -179,19 +178,6 @@ fn load_on(power: &mut Power, hart: HartId) -> Option<Load>
                 None
             }
         }
-    }
-}
-
-impl DebuggedBench {
-    /// The bytes of memory that the next turn of a hart reads, if it reads any: those that its instruction loads. The look
-    /// leaves the board as it was.
-    pub fn next_load(&mut self, hart: HartId) -> Option<Load>
-        ensures same { self.new ≡ self.old }
-        ensures loads { LoadsNext (machine_of self.old) hart result }
-    {
-        match &mut self.live.power {
-            Some(power) => load_on(power, hart),
-            None => None,
-        }
+        Power::Off(_) => None,
     }
 }

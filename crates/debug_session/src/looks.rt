@@ -2,11 +2,10 @@
 
 ghost use Rattle.std.specs.Prelude.{◌≡◌, ◌<◌, None, Some, length, MatchOption};
 ghost use Rattle.bench_report.specs.Views.{machine_in};
-ghost use Rattle.debug_session.specs.Lives.{csr_shown, machine_of, machine_on, memory_in, register_at, register_in, state_in};
+ghost use Rattle.debug_session.specs.Lives.{csr_shown, machine_of, memory_in, pc_in, register_at, register_in, stands_in, state_in};
 ghost use Rattle.hart.specs.Csrs.{csr_number};
 
-use crate::debugged::DebuggedBench;
-use bench_report::Power;
+use bench_report::{LiveBench, Power};
 use board::Board;
 use board_model::{HartId, RAM_BASE};
 use machine::{MachineLine, State, csr_of};
@@ -59,13 +58,13 @@ pub(crate) fn register_of(board: &mut Board<SimDisk>, hart: HartId, number: u64)
     }
 }
 
-/// A register of a hart of a board that is on.
-fn register_on(power: &mut Power, hart: HartId, number: u64) -> Option<u64>
-    ensures same { power.new ≡ power.old }
-    ensures shown { result ≡ register_in hart number (machine_on (Some power.old)) }
+/// A register of a hart of a board that is on: 0 to 31 its own, 32 the pc, 33 to 41 `sstatus`, `sie`, `stvec`,
+/// `sscratch`, `sepc`, `scause`, `stval`, `sip` and `satp`.
+pub(crate) fn register(bench: &mut LiveBench, hart: HartId, number: u64) -> Option<u64>
+    ensures same { bench.new ≡ bench.old }
+    ensures shown { result ≡ register_in hart number (machine_of bench.old) }
 {
-    match power {
-        Power::Off(_) => None,
+    match &mut bench.power {
         Power::On(board) => {
             if board.machine().has(hart) {
                 register_of(board, hart, number)
@@ -73,16 +72,16 @@ fn register_on(power: &mut Power, hart: HartId, number: u64) -> Option<u64>
                 None
             }
         }
+        Power::Off(_) => None,
     }
 }
 
-/// The state of a hart of a board that is on.
-fn state_on(power: &mut Power, hart: HartId) -> Option<State>
-    ensures same { power.new ≡ power.old }
-    ensures shown { result ≡ state_in hart (machine_on (Some power.old)) }
+/// The state of a hart of a board that is on, as `sbi_hart_get_status` names it.
+pub(crate) fn state(bench: &mut LiveBench, hart: HartId) -> Option<State>
+    ensures same { bench.new ≡ bench.old }
+    ensures shown { result ≡ state_in hart (machine_of bench.old) }
 {
-    match power {
-        Power::Off(_) => None,
+    match &mut bench.power {
         Power::On(board) => {
             if board.machine().has(hart) {
                 Some(board.state(hart))
@@ -90,52 +89,48 @@ fn state_on(power: &mut Power, hart: HartId) -> Option<State>
                 None
             }
         }
+        Power::Off(_) => None,
     }
 }
 
-impl DebuggedBench {
-    /// A register of a hart of a board that is on: 0 to 31 its own, 32 the pc, 33 to 41 `sstatus`, `sie`, `stvec`,
-    /// `sscratch`, `sepc`, `scause`, `stval`, `sip` and `satp`.
-    pub fn register(&mut self, hart: HartId, number: u64) -> Option<u64>
-        ensures same { self.new ≡ self.old }
-        ensures shown { result ≡ register_in hart number (machine_of self.old) }
-    {
-        match &mut self.live.power {
-            Some(power) => register_on(power, hart, number),
-            None => None,
-        }
+/// Bytes of RAM of a board that is on, where it has all of them.
+pub fn memory(bench: &LiveBench, address: u64, count: u64) -> Option<&[u8]>
+    ensures { MatchOption result (memory_in address count (machine_of bench.now) ≡ None)
+        (λ bytes. memory_in address count (machine_of bench.now) ≡ Some bytes.now) }
+{
+    let board = match &bench.power {
+        Power::On(board) => board,
+        Power::Off(_) => return None,
+    };
+    let bytes = board.ram().bytes();
+    if address < RAM_BASE {
+        return None;
     }
-
-    /// The state of a hart of a board that is on, as `sbi_hart_get_status` names it.
-    pub fn state(&mut self, hart: HartId) -> Option<State>
-        ensures same { self.new ≡ self.old }
-        ensures shown { result ≡ state_in hart (machine_of self.old) }
-    {
-        match &mut self.live.power {
-            Some(power) => state_on(power, hart),
-            None => None,
-        }
+    let first = address - RAM_BASE;
+    let room = bytes.len() as u64;
+    if room < count || room - count < first {
+        return None;
     }
+    let first = first as usize;
+    Some(&bytes[first..first + count as usize])
+}
 
-    /// Bytes of RAM of a board that is on, where it has all of them.
-    pub fn memory(&self, address: u64, count: u64) -> Option<&[u8]>
-        ensures { MatchOption result (memory_in address count (machine_of self.now) ≡ None)
-            (λ bytes. memory_in address count (machine_of self.now) ≡ Some bytes.now) }
-    {
-        let board = match &self.live.power {
-            Some(Power::On(board)) => board,
-            _ => return None,
-        };
-        let bytes = board.ram().bytes();
-        if address < RAM_BASE {
-            return None;
-        }
-        let first = address - RAM_BASE;
-        let room = bytes.len() as u64;
-        if room < count || room - count < first {
-            return None;
-        }
-        let first = first as usize;
-        Some(&bytes[first..first + count as usize])
+/// The pc of a hart of a board that is on.
+pub fn pc(bench: &LiveBench, hart: HartId) -> Option<u64>
+    ensures { result ≡ pc_in hart (machine_of bench.now) }
+{
+    match &bench.power {
+        Power::On(board) if board.machine().has(hart) => Some(board.hart(hart).pc()),
+        _ => None,
+    }
+}
+
+/// Whether a hart stands at one of these addresses.
+pub(crate) fn stands_at(bench: &LiveBench, hart: HartId, points: &[u64]) -> bool
+    ensures { result ≡ stands_in points.now (pc_in hart (machine_of bench.now)) }
+{
+    match pc(bench, hart) {
+        Some(pc) => points.contains(&pc),
+        None => false,
     }
 }

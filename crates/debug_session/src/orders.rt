@@ -1,12 +1,12 @@
 //! The order of a script, along which its session goes forward again.
 
-ghost use Rattle.std.specs.Prelude.{OnOk};
-ghost use Rattle.bench_live.specs.Notes.{AreInRange};
-ghost use Rattle.debug_session.specs.Lives.{IsSound};
+ghost use Rattle.std.specs.Prelude.{◌≡◌, OnOk};
+ghost use Rattle.debug_session.specs.Notes.{AreInRange};
+ghost use Rattle.bench_report.specs.Lives.{IsSound};
 ghost use Rattle.script_lang.specs.Lines.{IsLineInRange};
 
-use crate::debugged::DebuggedBench;
-use bench_report::Setting;
+use crate::to_points::turns_to;
+use bench_report::{LiveBench, Setting};
 use board::Payloads;
 use board_model::HartId;
 use crew::Crew;
@@ -79,7 +79,7 @@ fn say_same(alloc: Global, one: &Line, other: &Line) -> Result<bool, AllocError>
 fn busy_of<C: Crew>(
     setting: &Setting<'_, C>,
     line: &Line,
-    bench: &mut DebuggedBench,
+    bench: &mut LiveBench,
 ) -> Result<u32, AllocError>
     requires range { IsLineInRange setting.now.shape.now line.now }
     requires sound { IsSound bench.old }
@@ -87,7 +87,7 @@ fn busy_of<C: Crew>(
 {
     match line {
         Line::Turn(hart, count) => {
-            let (row, _) = bench.turns_to(setting, *hart, *count, &[]);
+            let (row, _) = turns_to(setting, bench, *hart, *count, &[]);
             Ok(row.made())
         }
         _ => {
@@ -101,7 +101,7 @@ fn busy_of<C: Crew>(
 fn busy_along<C: Crew>(
     setting: &Setting<'_, C>,
     lines: &[Line],
-    bench: &mut DebuggedBench,
+    bench: &mut LiveBench,
 ) -> Result<Vec<u32>, AllocError>
     requires ranges { AreInRange setting.now.shape.now lines.now }
     requires sound { IsSound bench.old }
@@ -122,7 +122,7 @@ fn busy_in<C: Crew>(
 ) -> Result<Vec<u32>, AllocError>
     requires ranges { AreInRange setting.now.shape.now lines.now }
 {
-    let mut bench = DebuggedBench::blank(setting.alloc, setting.shape, begins)?;
+    let mut bench = LiveBench::blank(setting.alloc, setting.shape, begins)?;
     let busy = busy_along(setting, lines, &mut bench);
     bench.release();
     busy

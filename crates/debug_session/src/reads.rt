@@ -6,10 +6,9 @@ ghost use Rattle.debug_session.specs.Firsts.{ReadsAs, seen_in};
 ghost use Rattle.debug_session.specs.Lives.{machine_of};
 ghost use Rattle.debug_session.specs.Loads.{LoadsNone};
 
-use crate::debugged::DebuggedBench;
-use crate::loads::{Load, instruction, load_in};
+use crate::loads::{Load, instruction, load_in, next_load};
 use crate::stops::{SeenBytes, are_unread};
-use bench_report::Power;
+use bench_report::{LiveBench, Power};
 use board::Board;
 use board_model::HartId;
 use simdisk::SimDisk;
@@ -41,30 +40,30 @@ fn is_unread_at(board: &Board<SimDisk>, hart: HartId, before: &Vec<SeenBytes>) -
     are_unread(before, load)
 }
 
-impl DebuggedBench {
-    /// Whether it is seen at once that the next turn of a hart reads nothing that is minded.
-    fn is_unread_next(&self, hart: HartId, before: &Vec<SeenBytes>) -> bool
-        ensures { result ≡ true → ReadsAs (machine_of self.now) hart (seen_in before.now.items) None }
-    {
-        match &self.live.power {
-            Some(Power::On(board)) if board.machine().has(hart) => {
-                is_unread_at(board, hart, before)
-            }
-            _ => false,
-        }
+/// Whether it is seen at once that the next turn of a hart reads nothing that is minded.
+fn is_unread_next(bench: &LiveBench, hart: HartId, before: &Vec<SeenBytes>) -> bool
+    ensures { result ≡ true → ReadsAs (machine_of bench.now) hart (seen_in before.now.items) None }
+{
+    match &bench.power {
+        Power::On(board) if board.machine().has(hart) => is_unread_at(board, hart, before),
+        _ => false,
     }
+}
 
-    /// What the next turn of a hart reads; or none, where that is nothing that is minded of what was seen. The look leaves the board as
-    /// it was.
-    #[tactic(auto, using(crate::proofs::Unread::reads_next))]
-    pub(crate) fn load_among(&mut self, hart: HartId, before: &Vec<SeenBytes>) -> Option<Load>
-        ensures same { self.new ≡ self.old }
-        ensures reads { ReadsAs (machine_of self.old) hart (seen_in before.now.items) result }
-    {
-        if self.is_unread_next(hart, before) {
-            None
-        } else {
-            self.next_load(hart)
-        }
+/// What the next turn of a hart reads; or none, where that is nothing that is minded of what was seen. The look leaves the board as
+/// it was.
+#[tactic(auto, using(crate::proofs::Unread::reads_next))]
+pub(crate) fn load_among(
+    bench: &mut LiveBench,
+    hart: HartId,
+    before: &Vec<SeenBytes>,
+) -> Option<Load>
+    ensures same { bench.new ≡ bench.old }
+    ensures reads { ReadsAs (machine_of bench.old) hart (seen_in before.now.items) result }
+{
+    if is_unread_next(bench, hart, before) {
+        None
+    } else {
+        next_load(bench, hart)
     }
 }

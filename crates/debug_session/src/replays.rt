@@ -5,14 +5,13 @@ ghost use Rattle.bench_report.specs.Agree.{fill_after, fills_after};
 ghost use Rattle.bench_report.specs.Bench.{Bench, bench_with};
 ghost use Rattle.bench_report.specs.Steps.{Moves};
 ghost use Rattle.report_lines.specs.declared.printed.Answer.{Answer};
-ghost use Rattle.bench_live.specs.Notes.{AreInRange, Joins, Leaves};
+ghost use Rattle.debug_session.specs.Notes.{AreInRange, Joins, Leaves};
 ghost use Rattle.debug_session.specs.Ats.{GoesOnBy};
-ghost use Rattle.debug_session.specs.Lives.{IsSound, Shows};
+ghost use Rattle.bench_report.specs.Lives.{IsSound, Shows};
 ghost use Rattle.script_lang.specs.Lines.{IsLineInRange};
 ghost use Rattle.simdisk.specs.declared.fill.Fill.TheVariants as fills;
 
-use crate::debugged::DebuggedBench;
-use bench_report::Setting;
+use bench_report::{LiveBench, Setting};
 use board::Payloads;
 use crew::Crew;
 use script_lang::Line;
@@ -22,7 +21,7 @@ use std::alloc::AllocError;
 pub fn replay<C: Crew>(
     setting: &Setting<'_, C>,
     line: &Line,
-    bench: &mut DebuggedBench,
+    bench: &mut LiveBench,
 ) -> Result<bool, AllocError>
     requires range { IsLineInRange setting.now.shape.now line.now }
     requires sound { IsSound bench.old }
@@ -30,7 +29,7 @@ pub fn replay<C: Crew>(
         → (answer : Answer) × (new : Bench) × Moves setting.now.shape.now line.now b answer new
         × Shows setting.now.shape.now new bench.new × GoesOnBy setting.now.shape.now joins line.now b new) }
     ensures sound { OnOk result (IsSound bench.new) }
-    ensures fill { OnOk result (bench.new.live.fill ≡ fill_after line.now bench.old.live.fill) }
+    ensures fill { OnOk result (bench.new.fill ≡ fill_after line.now bench.old.fill) }
 {
     match line {
         Line::Turn(hart, count) => {
@@ -48,7 +47,7 @@ pub fn replay<C: Crew>(
 fn replay_all<C: Crew>(
     setting: &Setting<'_, C>,
     lines: &[Line],
-    bench: &mut DebuggedBench,
+    bench: &mut LiveBench,
 ) -> Result<bool, AllocError>
     requires ranges { AreInRange setting.now.shape.now lines.now }
     requires sound { IsSound bench.old }
@@ -56,7 +55,7 @@ fn replay_all<C: Crew>(
         → (b : Bench) × Leaves setting.now.shape.now (bench_with begins) lines.now b
         × Joins setting.now.shape.now (bench_with begins) joins lines.now b × Shows setting.now.shape.now b bench.new) }
     ensures sound { OnOk result (IsSound bench.new) }
-    ensures fill { OnOk result (bench.new.live.fill ≡ fills_after lines.now bench.old.live.fill) }
+    ensures fill { OnOk result (bench.new.fill ≡ fills_after lines.now bench.old.fill) }
 {
     let mut joins = false;
     for line in lines {
@@ -71,14 +70,14 @@ pub(crate) fn replayed<C: Crew>(
     setting: &Setting<'_, C>,
     begins: &Payloads,
     lines: &[Line],
-) -> Result<(DebuggedBench, bool), AllocError>
+) -> Result<(LiveBench, bool), AllocError>
     requires ranges { AreInRange setting.now.shape.now lines.now }
     ensures left { IfOk result (λ did. (b : Bench) × Leaves setting.now.shape.now (bench_with begins.now) lines.now b
         × Joins setting.now.shape.now (bench_with begins.now) did.1 lines.now b × Shows setting.now.shape.now b did.0) }
     ensures sound { IfOk result (λ did. IsSound did.0) }
-    ensures fill { IfOk result (λ did. did.0.live.fill ≡ fills_after lines.now fills.Old) }
+    ensures fill { IfOk result (λ did. did.0.fill ≡ fills_after lines.now fills.Old) }
 {
-    let mut bench = DebuggedBench::blank(setting.alloc, setting.shape, begins)?;
+    let mut bench = LiveBench::blank(setting.alloc, setting.shape, begins)?;
     match replay_all(setting, lines, &mut bench) {
         Ok(joins) => Ok((bench, joins)),
         Err(e) => {

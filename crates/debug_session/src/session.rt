@@ -1,9 +1,9 @@
 //! A board under a debugger.
 
 ghost use Rattle.std.specs.Prelude.{◌≡◌, ◌⊎◌, ◌≤◌, ◌<◌, ◌-◌, ℕ, [], length, replicate, slice_index_or, true, false, string_bytes, Ok, Some, IfOk, OnErr, OnOk};
-ghost use Rattle.bench_live.specs.Pasts.{IsBack, NoRow};
+ghost use Rattle.debug_session.specs.Pasts.{IsBack, NoRow};
 ghost use Rattle.bench_report.specs.Bench.{no_payloads};
-ghost use Rattle.bench_live.specs.Notes.{AreInRange};
+ghost use Rattle.debug_session.specs.Notes.{AreInRange};
 ghost use Rattle.debug_session.specs.Ats.{IsAt, Ran};
 ghost use Rattle.debug_session.specs.Steps.{AreNoted, IsStep, Went};
 ghost use Rattle.debug_session.specs.Lives.{register_in};
@@ -18,7 +18,6 @@ ghost use Rattle.script_lang.specs.Lines.{IsLineInRange};
 ghost use Rattle.script_lang.specs.Scripts.{script_of};
 ghost use Rattle.script_lang.specs.Spellings.{IsWritable};
 
-use crate::debugged::DebuggedBench;
 use crate::forth::{self, StepRange};
 use crate::halts::{HaltReason, Stop};
 use crate::orders::ScriptOrder;
@@ -26,8 +25,8 @@ use crate::rounds::Round;
 use crate::starts::begun;
 use crate::stops::{Stops, Watchpoint};
 use crate::timeline::Timeline;
-use crate::{back, counts, script};
-use bench_report::{Answer, Setting};
+use crate::{back, counts, looks, script};
+use bench_report::{Answer, LiveBench, Setting};
 use board::Payloads;
 use board_model::HartId;
 use crew::Crew;
@@ -95,7 +94,7 @@ impl<'a, C: Crew> Session<'a, C> {
     }
 
     /// The bench as it stands.
-    pub fn bench(&self) -> &DebuggedBench
+    pub fn bench(&self) -> &LiveBench
         ensures { result.now ≡ bench_of self.now }
     {
         self.timeline.bench()
@@ -140,12 +139,12 @@ impl<'a, C: Crew> Session<'a, C> {
         )
     }
 
-    /// A register of a hart, as `DebuggedBench::register` shows it.
+    /// A register of a hart, as `looks::register` shows it.
     pub fn register(&mut self, hart: HartId, number: u64) -> Option<u64>
         ensures same { self.new ≡ self.old }
         ensures shown { result ≡ register_in hart number (machine_of_session self.old) }
     {
-        self.timeline.bench.register(hart, number)
+        looks::register(&mut self.timeline.bench, hart, number)
     }
 
     /// Runs a line of the script language, which becomes part of the history: what it says.
@@ -221,7 +220,7 @@ impl<'a, C: Crew> Session<'a, C> {
         ensures same { self.new ≡ self.old }
         ensures text { result.now ≡ state_text hart (bench_of self.old) }
     {
-        match self.timeline.bench.state(hart) {
+        match looks::state(&mut self.timeline.bench, hart) {
             None => "power off",
             Some(State::Started) => "STARTED",
             Some(State::Stopped) => "STOPPED",

@@ -1,7 +1,7 @@
 //! The history with which a session begins.
 
-ghost use Rattle.std.specs.Prelude.{◌≡◌, [], IfOk, OnOk};
-ghost use Rattle.bench_live.specs.Notes.{AreInRange};
+ghost use Rattle.std.specs.Prelude.{◌≡◌, ◌<◌, ◌-◌, [], Ok, IfOk, OnOk};
+ghost use Rattle.debug_session.specs.Notes.{AreInRange};
 ghost use Rattle.debug_session.specs.Ats.{IsAt};
 ghost use Rattle.debug_session.specs.Steps.{AreNoted};
 

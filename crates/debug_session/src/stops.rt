@@ -6,8 +6,9 @@ ghost use Rattle.debug_session.specs.Firsts.{is_kept, is_read, is_unread, minds_
 ghost use Rattle.debug_session.specs.Others.{first_other, other_of};
 ghost use Rattle.debug_session.specs.Lives.{machine_of};
 
-use crate::debugged::DebuggedBench;
 use crate::loads::Load;
+use crate::looks::memory;
+use bench_report::LiveBench;
 use std::alloc::{AllocError, Global};
 
 /// What a watchpoint minds.
@@ -137,7 +138,7 @@ impl Stops {
     pub(crate) fn watched(
         &self,
         alloc: Global,
-        bench: &DebuggedBench,
+        bench: &LiveBench,
     ) -> Result<Vec<SeenBytes>, AllocError>
         ensures seen { IfOk result (λ all. seen_in all.items ≡ seen_all (machine_of bench.now) self.now.watches.items) }
     {
@@ -154,10 +155,10 @@ impl Stops {
 }
 
 /// The bytes that are watched, where the board has them; else none.
-fn bytes_of(bench: &DebuggedBench, watch: Watchpoint) -> &[u8]
+fn bytes_of(bench: &LiveBench, watch: Watchpoint) -> &[u8]
     ensures { result.now ≡ seen_by (machine_of bench.now) watch }
 {
-    match bench.memory(watch.address, watch.count) {
+    match memory(bench, watch.address, watch.count) {
         Some(bytes) => bytes,
         None => b"".as_slice(),
     }
@@ -187,7 +188,7 @@ fn is_read(watch: Watchpoint, load: Option<Load>) -> bool
 }
 
 /// Whether nothing is changed that a watchpoint minds of what was seen. One that minds no changes is not compared.
-fn is_kept(bench: &DebuggedBench, was: &SeenBytes) -> bool
+fn is_kept(bench: &LiveBench, was: &SeenBytes) -> bool
     ensures { result ≡ is_kept was.now.watch was.now.bytes.items (seen_by (machine_of bench.now) was.now.watch) }
 {
     if was.watch.kind.minds_changes() {
@@ -223,7 +224,7 @@ pub(crate) fn are_unread(before: &Vec<SeenBytes>, load: Option<Load>) -> bool
 }
 
 /// The watchpoint of what was seen, where a turn that read that touched it.
-fn other_now(bench: &DebuggedBench, load: Option<Load>, was: &SeenBytes) -> Option<Watchpoint>
+fn other_now(bench: &LiveBench, load: Option<Load>, was: &SeenBytes) -> Option<Watchpoint>
     ensures { result ≡ other_of (machine_of bench.now) load (was.now.watch, was.now.bytes.items) }
 {
     let kept = is_kept(bench, was);
@@ -235,7 +236,7 @@ fn other_now(bench: &DebuggedBench, load: Option<Load>, was: &SeenBytes) -> Opti
 }
 
 /// The first of these that a turn touched, which read that.
-fn first_in(bench: &DebuggedBench, load: Option<Load>, before: &[SeenBytes]) -> Option<Watchpoint>
+fn first_in(bench: &LiveBench, load: Option<Load>, before: &[SeenBytes]) -> Option<Watchpoint>
     ensures { result ≡ first_other (machine_of bench.now) load (seen_in before.now) }
 {
     for was in before {
@@ -249,7 +250,7 @@ fn first_in(bench: &DebuggedBench, load: Option<Load>, before: &[SeenBytes]) -> 
 /// The first of what was seen before a turn that it touched, which read that.
 #[tactic(auto, using(crate::proofs::Others::first_since))]
 pub(crate) fn first_touched(
-    bench: &DebuggedBench,
+    bench: &LiveBench,
     load: Option<Load>,
     before: &Vec<SeenBytes>,
 ) -> Option<Watchpoint>

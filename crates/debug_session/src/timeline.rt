@@ -2,23 +2,25 @@
 
 ghost use Rattle.std.specs.Prelude.{◌≡◌, ◌⊎◌, ◌≤◌, ◌<◌, ◌++◌, ◌∷◌, [], true, false, take, IfOk, OnOk, MatchResult, ⊤};
 ghost use Rattle.std.specs.Bool.{MatchBool};
-ghost use Rattle.bench_live.specs.Pasts.{IsBack, NoRow, some_turns};
+ghost use Rattle.debug_session.specs.Pasts.{IsBack, NoRow, some_turns};
 ghost use Rattle.bench_report.specs.Bench.{Bench};
 ghost use Rattle.bench_report.specs.Steps.{Moves};
-ghost use Rattle.bench_live.specs.Notes.{AreInRange};
+ghost use Rattle.debug_session.specs.Notes.{AreInRange};
 ghost use Rattle.debug_session.specs.Ats.{IsAt, IsBefore, IsLeft, IsPlace, MadeTurns, Ran};
 ghost use Rattle.debug_session.specs.Firsts.{ReadsAs, seen_in};
 ghost use Rattle.debug_session.specs.Lives.{HasHalted, machine_of};
-ghost use Rattle.bench_live.specs.Rows.{IsWithin, made_in, row_answer};
+ghost use Rattle.bench_report.specs.Rows.{IsWithin, made_in, row_answer};
 ghost use Rattle.script_lang.specs.Lines.{IsLineInRange};
 ghost use Rattle.script_lang.specs.declared.line.Line.TheVariants as lines;
 
-use crate::debugged::DebuggedBench;
 use crate::loads::Load;
+use crate::notes::note;
+use crate::past::LineHistory;
+use crate::reads::load_among;
 use crate::replays::replayed;
 use crate::stops::SeenBytes;
-use bench_live::{LineHistory, TurnRow, note};
-use bench_report::{Answer, Setting};
+use crate::to_points::turns_to;
+use bench_report::{Answer, LiveBench, Setting, TurnRow};
 use board::Payloads;
 use board_model::{HartId, Shape};
 use crew::Crew;
@@ -33,7 +35,7 @@ pub struct Timeline {
     history: LineHistory,
     joins: bool,
     /// The bench that the history leaves.
-    pub(crate) bench: DebuggedBench,
+    pub(crate) bench: LiveBench,
 }
 
 impl Timeline {
@@ -43,7 +45,7 @@ impl Timeline {
         ensures history { IfOk result (λ t. t.history ≡ []) }
         ensures begins { IfOk result (λ t. t.begins ≡ begins) }
     {
-        let bench = DebuggedBench::blank(alloc, shape, &begins)?;
+        let bench = LiveBench::blank(alloc, shape, &begins)?;
         Ok(Timeline {
             begins,
             history: LineHistory::new(alloc),
@@ -72,18 +74,18 @@ impl Timeline {
     }
 
     /// The bench as it stands.
-    pub fn bench(&self) -> &DebuggedBench
+    pub fn bench(&self) -> &LiveBench
         ensures { result.now ≡ self.now.bench }
     {
         &self.bench
     }
 
-    /// What the next turn of a hart reads of what is minded, as `DebuggedBench::load_among` shows it.
+    /// What the next turn of a hart reads of what is minded, as `reads::load_among` shows it.
     pub(crate) fn load_among(&mut self, hart: HartId, before: &Vec<SeenBytes>) -> Option<Load>
         ensures same { self.new ≡ self.old }
         ensures reads { ReadsAs (machine_of self.old.bench) hart (seen_in before.now.items) result }
     {
-        self.bench.load_among(hart, before)
+        load_among(&mut self.bench, hart, before)
     }
 
     /// Up to `count` turns of a hart, which become part of the history: what came of them. Where memory is refused the timeline is of no
@@ -107,7 +109,7 @@ impl Timeline {
         Ok(row)
     }
 
-    /// Turns of a hart up to an address, an end, or an idle turn, as `DebuggedBench::turns_to` makes them, which become
+    /// Turns of a hart up to an address, an end, or an idle turn, as `to_points::turns_to` makes them, which become
     /// part of the history: what came of them, and whether the next turn is idle. Where memory is refused
     /// the timeline is of no use.
     pub fn turns_to<C: Crew>(
@@ -127,7 +129,7 @@ impl Timeline {
             → (made_in did.0 ≡ most) ⊎ HasHalted hart points.now did.0 (machine_of self.new.bench)) }
         ensures begins { self.new.begins ≡ self.old.begins }
     {
-        let (row, rests) = self.bench.turns_to(setting, hart, most, points);
+        let (row, rests) = turns_to(setting, &mut self.bench, hart, most, points);
         self.joins = note(&mut self.history, self.joins, hart, row)?;
         Ok((row, rests))
     }

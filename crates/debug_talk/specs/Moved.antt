@@ -2,7 +2,7 @@
 use Rattle.std.specs.Prelude.{◌≡◌, ◌⊎◌, ◌≤◌, ◌+◌, ℕ, Bool, true, false, List, [], ◌∷◌, ◌++◌, Option, Some, None, Result, Ok, Err, option_and_then, length, nat_lt, if◌then◌else◌, bytes_eq, slice_index_or, replicate}
 use Rattle.std.specs.Bool.{MatchBool}
 use Rattle.hex.specs.Hex.{decode_of}
-use Rattle.bench_live.specs.Pasts.{IsBack, NoRow}
+use Rattle.debug_session.specs.Pasts.{IsBack, NoRow}
 use Rattle.report_lines.specs.declared.printed.Answer.{Answer}
 use Rattle.report_lines.specs.Texts.{answer_text, report_text}
 use Rattle.board_model.specs.Shapes.{Size}

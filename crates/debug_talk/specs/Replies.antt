@@ -4,7 +4,7 @@ use Rattle.std.specs.Prelude.{◌≡◌, ⊤, ℕ, ◌+◌, ◌-◌, List, [], �
 use Rattle.std.specs.Fmt.{digits}
 use Rattle.board_model.specs.Shapes.{Size}
 use Rattle.debug_session.specs.Lives.{machine_of, memory_in, register_in}
-use Rattle.debug_session.specs.declared.debugged.DebuggedBench.{DebuggedBench}
+use Rattle.bench_report.specs.declared.live.LiveBench.{LiveBench}
 use Rattle.gdb_protocol.specs.Packets.{digit_of}
 use Rattle.debug_talk.specs.Talks.{hart_or}
 use Rattle.debug_talk.specs.Texts.{threads_object}
@@ -39,12 +39,12 @@ memory_reply None = codes "E0e"
 memory_reply (Some bytes) = if length bytes == 0 then codes "E01" else pairs_of bytes
 
 -- a part of an object of qXfer; of the description, which is fixed, a part of some text
-abbrev pub IsPart : Object → Size → DebuggedBench → ℕ → ℕ → List ℕ → Type 0
+abbrev pub IsPart : Object → Size → LiveBench → ℕ → ℕ → List ℕ → Type 0
 IsPart objects.Description size b offset count text = (whole : List ℕ) × (text ≡ part_text whole offset count)
 IsPart objects.MemoryMap size b offset count text = text ≡ part_text (memory_map_text size) offset count
 IsPart objects.Threads size b offset count text = text ≡ part_text (threads_object size b) offset count
 
-abbrev pub SaysPart : Object → Size → DebuggedBench → ℕ → ℕ → Option (List ℕ) → Type 0
+abbrev pub SaysPart : Object → Size → LiveBench → ℕ → ℕ → Option (List ℕ) → Type 0
 SaysPart object size b offset count None = ⊥
 SaysPart object size b offset count (Some text) = IsPart object size b offset count text
 
@@ -58,7 +58,7 @@ features_text =
     codes "PacketSize=" ++ (digits 16 false 16384 ++ codes ";QStartNoAckMode+;qXfer:features:read+;qXfer:memory-map:read+;qXfer:threads:read+;ReverseStep+;ReverseContinue+;vContSupported+;swbreak+")
 
 -- what a request that moves nothing is replied, where `stands` is the stop reply of why nothing runs
-abbrev pub IsLookReply : GdbLook → Size → ℕ → DebuggedBench → List ℕ → Option (List ℕ) → Type 0
+abbrev pub IsLookReply : GdbLook → Size → ℕ → LiveBench → List ℕ → Option (List ℕ) → Type 0
 IsLookReply looks.Reason size h b stands out = Says stands out
 IsLookReply looks.Registers size h b stands out = Says (registers_text 42 (λ n. register_in h n (machine_of b))) out
 IsLookReply (looks.Register n) size h b stands out = Says (register_reply n (register_in h n (machine_of b))) out
@@ -87,12 +87,12 @@ IsLookReply looks.Malformed size h b stands out = Says (codes "E01") out
 IsLookReply looks.Unknown size h b stands out = Says [] out
 
 -- it is one payload, or none
-abbrev pub IsReply : GdbLook → Size → ℕ → DebuggedBench → List ℕ → List (List ℕ) → Type 0
+abbrev pub IsReply : GdbLook → Size → ℕ → LiveBench → List ℕ → List (List ℕ) → Type 0
 IsReply look size h b stands [] = IsLookReply look size h b stands None
 IsReply look size h b stands (text ∷ more) = (more ≡ []) × IsLookReply look size h b stands (Some text)
 
 -- the payloads that a request is replied with; those of one that moves the board are the console's and the stop's
-abbrev pub Replied : GdbRequest → Size → ℕ → DebuggedBench → List ℕ → List (List ℕ) → Type 0
+abbrev pub Replied : GdbRequest → Size → ℕ → LiveBench → List ℕ → List (List ℕ) → Type 0
 Replied (asks.Look look) size h b stands out = IsReply look size h b stands out
 Replied (asks.Move move) size h b stands out = ⊤
 

@@ -8,7 +8,7 @@ use Rattle.debug_session.specs.Texts.{state_text}
 use Rattle.debug_session.specs.Turns.{lives_begun, turns_told}
 use Rattle.script_lang.specs.declared.line.Line.{Line}
 use Rattle.debug_session.specs.Lives.{machine_of, pc_in}
-use Rattle.debug_session.specs.declared.debugged.DebuggedBench.{DebuggedBench}
+use Rattle.bench_report.specs.declared.live.LiveBench.{LiveBench}
 use Rattle.gdb_protocol.specs.Replies.{pairs_of}
 use lib.Chars.{codes}
 
@@ -21,11 +21,11 @@ abbrev pub stands_text : ℕ → Option ℕ → List ℕ
 stands_text h None = codes "hart " ++ (decimal h ++ codes " off\n")
 stands_text h (Some pc) = codes "hart " ++ (decimal h ++ (codes " pc 0x" ++ (digits 16 false pc ++ codes "\n")))
 
-abbrev pub hart_line : DebuggedBench → ℕ → List ℕ
+abbrev pub hart_line : LiveBench → ℕ → List ℕ
 hart_line b h = stands_text h (pc_in h (machine_of b))
 
 -- `monitor harts`
-abbrev pub hart_lines : ℕ → DebuggedBench → List ℕ
+abbrev pub hart_lines : ℕ → LiveBench → List ℕ
 hart_lines harts b = flat_map (hart_line b) (range_with_len 0 harts)
 
 -- `monitor when`: where a history stands, and the hart that is selected
@@ -35,16 +35,16 @@ when_text h past =
     ++ (decimal (turns_told past) ++ (codes ", hart " ++ (decimal h ++ codes "\n")))))))
 
 -- a hart as a thread, with its state
-abbrev pub thread_line : DebuggedBench → ℕ → List ℕ
+abbrev pub thread_line : LiveBench → ℕ → List ℕ
 thread_line b h =
     codes "<thread id=\"" ++ (digits 16 false (h + 1) ++ (codes "\" core=\"" ++ (decimal h ++ (codes "\" name=\"hart "
     ++ (decimal h ++ (codes "\">" ++ (state_text h b ++ codes "</thread>\n")))))))
 
-abbrev pub thread_lines : ℕ → DebuggedBench → List ℕ
+abbrev pub thread_lines : ℕ → LiveBench → List ℕ
 thread_lines harts b = flat_map (thread_line b) (range_with_len 0 harts)
 
 -- the threads, as an object of qXfer
-abbrev pub threads_object : Size → DebuggedBench → List ℕ
+abbrev pub threads_object : Size → LiveBench → List ℕ
 threads_object size b =
     codes "<?xml version=\"1.0\"?>\n<threads>\n" ++ (thread_lines size.harts b ++ codes "</threads>\n")
 

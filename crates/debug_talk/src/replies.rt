@@ -73,7 +73,7 @@ fn memory<C: Crew>(
     ensures { IfOk result (λ v. v.items ≡ memory_reply (memory_in address count (machine_of_session session.now))) }
 {
     let alloc = session.setting().alloc;
-    match session.bench().memory(address, count) {
+    match debug_session::memory(session.bench(), address, count) {
         Some(bytes) if bytes.is_empty() => payload(alloc, b"E01"),
         Some(bytes) => {
             let mut out = Vec::new(alloc);

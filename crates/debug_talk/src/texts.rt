@@ -9,7 +9,7 @@ use crate::answers::PacketPayloads;
 use bench_report::Answer;
 use board_model::{Durable, HartId, Shape, StateText};
 use crew::Crew;
-use debug_session::Session;
+use debug_session::{Session, pc};
 use gdb_protocol::put_hex;
 use std::alloc::{AllocError, Global};
 
@@ -94,7 +94,7 @@ fn hart_line<C: Crew>(session: &Session<'_, C>, hart: HartId) -> Result<String, 
 {
     let alloc = session.setting().alloc;
     let number = hart.number();
-    match session.bench().pc(hart) {
+    match pc(session.bench(), hart) {
         Some(pc) => format!(in alloc; "hart {number} pc 0x{pc:x}\n"),
         None => format!(in alloc; "hart {number} off\n"),
     }

@@ -15,9 +15,9 @@ use Rattle.bench_report.specs.Happens.{off}
 use Rattle.bench_report.specs.Steps.{Moves}
 use Rattle.bench_report.specs.Views.{fault_state}
 use Rattle.bench_report.proofs.RunLines.{run_more}
-use Rattle.bench_live.specs.Lives.{Shows}
-use Rattle.bench_live.specs.Pasts.{some_turns}
-use Rattle.bench_live.specs.declared.live.LiveBench.{LiveBench}
+use Rattle.bench_report.specs.Lives.{Shows}
+use Rattle.debug_session.specs.Pasts.{some_turns}
+use Rattle.bench_report.specs.declared.live.LiveBench.{LiveBench}
 use Rattle.sbigdb.specs.Strikes.{ArmedBehind, RanTo, StopsBefore, StopsIn, count_in, hart_in, is_armed}
 use Rattle.sbigdb.proofs.Partings.{split_here, take_here}
 

@@ -5,9 +5,9 @@ use Rattle.board_model.specs.Shapes.{Size}
 use Rattle.disk.specs.FaultState.{Armed, CutArmed, FaultArmed, Unarmed}
 use Rattle.script_lang.specs.declared.line.Line.{Line}
 use Rattle.script_lang.specs.declared.line.Line.TheVariants as lines
-use Rattle.bench_live.specs.Lives.{Shows}
-use Rattle.bench_live.specs.Pasts.{some_turns}
-use Rattle.bench_live.specs.declared.live.LiveBench.{LiveBench}
+use Rattle.bench_report.specs.Lives.{Shows}
+use Rattle.debug_session.specs.Pasts.{some_turns}
+use Rattle.bench_report.specs.declared.live.LiveBench.{LiveBench}
 use Rattle.report_lines.specs.declared.printed.Answer.{Answer}
 use Rattle.bench_report.specs.Bench.{Bench, bench_with}
 use Rattle.bench_report.specs.Steps.{Run}

@@ -4,13 +4,12 @@ ghost use Rattle.std.specs.Prelude.{◌≡◌, ◌↔◌, ◌≤◌, ◌<◌, �
 ghost use Rattle.disk.specs.FaultState.{Unarmed};
 ghost use Rattle.script_lang.specs.Lines.{IsLineInRange};
 ghost use Rattle.script_lang.specs.declared.line.Line.TheVariants as lines;
-ghost use Rattle.bench_live.specs.Lives.{IsSound};
-ghost use Rattle.bench_live.specs.Pasts.{some_turns};
+ghost use Rattle.bench_report.specs.Lives.{IsSound};
+ghost use Rattle.debug_session.specs.Pasts.{some_turns};
 ghost use Rattle.bench_report.specs.Views.{fault_state};
 ghost use Rattle.sbigdb.specs.Strikes.{ArmedBehind, RanTo, StopsBefore, count_in, hart_in};
 
-use bench_live::LiveBench;
-use bench_report::{Setting, lane_by_lane};
+use bench_report::{LiveBench, Setting, lane_by_lane};
 use bench_schedules::run_line;
 use board::Payloads;
 use board_model::HartId;
@@ -36,9 +35,6 @@ fn run_lines<C: Crew>(
     }
     Ok(())
 }
-
-/// Lets go of a bench. That of its board's many parts is proved here, and not beside what is done with it.
-fn release(_live: LiveBench) {}
 
 /// Whether a cut or a failure is armed on a disk. Refused where the disk was refused memory.
 fn is_armed_on(disk: &SimDisk) -> Result<bool, AllocError>
@@ -67,7 +63,7 @@ fn is_armed_behind<C: Crew>(
             is_armed_on(&disk)
         }
         Err(e) => {
-            release(live);
+            live.release();
             Err(e)
         }
     }

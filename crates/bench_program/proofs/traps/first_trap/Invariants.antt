@@ -1,4 +1,4 @@
-use Rattle.bench_live.specs.Lives.{IsSound}
+use Rattle.bench_report.specs.Lives.{IsSound}
 use Rattle.bench_program.proofs.traps.first_trap.Given as goal
 
 abbrev pub invariant-loop : goal.invariant-loop

@@ -1,8 +1,9 @@
-use Rattle.std.proofs.Common.{◌+◌, arith, List, [], ◌∷◌, ◌++◌, inl, inr, refl, subst, append_assoc, get_or, sym, ap, ◌∙◌}
+use Rattle.std.proofs.Common.{◌+◌, arith, List, [], ◌∷◌, ◌++◌, refl, subst, append_assoc, get_or, sym, ap, ◌∙◌}
 use Rattle.std.proofs.lemmas.List.{append-nil, take_all}
+use Rattle.std.proofs.lemmas.Result.{IfOk-from_err}
 use Rattle.script_lang.specs.declared.line.Line.{Line}
 use Rattle.bench_report.specs.Steps.{Moves, Run}
-use Rattle.bench_report.proofs.RunLines.{run_more, fills_more}
+use Rattle.bench_report.proofs.RunLines.{few_found, fills_more, on_err, run_more}
 use Rattle.bench_report.specs.Agree.{fill_after, fills_after}
 use Rattle.bench_report.proofs.Told.{reported_more}
 use Rattle.bench_report.proofs.runs.run_lines.Goals as goal
@@ -11,38 +12,58 @@ pub loop-line-init : goal.loop-line-init
 loop-line-init g c = record {
   few = omega arith;
   fill = refl;
+  sound = c.requires.sound;
   reported = λ b h. ([], b, refl, h, λ before start r. rw append-nil r);
 }
 
 pub loop-line-preserved : goal.loop-line-preserved
-loop-line-preserved g c = record {
-  few = (let few = rw c.in_default.is at c.run_line-after.ensures.few in omega (arith, few, c.loop-line.invariant.few));
-  fill = c.run_line-after.ensures.fill ∙ ap (λ (line : Line). fill_after line c.loop-line.bench.fill) c.line-item.is ∙ ap (fill_after (get_or c.args.lines.now c.loop-line.line-index c.line-item.result)) c.loop-line.invariant.fill ∙ sym (fills_more c.args.lines.now c.loop-line.line-index c.line-item.result c.args.bench.fill c.loop-line-test.true);
-  reported = λ b h.
-      let was = c.loop-line.invariant.reported b h in
-      let ok = rw c.in_default.is at c.run_line-after.ensures.ok in
-      let did = ok was.1 was.3 in
-      let Q : Line → Type 0 = λ line. Moves c.args.setting.now.shape.now line was.1 did.0 did.1 in
-      (was.0 ++ did.0 ∷ [], did.1, run_more c.args.setting.now.shape.now c.args.lines.now c.loop-line.line-index c.line-item.result b was.0 was.1 did.0 did.1 c.loop-line-test.true was.2 (subst Q c.line-item.is did.2), did.4, λ before start r. rw (← append_assoc) (reported_more start _ _ _ _ (before ++ was.0) did.0 (was.4 before start r) did.5));
-}
+loop-line-preserved g c =
+    let size = c.args.setting.now.shape.now in
+    let i = c.loop-line.invariant in
+    let answer = c.in_ok-answer.answer in
+    let added = c.in_ok-add.ensures.ok in
+    let ran = c.in_ok-answer.ensures in
+    let counted = few_found answer.found in
+    record {
+      few = omega (arith, added.lines, counted, i.few);
+      fill = ran.fill ∙ ap (λ (line : Line). fill_after line c.loop-line.bench.fill) c.line-item.is ∙ ap (fill_after (get_or c.args.lines.now c.loop-line.line-index c.line-item.result)) i.fill ∙ sym (fills_more c.args.lines.now c.loop-line.line-index c.line-item.result c.args.bench.now.fill c.loop-line-test.true);
+      sound = ran.sound;
+      reported = λ b h.
+          let was = i.reported b h in
+          let did = ran.reported was.1 was.3 in
+          let Q : Line → Type 0 = λ line. Moves size line was.1 answer did.0 in
+          (was.0 ++ answer ∷ [], did.0, run_more size c.args.lines.now c.loop-line.line-index c.line-item.result b was.0 was.1 answer did.0 c.loop-line-test.true was.2 (subst Q c.line-item.is did.1), did.2, λ before start r. rw (← append_assoc) (reported_more start _ _ _ _ (before ++ was.0) answer (was.4 before start r) added));
+    }
 
-pub returns-in-Err-clause-stopped : goal.returns-in-Err-clause-stopped
-returns-in-Err-clause-stopped g c = λ b h.
+pub returns-in_err-answer-clause-fill : goal.returns-in_err-answer-clause-fill
+returns-in_err-answer-clause-fill g c = IfOk-from_err c.from_residual.result _ c.from_residual.ensures.0
+
+pub returns-in_err-answer-clause-ok : goal.returns-in_err-answer-clause-ok
+returns-in_err-answer-clause-ok g c = IfOk-from_err c.from_residual.result _ c.from_residual.ensures.0
+
+pub returns-in_err-answer-clause-stopped : goal.returns-in_err-answer-clause-stopped
+returns-in_err-answer-clause-stopped g c = on_err c.from_residual.result _
+    (λ b h. let was = c.loop-line.invariant.reported b h in (c.loop-line.line-index, was.0, was.1, was.2, c.in_err-answer.ensures.stopped was.1 was.3))
+
+pub returns-in_err-add-clause-fill : goal.returns-in_err-add-clause-fill
+returns-in_err-add-clause-fill g c = IfOk-from_err c.from_residual-in_err-add.result _ c.from_residual-in_err-add.ensures.0
+
+pub returns-in_err-add-clause-ok : goal.returns-in_err-add-clause-ok
+returns-in_err-add-clause-ok g c = IfOk-from_err c.from_residual-in_err-add.result _ c.from_residual-in_err-add.ensures.0
+
+pub returns-in_err-add-clause-stopped : goal.returns-in_err-add-clause-stopped
+returns-in_err-add-clause-stopped g c = on_err c.from_residual-in_err-add.result _
+    (λ b h.
     let was = c.loop-line.invariant.reported b h in
-    let stopped = rw c.in-Err.is at c.run_line-after.ensures.stopped in
-    elim (stopped was.1 was.3) [
-      | inl same ↦ (c.loop-line.line-index, was.0, was.1, was.2, same)
-      | inr did ↦ (
-          let Q : Line → Type 0 = λ line. Moves c.args.setting.now.shape.now line was.1 did.0 did.1 in
-          (c.loop-line.line-index + 1, was.0 ++ did.0 ∷ [], did.1, run_more c.args.setting.now.shape.now c.args.lines.now c.loop-line.line-index c.line-item.result b was.0 was.1 did.0 did.1 c.loop-line-test.true was.2 (subst Q c.line-item.is did.2), did.3)
-          )
-    ]
+    let did = c.in_ok-answer.ensures.reported was.1 was.3 in
+    let Q : Line → Type 0 = λ line. Moves c.args.setting.now.shape.now line was.1 c.in_ok-answer.answer did.0 in
+    (c.loop-line.line-index + 1, was.0 ++ c.in_ok-answer.answer ∷ [], did.0, run_more c.args.setting.now.shape.now c.args.lines.now c.loop-line.line-index c.line-item.result b was.0 was.1 c.in_ok-answer.answer did.0 c.loop-line-test.true was.2 (subst Q c.line-item.is did.1), did.2))
 
 pub returns-clause-ok : goal.returns-clause-ok
 returns-clause-ok g c = λ b h.
     let was = c.loop-line.invariant.reported b h in
     let P : List Line → Type 0 = λ ls. Run c.args.setting.now.shape.now b ls was.0 was.1 in
-    (was.0, was.1, subst P (take_all c.loop-line.line-index c.args.lines.now (omega arith)) was.2, was.3.0, was.4)
+    (was.0, was.1, subst P (take_all c.loop-line.line-index c.args.lines.now (omega arith)) was.2, was.3, was.4)
 
 pub returns-clause-fill : goal.returns-clause-fill
-returns-clause-fill g c = c.loop-line.invariant.fill ∙ ap (λ (ls : List Line). fills_after ls c.args.bench.fill) (take_all c.loop-line.line-index c.args.lines.now (omega arith))
+returns-clause-fill g c = c.loop-line.invariant.fill ∙ ap (λ (ls : List Line). fills_after ls c.args.bench.now.fill) (take_all c.loop-line.line-index c.args.lines.now (omega arith))

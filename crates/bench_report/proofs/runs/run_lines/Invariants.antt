@@ -2,7 +2,8 @@ use Rattle.std.proofs.Common.{◌≡◌, ℕ, ◌+◌, ◌*◌, ◌≤◌, List,
 use Rattle.report_lines.specs.declared.printed.Answer.{Answer}
 use Rattle.bench_report.specs.Bench.{Bench}
 use Rattle.bench_report.specs.Steps.{Run}
-use Rattle.bench_report.specs.Agree.{fills_after, IsBench}
+use Rattle.bench_report.specs.Agree.{fills_after}
+use Rattle.bench_report.specs.Lives.{IsSound, Shows}
 use Rattle.report_lines.specs.Counts.{Reported}
 use Rattle.bench_report.proofs.runs.run_lines.Given as goal
 
@@ -11,6 +12,7 @@ abbrev pub invariant-loop-line : goal.invariant-loop-line
 invariant-loop-line g l = record {
   few : l.report.lines ≤ 1 + 2 * l.line-index;
   fill : l.bench.fill ≡ fills_after (take l.line-index l.lines) l.fn.bench.fill;
-  reported : (b : Bench) → IsBench l.setting.shape.now b l.fn.bench.power l.fn.bench.payloads → (answers : List Answer) × (now : Bench) × Run l.setting.shape.now b (take l.line-index l.lines) answers now × IsBench l.setting.shape.now now l.bench.power l.bench.payloads
+  sound : IsSound l.bench;
+  reported : (b : Bench) → Shows l.setting.shape.now b l.fn.bench → (answers : List Answer) × (now : Bench) × Run l.setting.shape.now b (take l.line-index l.lines) answers now × Shows l.setting.shape.now now l.bench
       × ((before : List Answer) (start : Option (List ℕ)) → Reported start (g.W.Write.contents l.fn.out) l.fn.report before → Reported start (g.W.Write.contents l.out) l.report (before ++ answers));
 }

@@ -1,5 +1,5 @@
 use Rattle.std.proofs.Common.{sym, ◌∙◌}
-use Rattle.bench_report.proofs.Cuts.{told_cut, told_whole, cut_arms, cut_cuts, cut_enough, cut_pokes, whole_enough, whole_inspects}
+use Rattle.bench_report.proofs.CutLines.{told_cut, told_whole, cut_arms, cut_cuts, cut_enough, cut_pokes, whole_enough, whole_inspects}
 use Rattle.bench_report.proofs.steps.line_with_cuts.Goals as goal
 
 pub returns-then-struck-clause-reported : goal.returns-then-struck-clause-reported

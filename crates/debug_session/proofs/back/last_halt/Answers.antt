@@ -1,6 +1,6 @@
 use Rattle.std.proofs.Common.{ℕ, List, subst}
 use Rattle.bench_report.specs.Bench.{bench_with}
-use Rattle.debug_session.specs.Lives.{Shows}
+use Rattle.bench_report.specs.Lives.{Shows}
 use Rattle.std.proofs.lemmas.Result.{IfOk-from_err}
 use Rattle.debug_session.proofs.back.last_halt.Goals as goal
 

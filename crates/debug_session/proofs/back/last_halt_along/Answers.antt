@@ -2,9 +2,9 @@ use Rattle.std.proofs.Common.{◌+◌, List, Option, take, refl, sym, subst}
 use Rattle.std.specs.Prelude.{IfSome}
 use Rattle.std.proofs.lemmas.List.{take_all}
 use Rattle.std.proofs.lemmas.List.Elements.{All-get_or}
-use Rattle.bench_live.specs.Pasts.{moments, singles}
+use Rattle.debug_session.specs.Pasts.{moments, singles}
 use Rattle.bench_report.specs.Bench.{bench_with}
-use Rattle.bench_live.specs.Notes.{AreInRange}
+use Rattle.debug_session.specs.Notes.{AreInRange}
 use Rattle.script_lang.specs.Lines.{IsLineInRange}
 use Rattle.script_lang.specs.declared.line.Line.{Line}
 use Rattle.debug_session.specs.Ats.{IsPlace}

@@ -1,9 +1,9 @@
 use Rattle.std.proofs.Common.{take}
 use Rattle.std.specs.Prelude.{IfSome}
-use Rattle.bench_live.specs.Pasts.{moments}
+use Rattle.debug_session.specs.Pasts.{moments}
 use Rattle.bench_report.specs.Bench.{Bench, bench_with}
 use Rattle.debug_session.specs.Ats.{IsPlace}
-use Rattle.debug_session.specs.Lives.{IsSound, Shows}
+use Rattle.bench_report.specs.Lives.{IsSound, Shows}
 use Rattle.debug_session.specs.Backs.{FoundOf}
 use Rattle.debug_session.proofs.back.last_halt_along.Given as goal
 

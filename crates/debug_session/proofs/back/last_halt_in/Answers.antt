@@ -1,5 +1,7 @@
-use Rattle.std.proofs.Common.{◌≡◌, ◌+◌, ◌<◌, ℕ, Option, refl, sym, subst}
+use Rattle.std.proofs.Common.{◌≡◌, ◌+◌, ◌<◌, ℕ, Option, refl, sym, subst, arith}
 use Rattle.std.specs.Prelude.{IfSome, replicate}
+use Rattle.bench_report.specs.Bench.{Bench}
+use Rattle.bench_report.specs.Lives.{Shows}
 use Rattle.debug_session.specs.declared.halts.Stop.{Stop}
 use Rattle.debug_session.specs.Backs.{FoundIn}
 use Rattle.debug_session.specs.Firsts.{one_turn}
@@ -37,6 +39,12 @@ returns-clause-sound g c = c.loop-k.invariant.sound
 
 pub returns-clause-within : goal.returns-clause-within
 returns-clause-within g c = c.loop-k.invariant.within
+
+pub returns-clause-found : goal.returns-clause-found
+returns-clause-found g c = λ size b shows.
+    let P : ℕ → Type 0 = λ n. (new : Bench) × FoundIn size c.args.stops.now c.loop-k.found (replicate n (one_turn c.args.hart)) b new × Shows size new c.loop-k.bench in
+    let all : c.loop-k.k ≡ c.args.turns = omega arith in
+    subst P all (c.loop-k.invariant.found size b shows)
 
 pub returns-in_err-halt-clause-within : goal.returns-in_err-halt-clause-within
 returns-in_err-halt-clause-within g c = IfOk-from_err c.from_residual.result _ c.from_residual.ensures.0

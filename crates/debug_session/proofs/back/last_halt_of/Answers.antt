@@ -1,10 +1,10 @@
 use Rattle.std.proofs.Common.{◌≡◌, ◌<◌, ℕ, Option, sym, subst}
 use Rattle.std.specs.Prelude.{IfSome, replicate}
 use Rattle.board_model.specs.Shapes.{Size}
-use Rattle.bench_live.specs.Pasts.{singles}
+use Rattle.debug_session.specs.Pasts.{singles}
 use Rattle.bench_report.specs.Bench.{Bench}
 use Rattle.script_lang.specs.declared.line.Line.{Line}
-use Rattle.debug_session.specs.Lives.{Shows}
+use Rattle.bench_report.specs.Lives.{Shows}
 use Rattle.debug_session.specs.declared.halts.Stop.{Stop}
 use Rattle.debug_session.specs.Backs.{FoundIn, IsRowPast}
 use Rattle.debug_session.specs.Firsts.{one_turn}

@@ -2,7 +2,7 @@ use Rattle.std.proofs.Common.{Some, sym, subst, refl}
 use Rattle.debug_session.specs.declared.halts.HaltReason.{HaltReason}
 use Rattle.debug_session.specs.Firsts.{TellsTouched, ToHalt, seen_in}
 use Rattle.debug_session.specs.Lives.{machine_of}
-use Rattle.debug_session.specs.declared.debugged.DebuggedBench.{DebuggedBench}
+use Rattle.bench_report.specs.declared.live.LiveBench.{LiveBench}
 use Rattle.debug_session.specs.Steps.{IsStep}
 use Rattle.debug_session.proofs.Firsts.{step_halts, tells_seen}
 use Rattle.debug_session.proofs.Wents.{step_of}
@@ -25,7 +25,7 @@ pub watched_turn-requires-clause-tells : goal.watched_turn-requires-clause-tells
 watched_turn-requires-clause-tells g c κs within =
     let watches = c.args.stops.now.watches.items in
     let before = seen_in c.in_ok-before.before.items in
-    let P : DebuggedBench → Type 0 = λ b. TellsTouched (machine_of b) watches before in
+    let P : LiveBench → Type 0 = λ b. TellsTouched (machine_of b) watches before in
     subst P c.bench.ensures (tells_seen (machine_of c.bench.result.now) watches before c.in_ok-before.ensures.seen)
 
 pub watched_turn-requires-clause-at : goal.watched_turn-requires-clause-at

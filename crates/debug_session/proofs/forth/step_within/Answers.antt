@@ -2,7 +2,7 @@ use Rattle.std.proofs.Common.{None, Some, refl, ◌≡◌, ◌≤◌, ◌+◌, s
 use Rattle.debug_session.specs.declared.halts.HaltReason.TheVariants as halts
 use Rattle.debug_session.specs.Firsts.{TellsTouched, seen_in}
 use Rattle.debug_session.specs.Lives.{machine_of}
-use Rattle.debug_session.specs.declared.debugged.DebuggedBench.{DebuggedBench}
+use Rattle.bench_report.specs.declared.live.LiveBench.{LiveBench}
 use Rattle.debug_session.proofs.Firsts.{halt_then, no_halt, other_halt, tells_seen}
 use Rattle.debug_session.proofs.Wents.{few_went, step_more, went_none}
 use Rattle.debug_session.proofs.Withins.{stayed_more, stayed_none, steps_asked, steps_halt, steps_idle, steps_out, steps_spent}
@@ -12,7 +12,7 @@ use Rattle.debug_session.proofs.forth.step_within.Goals as goal
 pub loop-done-init : goal.loop-done-init
 loop-done-init g c =
     let watches = c.args.stops.now.watches.items in
-    let P : DebuggedBench → Type 0 = λ b. TellsTouched (machine_of b) watches (seen_in c.in_ok-before.before.items) in
+    let P : LiveBench → Type 0 = λ b. TellsTouched (machine_of b) watches (seen_in c.in_ok-before.before.items) in
     record { went = (0, omega arith, went_none (λ h. h ≡ c.args.hart) c.args.setting.now.shape.now c.args.timeline.now c.requires.at); first = no_halt c.args.setting.now.shape.now c.args.stops.now c.args.hart c.args.timeline.now; within = stayed_none c.args.setting.now.shape.now c.args.within c.args.hart c.args.timeline.now; few = omega arith; tells = subst P c.bench.ensures (tells_seen (machine_of c.bench.result.now) watches (seen_in c.in_ok-before.before.items) c.in_ok-before.ensures.seen) }
 
 pub returns-in-Some-clause-went : goal.returns-in-Some-clause-went

@@ -1,7 +1,7 @@
 use Rattle.std.proofs.Common.{None, ◌≡◌, arith, subst}
 use Rattle.debug_session.specs.Firsts.{TellsTouched, seen_in}
 use Rattle.debug_session.specs.Lives.{machine_of}
-use Rattle.debug_session.specs.declared.debugged.DebuggedBench.{DebuggedBench}
+use Rattle.bench_report.specs.declared.live.LiveBench.{LiveBench}
 use Rattle.debug_session.proofs.Firsts.{halt_more, halt_then, no_halt, none_of, tells_seen}
 use Rattle.debug_session.proofs.Wents.{went_more, went_none}
 use Rattle.std.proofs.lemmas.Result.{IfOk-from_err}
@@ -10,7 +10,7 @@ use Rattle.debug_session.proofs.forth.watched_part.Goals as goal
 pub loop-sum-init : goal.loop-sum-init
 loop-sum-init g c =
     let watches = c.args.stops.now.watches.items in
-    let P : DebuggedBench → Type 0 = λ b. TellsTouched (machine_of b) watches (seen_in c.in_ok-before.before.items) in
+    let P : LiveBench → Type 0 = λ b. TellsTouched (machine_of b) watches (seen_in c.in_ok-before.before.items) in
     record {
       went = went_none (λ h. h ≡ c.args.hart) c.args.setting.now.shape.now c.args.timeline.now c.requires.at;
       first = no_halt c.args.setting.now.shape.now c.args.stops.now c.args.hart c.args.timeline.now;

@@ -3,10 +3,10 @@ use Rattle.std.proofs.lemmas.Bool.{eqb-true}
 use Rattle.report_lines.specs.declared.printed.Answer.{Answer}
 use Rattle.bench_report.specs.Bench.{Bench}
 use Rattle.bench_report.specs.Steps.{Moves}
-use Rattle.bench_live.specs.Rows.{row_answer}
+use Rattle.bench_report.specs.Rows.{row_answer}
 use Rattle.script_lang.specs.declared.line.Line.{Line}
 use Rattle.debug_session.specs.Ats.{GoesOnBy}
-use Rattle.debug_session.specs.Lives.{Shows}
+use Rattle.bench_report.specs.Lives.{Shows}
 use Rattle.debug_session.proofs.Timelines.{goes_by}
 use Rattle.debug_session.proofs.replays.replay.Goals as goal
 
@@ -46,3 +46,12 @@ returns-then-goes_on-clause-sound g c = c.turns-row.ensures.sound
 
 pub returns-else-goes_on-clause-sound : goal.returns-else-goes_on-clause-sound
 returns-else-goes_on-clause-sound g c = c.turns-row.ensures.sound
+
+pub returns-in_ok-run-in_default : goal.returns-in_ok-run-in_default
+returns-in_ok-run-in_default g c =
+    let did = c.in_ok-run-in_default in
+    record {
+      moves = λ b shows. (let moved = did.ensures.reported b shows in (did.field-0, moved.0, moved.1, moved.2, tt));
+      sound = did.ensures.sound;
+      fill = did.ensures.fill;
+    }

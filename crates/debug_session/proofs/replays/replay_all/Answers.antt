@@ -7,7 +7,7 @@ use Rattle.bench_report.specs.Steps.{Moves}
 use Rattle.bench_report.proofs.RunLines.{fills_more}
 use Rattle.script_lang.specs.declared.line.Line.{Line}
 use Rattle.debug_session.specs.Ats.{GoesOnBy}
-use Rattle.debug_session.specs.Lives.{Shows}
+use Rattle.bench_report.specs.Lives.{Shows}
 use Rattle.debug_session.proofs.Timelines.{Left, again_more}
 use Rattle.std.proofs.lemmas.Result.{IfOk-from_err}
 use Rattle.debug_session.proofs.replays.replay_all.Goals as goal
@@ -22,12 +22,12 @@ loop-line-preserved g c =
     let i = c.loop-line.line-index in
     let d = c.line-item.result in
     let did = c.in_ok-joins in
-    let begin = c.args.bench.now.live.fill in
+    let begin = c.args.bench.now.fill in
     let P : Line → Type 0 = λ line. (b : Bench) → Shows size b c.loop-line.bench → (x : Answer) × (x' : Bench) × Moves size line b x x' × Shows size x' c.replay.new.bench × GoesOnBy size did.joins line b x' in
     record {
       left = λ begins shows. again_more size begins lines i d c.loop-line.joins did.joins c.loop-line.bench c.replay.new.bench c.loop-line-test.true (subst P c.line-item.is did.ensures.moves) (c.loop-line.invariant.left begins shows);
       sound = did.ensures.sound;
-      fill = did.ensures.fill ∙ ap (λ (line : Line). fill_after line c.loop-line.bench.live.fill) c.line-item.is ∙ ap (fill_after (get_or lines i d)) c.loop-line.invariant.fill ∙ sym (fills_more lines i d begin c.loop-line-test.true);
+      fill = did.ensures.fill ∙ ap (λ (line : Line). fill_after line c.loop-line.bench.fill) c.line-item.is ∙ ap (fill_after (get_or lines i d)) c.loop-line.invariant.fill ∙ sym (fills_more lines i d begin c.loop-line-test.true);
     }
 
 pub returns-clause-left : goal.returns-clause-left

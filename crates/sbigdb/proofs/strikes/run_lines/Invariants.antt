@@ -1,5 +1,5 @@
 use Rattle.std.proofs.Common.{take}
-use Rattle.bench_live.specs.Lives.{IsSound}
+use Rattle.bench_report.specs.Lives.{IsSound}
 use Rattle.sbigdb.specs.Strikes.{RanTo}
 use Rattle.sbigdb.proofs.strikes.run_lines.Given as goal
 

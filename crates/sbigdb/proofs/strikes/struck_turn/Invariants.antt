@@ -1,6 +1,6 @@
 use Rattle.std.proofs.Common.{◌≡◌, ◌≤◌, ◌<◌, ◌-◌, ◌∷◌, [], ◌++◌, true, false}
 use Rattle.script_lang.specs.declared.line.Line.TheVariants as lines
-use Rattle.bench_live.specs.Pasts.{some_turns}
+use Rattle.debug_session.specs.Pasts.{some_turns}
 use Rattle.sbigdb.specs.Strikes.{ArmedBehind}
 use Rattle.sbigdb.proofs.strikes.struck_turn.Given as goal
 

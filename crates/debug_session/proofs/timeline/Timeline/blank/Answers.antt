@@ -1,6 +1,18 @@
-use Rattle.std.proofs.Common.{refl}
+use Rattle.std.proofs.Common.{false, List, [], refl, sym, subst}
+use Rattle.std.proofs.lemmas.List.Elements.{All-nil}
 use Rattle.std.proofs.lemmas.Result.{IfOk-from_err}
+use Rattle.bench_report.specs.Bench.{bench_with}
+use Rattle.script_lang.specs.Lines.{IsLineInRange}
+use Rattle.script_lang.specs.declared.line.Line.{Line}
+use Rattle.debug_session.specs.Ats.{IsAt}
 use Rattle.debug_session.proofs.timeline.Timeline.blank.Goals as goal
+
+pub returns-clause-at : goal.returns-clause-at
+returns-clause-at c =
+    let size = c.args.shape.now in
+    let made = c.in_ok-bench in
+    let P : List Line → Type 0 = λ past. IsAt size (record { begins = c.args.begins; history = past; joins = false; bench = made.bench }) in
+    subst P (sym c.new.ensures) (record { left = (bench_with c.args.begins, (([], refl), tt, made.ensures.shows)); sound = made.ensures.sound; fill = made.ensures.fill; ranges = All-nil (IsLineInRange size) })
 
 pub returns-clause-begins : goal.returns-clause-begins
 returns-clause-begins c = refl

@@ -1,6 +1,6 @@
 use Rattle.std.proofs.Common.{◌≡◌, Bool, subst, refl}
 use Rattle.std.specs.Bool.{MatchBool}
-use Rattle.bench_live.specs.Pasts.{IsRowCut}
+use Rattle.debug_session.specs.Pasts.{IsRowCut}
 use Rattle.debug_session.proofs.Histories.{row_cut_ranges}
 use Rattle.std.proofs.lemmas.Result.{IfOk-from_err}
 use Rattle.debug_session.proofs.timeline.Timeline.step_back.Goals as goal

@@ -1,7 +1,7 @@
 use Rattle.std.proofs.Common.{refl, sym, ◌∙◌}
 use Rattle.bench_report.specs.Bench.{Bench}
 use Rattle.bench_report.specs.Steps.{Moves}
-use Rattle.bench_live.specs.Rows.{row_answer}
+use Rattle.bench_report.specs.Rows.{row_answer}
 use Rattle.script_lang.specs.declared.line.Line.TheVariants as lines
 use Rattle.simdisk.specs.declared.fill.Fill.TheVariants as fills
 use Rattle.debug_session.proofs.Timelines.{row_left}

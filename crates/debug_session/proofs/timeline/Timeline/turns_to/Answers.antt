@@ -15,7 +15,7 @@ returns-clause-at g c =
     let note = c.in_ok-self.ensures in
     let old = c.args.self.now in
     let Also : Bench → Bench → Type 0 = λ b x. Rests size c.args.hart row.result.1 x × GoesTo size c.args.hart c.args.points.now row.result.0 b x in
-    let did = row_left size c.args.hart row.result.0 old.begins old.history c.note.new.history old.joins _ old.bench row.new.self Also (note.left size) (λ b shows. (let d = row.ensures.reported size b shows in (d.0, d.1, (d.3, d.4), d.2))) at.left.0 at.left.1 in
+    let did = row_left size c.args.hart row.result.0 old.begins old.history c.note.new.history old.joins _ old.bench row.new.bench Also (note.left size) (λ b shows. (let d = row.ensures.reported size b shows in (d.0, d.1, (d.3, d.4), d.2))) at.left.0 at.left.1 in
     record {
       left = (did.0, did.3);
       sound = row.ensures.sound;
@@ -30,7 +30,7 @@ returns-clause-made g c =
     let note = c.in_ok-self.ensures in
     let old = c.args.self.now in
     let Also : Bench → Bench → Type 0 = λ b x. Rests size c.args.hart row.result.1 x × GoesTo size c.args.hart c.args.points.now row.result.0 b x in
-    let did = row_left size c.args.hart row.result.0 old.begins old.history c.note.new.history old.joins _ old.bench row.new.self Also (note.left size) (λ b shows. (let d = row.ensures.reported size b shows in (d.0, d.1, (d.3, d.4), d.2))) in
+    let did = row_left size c.args.hart row.result.0 old.begins old.history c.note.new.history old.joins _ old.bench row.new.bench Also (note.left size) (λ b shows. (let d = row.ensures.reported size b shows in (d.0, d.1, (d.3, d.4), d.2))) in
     record {
       moves = λ b left. (let one = did b left in (one.0, one.1, one.3, one.2.0, one.2.1));
       grew = note.moments;

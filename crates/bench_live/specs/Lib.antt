@@ -1,4 +1,0 @@
-pub mod Pasts
-pub mod Rows
-pub mod Notes
-pub mod Lives
