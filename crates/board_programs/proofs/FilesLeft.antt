@@ -29,14 +29,14 @@ use Rattle.board_files.specs.Disks.{HoldsDisk, KeepsOrHolds}
 use Rattle.board_files.specs.Files.{FileKnown}
 use Rattle.board_files.specs.Folders.{LeftAt, NoMore}
 use Rattle.disk.specs.Facts.{Content, Facts, Unchanged}
-use Rattle.hart_threads.specs.Ends.{Ending}
+use Rattle.hart_threads.specs.declared.ends.HartEnd.{HartEnd}
 use Rattle.board_files.specs.Named.{AreFilesOf}
 use Rattle.hart_threads.specs.Heard.{Hearing, heard_nothing}
 use Rattle.simdisk.specs.declared.sim.SimDisk.{SimDisk}
 
 -- ---- a session
 -- what a session gives back of a disk, an input and an output, by why its console left
-abbrev pub HasEnded : Options → List (List ℕ) → Facts → Facts → List ℕ → Option (List ℕ) → Option (List ℕ) → Option (List ℕ) → Option (List ℕ) → Option Left → Hearing → List Ending
+abbrev pub HasEnded : Options → List (List ℕ) → Facts → Facts → List ℕ → Option (List ℕ) → Option (List ℕ) → Option (List ℕ) → Option (List ℕ) → Option Left → Hearing → List HartEnd
     → Result (Unit {0}) Refusal → Type 0
 HasEnded o payloads old now moments input begun rest written left heard ends ran =
     (RefusesSession o.new o.shape o.mode payloads old ran now × (left ≡ None))
@@ -45,7 +45,7 @@ HasEnded o payloads old now moments input begun rest written left heard ends ran
 
 -- the output is told that the console begins, which changes nothing that is known of it
 pub has_run : (o : Options) (payloads : List (List ℕ)) (old now : Facts) (moments : List ℕ) (input out begun rest written : Option (List ℕ))
-    (left : Option Left) (heard : Hearing) (ends : List Ending) (ran : Result (Unit {0}) Refusal)
+    (left : Option Left) (heard : Hearing) (ends : List HartEnd) (ran : Result (Unit {0}) Refusal)
     → HasEnded o payloads old now moments input begun rest written left heard ends ran
     → (left ≡ None → written ≡ begun) → begun ≡ out → HasRun o payloads old now moments input out written ran
 has_run o payloads old now moments input out begun rest written left heard ends ran (inl refused) same u =

@@ -1,10 +1,10 @@
 -- The line that tells how a hart ended. Source: docs/CONSOLE.md, "The harts"; SBI specification 2.0, chapter HSM.
-use Rattle.std.specs.Prelude.{ℕ, Bool, true, false, List, [], ◌∷◌, ◌++◌, flat_map, Option, Some, None}
+use Rattle.std.specs.Prelude.{ℕ, Bool, true, false, List, [], ◌∷◌, ◌++◌, flat_map, Option, Some, None, is_some}
 use Rattle.std.specs.Fmt.{decimal}
 use Rattle.hsm.specs.declared.state.State.{State}
 use Rattle.hsm.specs.declared.state.State.TheVariants as states
 use Rattle.board_model.specs.Texts.{hex_text}
-use Rattle.hart_threads.specs.Ends.{Ending}
+use Rattle.hart_threads.specs.declared.ends.HartEnd.{HartEnd}
 use Rattle.hart_threads.specs.declared.ends.ShutBy.{ShutBy}
 use Rattle.hart_threads.specs.declared.ends.ShutBy.TheVariants.{Life, Console}
 use Rattle.hart_threads.specs.declared.loops.Why.{Why}
@@ -55,9 +55,11 @@ abbrev pub line_of : List ℕ → List ℕ → List ℕ → List ℕ
 line_of place trap end = codes "sbiboard: " ++ (place ++ (codes " " ++ (trap ++ (codes " " ++ (end ++ 10 ∷ [])))))
 
 -- a hart whose loop has ended, in a line
-abbrev pub line_text : Ending → List ℕ
-line_text e = line_of (place_text e.number e.state e.dozing) (trap_text e.pc e.scause e.sepc e.stval) (loop_text e.made e.why e.by)
+abbrev pub line_text : HartEnd → List ℕ
+line_text e =
+    line_of (place_text e.hart.id e.state (is_some e.doze)) (trap_text e.hart.pc e.hart.scause e.hart.sepc e.hart.stval)
+    (loop_text e.made e.why e.by)
 
 -- their lines, in order
-abbrev pub lines_text : List Ending → List ℕ
+abbrev pub lines_text : List HartEnd → List ℕ
 lines_text ends = flat_map line_text ends

@@ -10,13 +10,13 @@ use Rattle.board_session.specs.Sessions.{RanOver, RefusesSession, outcome_of}
 use Rattle.command_line.specs.declared.fault.ProgramFault.{ProgramFault}
 use Rattle.command_line.specs.declared.fault.ProgramFault.TheVariants.{Refused}
 use Rattle.disk.specs.Facts.{Facts}
-use Rattle.hart_threads.specs.Ends.{Ending}
+use Rattle.hart_threads.specs.declared.ends.HartEnd.{HartEnd}
 use Rattle.hart_threads.specs.Heard.{Hearing, heard_nothing}
 
 -- it ran over the disk that was given, until its console left so
 abbrev pub RanUntil : Options → List (List ℕ) → Facts → Facts → List ℕ → Option (List ℕ) → Option (List ℕ) → Option (List ℕ) → Option Left → Type 0
 RanUntil o payloads old now moments input out written left =
-    (rest : Option (List ℕ)) × (heard : Hearing) × (ends : List Ending)
+    (rest : Option (List ℕ)) × (heard : Hearing) × (ends : List HartEnd)
     × RanOver o.new o.shape o.mode payloads o.turns old now moments left (dialogue_ends input out (party [] heard_nothing)) rest written heard ends
 
 -- It was refused by its disk, before any line was answered; or it ran. From one disk to the other, with an input and an output

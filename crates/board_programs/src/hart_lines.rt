@@ -1,11 +1,15 @@
 //! The lines that tell how the harts of a session ended (docs/CONSOLE.md, "The harts").
 
-ghost use Rattle.std.specs.Prelude.{◌≡◌, Some};
+ghost use Rattle.std.specs.Prelude.{◌≡◌, ◌<◌, Some, false, is_some};
+ghost use Rattle.hart.specs.Csrs.{csr_number, csr_read};
+ghost use Rattle.hart.specs.declared.csr.Csr.{Csr};
 ghost use Rattle.board_programs.specs.HartTexts.{doze_text, line_text, lines_text, loop_text, place_text, reason_text, state_text, trap_text};
 
 use board_model::Value;
+use hart::Hart;
 use hart_threads::{HartEnd, ShutBy, Why};
 use hsm::State;
+use rv_decode::{CsrNumber, SCAUSE, SEPC, STVAL};
 use std::fmt;
 
 /// The name of a state.
@@ -119,28 +123,36 @@ impl fmt::Display for LoopEnd {
 }
 
 fn place_of(end: &HartEnd) -> HartPlace
-    ensures number { result.number ≡ end.now.number }
+    ensures number { result.number ≡ end.now.hart.id }
     ensures state { result.state ≡ end.now.state }
-    ensures dozing { result.dozing ≡ end.now.dozing }
+    ensures dozing { result.dozing ≡ is_some end.now.doze }
 {
     HartPlace {
-        number: end.hart().number(),
-        state: end.state(),
-        dozing: end.dozing(),
+        number: end.hart.id().number(),
+        state: end.state,
+        dozing: end.doze.is_some(),
     }
 }
 
-fn trap_of(end: &HartEnd) -> Trap
-    ensures pc { result.pc ≡ end.now.pc }
-    ensures scause { result.scause ≡ end.now.scause }
-    ensures sepc { result.sepc ≡ end.now.sepc }
-    ensures stval { result.stval ≡ end.now.stval }
+/// One of a hart's control and status registers that no pending interrupt shows in.
+fn csr(hart: &Hart, number: u32) -> u64
+    requires { number < 4096 }
+    ensures { (c : Csr) → csr_number c ≡ number → result ≡ csr_read c hart.now false }
+{
+    hart.csr(CsrNumber::new(number as u16), false).unwrap_or(0)
+}
+
+fn trap_of(hart: &Hart) -> Trap
+    ensures pc { result.pc ≡ hart.now.pc }
+    ensures scause { result.scause ≡ hart.now.scause }
+    ensures sepc { result.sepc ≡ hart.now.sepc }
+    ensures stval { result.stval ≡ hart.now.stval }
 {
     Trap {
-        pc: end.pc(),
-        scause: end.scause(),
-        sepc: end.sepc(),
-        stval: end.stval(),
+        pc: hart.pc(),
+        scause: csr(hart, SCAUSE),
+        sepc: csr(hart, SEPC),
+        stval: csr(hart, STVAL),
     }
 }
 
@@ -150,9 +162,9 @@ fn loop_end_of(end: &HartEnd) -> LoopEnd
     ensures by { result.by ≡ end.now.by }
 {
     LoopEnd {
-        made: end.made(),
-        why: end.why(),
-        by: end.by(),
+        made: end.made,
+        why: end.why,
+        by: end.by,
     }
 }
 
@@ -166,7 +178,7 @@ impl<'a> fmt::Display for HartLine<'a> {
     ghost output = { λ l. Some (line_text l.0.now) };
 
     fn fmt<W: fmt::Write>(&self, f: &mut fmt::Formatter<W>) -> fmt::Result {
-        let (place, trap) = (place_of(self.0), trap_of(self.0));
+        let (place, trap) = (place_of(self.0), trap_of(&self.0.hart));
         let last = loop_end_of(self.0);
         writeln!(f, "sbiboard: {place} {trap} {last}")
     }

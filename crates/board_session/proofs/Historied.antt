@@ -1,5 +1,5 @@
 -- The parts of a history that has ended, and what they say of it.
-use Rattle.std.proofs.Common.{◌≡◌, ◌∙◌, ◌⊎◌, ◌<◌, ◌+◌, ℕ, suc, Bool, true, false, List, [], ◌∷◌, ◌++◌, ◌==◌, All, Option, Some, length, if◌then◌else◌, inl, inr, refl, sym, ap, subst}
+use Rattle.std.proofs.Common.{◌≡◌, ◌∙◌, ◌+◌, ℕ, suc, Bool, true, false, List, [], ◌∷◌, ◌++◌, ◌==◌, All, Option, Some, length, if◌then◌else◌, inl, inr, refl, sym, ap, subst}
 use Rattle.std.proofs.Math.Logic.{∥∥₁_map, ∥∥₁_map₂}
 use Rattle.board_model.specs.Durable.{DurableState, Change}
 use Rattle.board_model.specs.Shapes.{Size}
@@ -10,8 +10,9 @@ use Rattle.tallies.specs.Books.{Each, IsPart, part_view, told_by}
 use Rattle.tallies.specs.Logs.{Log}
 use Rattle.tallies.specs.declared.book_views.PartView.{PartView}
 use Rattle.hart_threads.specs.Bused.{AreSaved, AreWakes, IsMoment, IsSaving, IsWaking, LeftSo, Makes, SavedBy, WasTold, begun_bus, console_part, count_of, part_of_hart, store_part}
-use Rattle.hart_threads.specs.Ends.{Ending, IsEnding, IsOfHart}
-use Rattle.hart_threads.specs.Runs.{IsCarriedBy, StepsMake}
+use Rattle.hart_threads.specs.Ends.{IsEnding, IsOfHart}
+use Rattle.hart_threads.specs.declared.ends.HartEnd.{HartEnd}
+use Rattle.hart_threads.specs.Carried.{AllCarry, Carries, IsCarriedBy}
 use Rattle.hart_threads.specs.declared.bus_turns.BusTurn.{BusTurn}
 use Rattle.hart_threads.specs.declared.closing.AfterConsole.{AfterConsole}
 use Rattle.hart_threads.proofs.Bussing.{carried_more}
@@ -21,6 +22,21 @@ use Rattle.board_session.specs.Histories.{EndsHistory, EndsWith, IsHistory, IsOn
 -- ---- a life that carries no memory yet
 pub carries_none : (P : List ℕ → Type 0) (life : Life) → IsCarriedBy (λ memory. ⊥) life → IsCarriedBy P life
 carries_none P life none = carried_more (λ memory. ⊥) P life (λ memory no. absurd no) none
+
+-- nothing was done with its bus
+pub no_history : (size : Size) (memory : List ℕ) (life : Life) (journal : List Change) (doubt : Option Change) → journal ≡ life.journal → doubt ≡ life.doubt → IsCarriedBy (λ memory. ⊥) life → ∥ IsHistory size memory journal doubt 0 [] ∥₁
+no_history size memory life journal doubt issued down none =
+    let carried = carries_none (IsMoment [] (begun_bus memory)) life none in
+    ∣ record {
+      left = begun_bus memory;
+      made = refl;
+      of = tt;
+      saves = tt;
+      wakes = tt;
+      often = refl;
+      carried = subst (λ (cs : List Change). AllCarry (IsMoment [] (begun_bus memory)) cs) (sym issued) carried.journal;
+      doubted = subst (λ (o : Option Change). (c : Change) → o ≡ Some c → Carries (IsMoment [] (begun_bus memory)) c) (sym down) carried.doubt;
+    } ∣₁
 
 -- ---- parts that are back
 one_of : (P : PartView BusTurn → Type 0) (d : PartView BusTurn) (ps : List (PartView BusTurn)) → IsOneOf d ps → Each P ps → P d
@@ -33,26 +49,25 @@ part_is log d k is who = let told : d.told ≡ told_by k log = is ∙ ap (λ (j 
 
 module _ (machine : Machine) (turns : ℕ) (found : DurableState) (gated : Bool) (parting : AfterConsole) where
   -- one more is back
-  pub one_with : (d : PartView BusTurn) (parts : List (PartView BusTurn)) (e : Ending) → IsEnding machine turns found gated parting d e → EndsWith machine turns found gated parting (d ∷ parts) e
+  pub one_with : (d : PartView BusTurn) (parts : List (PartView BusTurn)) (e : HartEnd) → IsEnding machine turns found gated parting d e → EndsWith machine turns found gated parting (d ∷ parts) e
   one_with d parts e is = (d, inl refl, is)
 
-  pub ends_with : (d : PartView BusTurn) (parts : List (PartView BusTurn)) (es : List Ending) → All (EndsWith machine turns found gated parting parts) es → All (EndsWith machine turns found gated parting (d ∷ parts)) es
+  pub ends_with : (d : PartView BusTurn) (parts : List (PartView BusTurn)) (es : List HartEnd) → All (EndsWith machine turns found gated parting parts) es → All (EndsWith machine turns found gated parting (d ∷ parts)) es
   ends_with d parts es all = λ k e lt. let is = all k e lt in (is.0, inr is.1, is.2)
 
   -- all are
-  abbrev pub EndedBy : Log BusTurn → Ending → Type 0
-  EndedBy log e = IsEnding machine turns found gated parting (took_by log e.number) e
+  abbrev pub EndedBy : Log BusTurn → HartEnd → Type 0
+  EndedBy log e = IsEnding machine turns found gated parting (took_by log e.hart.id) e
 
-  ends_by : (log : Log BusTurn) (d : PartView BusTurn) (e : Ending) → IsPart log d → IsEnding machine turns found gated parting d e → IsEnding machine turns found gated parting (took_by log e.number) e
+  ends_by : (log : Log BusTurn) (d : PartView BusTurn) (e : HartEnd) → IsPart log d → IsEnding machine turns found gated parting d e → IsEnding machine turns found gated parting (took_by log e.hart.id) e
   ends_by log d e is ending = (
     ending.0,
-    ending.1,
-    ∥∥₁_map ending.2 (λ (of : IsOfHart machine turns d e).
-        let so : IsOfHart machine turns (took_by log e.number) e = subst (λ (p : PartView BusTurn). IsOfHart machine turns p e) (part_is log d (part_of_hart e.number) is (hart_whose machine turns d e of)) of in so),
+    ∥∥₁_map ending.1 (λ (of : IsOfHart machine turns d e).
+        let so : IsOfHart machine turns (took_by log e.hart.id) e = subst (λ (p : PartView BusTurn). IsOfHart machine turns p e) (part_is log d (part_of_hart e.hart.id) is (hart_whose machine turns d e of)) of in so),
   )
 
-  pub all_ends_by : (log : Log BusTurn) (parts : List (PartView BusTurn)) (es : List Ending) → Each (IsPart log) parts → All (EndsWith machine turns found gated parting parts) es
-      → All (λ e. IsEnding machine turns found gated parting (took_by log e.number) e) es
+  pub all_ends_by : (log : Log BusTurn) (parts : List (PartView BusTurn)) (es : List HartEnd) → Each (IsPart log) parts → All (EndsWith machine turns found gated parting parts) es
+      → All (λ e. IsEnding machine turns found gated parting (took_by log e.hart.id) e) es
   all_ends_by log parts es told all = λ k e lt. let is = all k e lt in ends_by log is.0 _ (one_of (IsPart log) is.0 parts is.1 told) is.2
 
 -- ---- a memory that a part was told

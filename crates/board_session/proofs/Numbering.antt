@@ -1,11 +1,12 @@
 -- Ends of harts, one after another.
 use Rattle.std.proofs.Common.{◌≡◌, ℕ, suc, ◌+◌, List, [], ◌∷◌, ◌++◌, length, arith, sym, subst}
-use Rattle.hart_threads.specs.Ends.{Ending, AreNumberedFrom}
+use Rattle.hart_threads.specs.Ends.{AreNumberedFrom}
+use Rattle.hart_threads.specs.declared.ends.HartEnd.{HartEnd}
 
 -- one more, of the next hart
-pub numbered_more : (first : ℕ) (es : List Ending) (e : Ending) → AreNumberedFrom first es → e.number ≡ first + length es → AreNumberedFrom first (es ++ e ∷ [])
+pub numbered_more : (first : ℕ) (es : List HartEnd) (e : HartEnd) → AreNumberedFrom first es → e.hart.id ≡ first + length es → AreNumberedFrom first (es ++ e ∷ [])
 numbered_more first [] e are is = (let n = is in omega (arith, n), tt)
 numbered_more first (d ∷ es) e are is = (are.0, numbered_more (suc first) es e are.1 (omega (arith, is)))
 
-pub numbered_next : (es all : List Ending) (e : Ending) (k : ℕ) → AreNumberedFrom 0 es → length es ≡ k → e.number ≡ k → all ≡ es ++ e ∷ [] → AreNumberedFrom 0 all
-numbered_next es all e k are many is grown = subst (λ (l : List Ending). AreNumberedFrom 0 l) (sym grown) (numbered_more 0 es e are (omega (arith, many, is)))
+pub numbered_next : (es all : List HartEnd) (e : HartEnd) (k : ℕ) → AreNumberedFrom 0 es → length es ≡ k → e.hart.id ≡ k → all ≡ es ++ e ∷ [] → AreNumberedFrom 0 all
+numbered_next es all e k are many is grown = subst (λ (l : List HartEnd). AreNumberedFrom 0 l) (sym grown) (numbered_more 0 es e are (omega (arith, many, is)))

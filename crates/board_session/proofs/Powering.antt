@@ -28,7 +28,7 @@ use Rattle.board_model.specs.declared.boot_mode.BootMode.TheVariants as modes
 use Rattle.store.specs.Lives.{Life, now_of}
 use Rattle.store.specs.Taken.{are_taken}
 use Rattle.hart_threads.specs.Legal.{BeginsWith}
-use Rattle.hart_threads.specs.Runs.{AllCarry, IsCarriedBy}
+use Rattle.hart_threads.specs.Carried.{AllCarry, IsCarriedBy}
 use Rattle.hart_threads.proofs.Carrying.{none_carry, more_carry, change_carries}
 use Rattle.board.specs.Boots.{boot_refusal, life_after}
 use Rattle.board.specs.Moments.{MayLeave, attempts_of, commands_by}
@@ -62,8 +62,8 @@ pub kept_reads : (disk : Facts) (size : Size) → IsKept disk size → disk.may_
 unfolding IsKept
 kept_reads disk size kept may_keep = kept disk.content may_keep
 
-pub of_life_kept : (size : Size) (found : DurableState) (issued : List Change) (begins : List ℕ) (failures : ℕ) (earlier : ℕ → Content → Type 0) (moment : ℕ) (moments : List ℕ) (told : List (ℕ × Entry)) (doubtful : Option Command) (disk : Facts) → IsOfLife size found issued begins failures earlier moment moments told doubtful disk → (z : Size) × IsKept disk z
-of_life_kept size found issued begins failures earlier moment moments told doubtful disk is = (size, life_kept is.doubt disk size (fold found is.journal) is.leaves)
+pub of_life_kept : (size : Size) (found : DurableState) (issued : List Change) (failures : ℕ) (earlier : ℕ → Content → Type 0) (moment : ℕ) (moments : List ℕ) (told : List (ℕ × Entry)) (doubtful : Option Command) (disk : Facts) → IsOfLife size found issued failures earlier moment moments told doubtful disk → (z : Size) × IsKept disk z
+of_life_kept size found issued failures earlier moment moments told doubtful disk is = (size, life_kept is.doubt disk size (fold found is.journal) is.leaves)
 
 -- the boot of an old disk is over
 pub booted : (new : Bool) (old disk : Facts) (size : Size) (found : DurableState) (issued : List Change) → (new ≡ false → LeavesSince old disk (MayLeave old size found issued)) → IsBooted new old size found issued disk

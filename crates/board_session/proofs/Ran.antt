@@ -1,10 +1,9 @@
 -- A session of a board that was on.
-use Rattle.std.proofs.Common.{◌≡◌, ◌⊎◌, ◌≤◌, ℕ, Bool, List, Option, Some, inl, inr, arith, subst, sym}
+use Rattle.std.proofs.Common.{◌≡◌, ◌⊎◌, ◌≤◌, ℕ, Bool, List, Option, Some, None, inl, inr, arith, subst, sym}
 use Rattle.std.proofs.Math.Logic.{∥∥₁_map}
 use Rattle.board_model.specs.Durable.{DurableState, Change}
 use Rattle.board_model.specs.Shapes.{Size}
 use Rattle.board_model.specs.declared.boot_mode.BootMode.{BootMode}
-use Rattle.board_model.specs.declared.durable.Command.{Command}
 use Rattle.board_model.specs.declared.durable.Entry.{Entry}
 use Rattle.disk.specs.Facts.{Content, Facts}
 use Rattle.board.specs.Begins.{IsBegun}
@@ -14,7 +13,7 @@ use Rattle.hart_threads.specs.Heard.{Hearing}
 use Rattle.board_session.specs.Commands.{party}
 use Rattle.board_session.specs.Dialogues.{DialogueEnds, Talks, dialogue_ends}
 use Rattle.board_session.specs.declared.talks.Left.{Left}
-use Rattle.hart_threads.specs.Ends.{Ending}
+use Rattle.hart_threads.specs.declared.ends.HartEnd.{HartEnd}
 use Rattle.board_session.specs.Histories.{HasHistory}
 use Rattle.board_session.specs.Sessions.{RunsOver, Begins, IsOfLife, TalksIf, AreByLast, RanOver, LeftBefore, said_since}
 
@@ -24,16 +23,16 @@ or_else A B P f (inl a) = inl (f a)
 or_else A B P f (inr p) = inr p
 
 -- a life that has ended so, with the history of its bus
-abbrev HasEnded : Size → DurableState → List Change → List ℕ → ℕ → (ℕ → Content → Type 0) → ℕ → List ℕ → List (ℕ × Entry) → Hearing → Facts → Machine → ℕ → Option Left → List Ending → Type 0
-HasEnded size found issued memory failures earlier moment moments console heard disk machine turns left ends =
-    (life : IsOfLife size found issued memory failures earlier moment moments console heard.doubt disk) × AreByLast life.journal ends
+abbrev HasEnded : Size → DurableState → List Change → ℕ → (ℕ → Content → Type 0) → ℕ → List ℕ → List (ℕ × Entry) → Hearing → Facts → Machine → ℕ → Option Left → List HartEnd → Type 0
+HasEnded size found issued failures earlier moment moments console heard disk machine turns left ends =
+    (life : IsOfLife size found issued failures earlier moment moments console heard.doubt disk) × AreByLast life.journal ends
     × HasHistory size machine turns found life.journal life.doubt heard.woken left ends
 
-weaker : (size : Size) (found : DurableState) (issued : List Change) (memory : List ℕ) (failures : ℕ) (earlier said : ℕ → Content → Type 0) (moment from : ℕ) (moments : List ℕ) (console : List (ℕ × Entry)) (heard : Hearing) (disk : Facts) (machine : Machine) (turns : ℕ) (left : Option Left) (ends : List Ending)
+weaker : (size : Size) (found : DurableState) (issued : List Change) (failures : ℕ) (earlier said : ℕ → Content → Type 0) (moment from : ℕ) (moments : List ℕ) (console : List (ℕ × Entry)) (heard : Hearing) (disk : Facts) (machine : Machine) (turns : ℕ) (left : Option Left) (ends : List HartEnd)
     → from ≤ moment → ((t : ℕ) (c : Content) → t ≤ from → earlier t c → said t c)
-    → HasEnded size found issued memory failures earlier moment moments console heard disk machine turns left ends
-    → HasEnded size found issued memory failures said from moments console heard disk machine turns left ends
-weaker size found issued memory failures earlier said moment from moments console heard disk machine turns left ends le says (life, ended, history) = (
+    → HasEnded size found issued failures earlier moment moments console heard disk machine turns left ends
+    → HasEnded size found issued failures said from moments console heard disk machine turns left ends
+weaker size found issued failures earlier said moment from moments console heard disk machine turns left ends le says (life, ended, history) = (
   record {
     journal = life.journal;
     acknowledged = life.acknowledged;
@@ -43,8 +42,6 @@ weaker size found issued memory failures earlier said moment from moments consol
     leaves = life.leaves;
     allowed = life.allowed;
     reads = life.reads;
-    carried = life.carried;
-    doubted = life.doubted;
     failed = life.failed;
     asked = life.asked;
     kept = record {
@@ -60,27 +57,26 @@ weaker size found issued memory failures earlier said moment from moments consol
 )
 
 -- a life under its other names
-named : (z size : Size) (s found : DurableState) (issued commands : List Change) (memory begins : List ℕ) (failures before : ℕ) (said : ℕ → Content → Type 0) (from : ℕ) (moments : List ℕ) (console : List (ℕ × Entry)) (heard : Hearing) (disk : Facts) (board machine : Machine) (turns : ℕ) (left : Option Left) (ends : List Ending)
-    → z ≡ size → s ≡ found → issued ≡ commands → memory ≡ begins → failures ≡ before → board ≡ machine
-    → HasEnded z s issued memory failures said from moments console heard disk board turns left ends → HasEnded size found commands begins before said from moments console heard disk machine turns left ends
-named z size s found issued commands memory begins failures before said from moments console heard disk board machine turns left ends sized was made left_by opened same ended =
-    let Named : Size → DurableState → List Change → List ℕ → ℕ → Machine → Type 0 = λ y t cs m n b. HasEnded y t cs m n said from moments console heard disk b turns left ends in
-    subst (λ (x : Size). Named x found commands begins before machine) sized
-    (subst (λ (x : DurableState). Named z x commands begins before machine) was
-    (subst (λ (x : List Change). Named z s x begins before machine) made
-    (subst (λ (x : List ℕ). Named z s issued x before machine) left_by
-    (subst (λ (x : ℕ). Named z s issued memory x machine) opened
-    (subst (λ (x : Machine). Named z s issued memory failures x) same ended)))))
+named : (z size : Size) (s found : DurableState) (issued commands : List Change) (failures before : ℕ) (said : ℕ → Content → Type 0) (from : ℕ) (moments : List ℕ) (console : List (ℕ × Entry)) (heard : Hearing) (disk : Facts) (board machine : Machine) (turns : ℕ) (left : Option Left) (ends : List HartEnd)
+    → z ≡ size → s ≡ found → issued ≡ commands → failures ≡ before → board ≡ machine
+    → HasEnded z s issued failures said from moments console heard disk board turns left ends → HasEnded size found commands before said from moments console heard disk machine turns left ends
+named z size s found issued commands failures before said from moments console heard disk board machine turns left ends sized was made opened same ended =
+    let Named : Size → DurableState → List Change → ℕ → Machine → Type 0 = λ y t cs n b. HasEnded y t cs n said from moments console heard disk b turns left ends in
+    subst (λ (x : Size). Named x found commands before machine) sized
+    (subst (λ (x : DurableState). Named z x commands before machine) was
+    (subst (λ (x : List Change). Named z s x before machine) made
+    (subst (λ (x : ℕ). Named z s issued x machine) opened
+    (subst (λ (x : Machine). Named z s issued failures x) same ended))))
 
 -- what is of the life of the store that the board gave up is of the one that it had
-pub ran_over : (new : Bool) (shape : Size) (mode : BootMode) (payloads : List (List ℕ)) (turns : ℕ) (old disk : Facts) (moments : List ℕ) (left : Option Left) (a : DialogueEnds) (input output : Option (List ℕ)) (heard : Hearing) (ends : List Ending) (size z : Size) (found s : DurableState) (issued : List Change) (machine board : Machine) (memory : List ℕ) (failures : ℕ) (earlier : ℕ → Content → Type 0) (moment : ℕ)
+pub ran_over : (new : Bool) (shape : Size) (mode : BootMode) (payloads : List (List ℕ)) (turns : ℕ) (old disk : Facts) (moments : List ℕ) (left : Option Left) (a : DialogueEnds) (input output : Option (List ℕ)) (heard : Hearing) (ends : List HartEnd) (size z : Size) (found s : DurableState) (issued : List Change) (machine board : Machine) (failures : ℕ) (earlier : ℕ → Content → Type 0) (moment : ℕ)
     → said_since new old ≤ moment → ((t : ℕ) (c : Content) → t ≤ said_since new old → earlier t c → LeftBefore new old size found (commands_by mode found) t c)
-    → z ≡ size → s ≡ found → issued ≡ commands_by mode found → memory ≡ machine.memory → board ≡ machine → failures ≡ old.failures → RunsOver new shape mode payloads old.content → Begins new shape old.content size found → IsBegun mode size payloads found machine
-    → (console : List (ℕ × Entry)) → HasEnded z s issued memory failures earlier moment moments console heard disk board turns left ends
+    → z ≡ size → s ≡ found → issued ≡ commands_by mode found → board ≡ machine → failures ≡ old.failures → RunsOver new shape mode payloads old.content → Begins new shape old.content size found → IsBegun mode size payloads found machine
+    → (console : List (ℕ × Entry)) → HasEnded z s issued failures earlier moment moments console heard disk board turns left ends
     → TalksIf s issued left a (dialogue_ends input output (party console heard)) → RanOver new shape mode payloads turns old disk moments left a input output heard ends
-ran_over new shape mode payloads turns old disk moments left a input output heard ends size z found s issued machine board memory failures earlier moment le says sized was made left_by same opened allowed begins powered console life talks =
-    let kept = named z size s found issued (commands_by mode found) memory machine.memory failures old.failures (LeftBefore new old size found (commands_by mode found)) (said_since new old) moments console heard disk board machine turns left ends sized was made left_by opened same
-    (weaker z s issued memory failures earlier (LeftBefore new old size found (commands_by mode found)) moment (said_since new old) moments console heard disk board turns left ends le says life) in
+ran_over new shape mode payloads turns old disk moments left a input output heard ends size z found s issued machine board failures earlier moment le says sized was made same opened allowed begins powered console life talks =
+    let kept = named z size s found issued (commands_by mode found) failures old.failures (LeftBefore new old size found (commands_by mode found)) (said_since new old) moments console heard disk board machine turns left ends sized was made opened same
+    (weaker z s issued failures earlier (LeftBefore new old size found (commands_by mode found)) moment (said_since new old) moments console heard disk board turns left ends le says life) in
     record {
       allowed = allowed;
       size = size;
@@ -102,3 +98,7 @@ pub talked : (found : DurableState) (issued : List Change) (left : Left) (a a' b
 talked found issued left a a' b b' o is given same talks =
     subst (λ (x : Option Left). TalksIf found issued x a' b') (sym is)
     (subst (λ (x : DialogueEnds). Talks found issued left a' x) (sym same) (subst (λ (x : DialogueEnds). Talks found issued left x b) given talks))
+
+-- nothing was read or answered where it was not begun
+pub untalked : (found : DurableState) (issued : List Change) (a b : DialogueEnds) (o : Option Left) → o ≡ None → b ≡ a → TalksIf found issued o a b
+untalked found issued a b o is same = subst (λ (x : Option Left). TalksIf found issued x a b) (sym is) same

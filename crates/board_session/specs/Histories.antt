@@ -9,8 +9,9 @@ use Rattle.tallies.specs.Books.{Each, IsPart, part_view, told_by}
 use Rattle.tallies.specs.Logs.{Log}
 use Rattle.tallies.specs.declared.book_views.PartView.{PartView}
 use Rattle.hart_threads.specs.Bused.{IsMoment, IsSaving, IsWaking, Made, Makes, begun_bus, console_part, count_of, part_of_hart, store_part}
-use Rattle.hart_threads.specs.Ends.{Ending, AreNumberedFrom, IsEnding}
-use Rattle.hart_threads.specs.Runs.{AllCarry, Carries}
+use Rattle.hart_threads.specs.Ends.{AreNumberedFrom, IsEnding}
+use Rattle.hart_threads.specs.declared.ends.HartEnd.{HartEnd}
+use Rattle.hart_threads.specs.Carried.{AllCarry, Carries}
 use Rattle.hart_threads.specs.declared.bus_turns.BusTurn.{BusTurn}
 use Rattle.hart_threads.specs.declared.closing.AfterConsole.{AfterConsole}
 use Rattle.hart_threads.specs.declared.closing.AfterConsole.TheVariants.{RunOut, Halt}
@@ -44,16 +45,17 @@ pub record IsHistory (size : Size) (memory : List ℕ) (journal : List Change) (
 
 -- Each hart of that board had a loop, and there is an end of each, from hart 0 on. It went from where the power-on left it by just the
 -- turns that its loop made, and what the history has of it is what those turns did with the bus. It made all the turns that each hart is
--- given, or a hart ended the life by a command that was acknowledged, or the console had left so that the harts are halted.
-abbrev pub AreDriven : ℕ → Machine → ℕ → DurableState → Log BusTurn → Left → List Ending → Type 0
-AreDriven harts machine turns found log left ends =
+-- given, or a hart ended the life by a command that was acknowledged, or the console had left so that the harts are halted. Where the
+-- console was not begun there is no end of any.
+abbrev pub AreDriven : ℕ → Machine → ℕ → DurableState → Log BusTurn → Option Left → List HartEnd → Type 0
+AreDriven harts machine turns found log None ends = ends ≡ []
+AreDriven harts machine turns found log (Some left) ends =
     (length ends ≡ harts) × AreNumberedFrom 0 ends
-    × All (λ e. IsEnding machine turns found false (harts_after left) (took_by log e.number) e) ends
+    × All (λ e. IsEnding machine turns found false (harts_after left) (took_by log e.hart.id) e) ends
 
--- Where the console was begun there is one such history, and it is the one of the harts.
-abbrev pub HasHistory : Size → Machine → ℕ → DurableState → List Change → Option Change → ℕ → Option Left → List Ending → Type 0
-HasHistory size machine turns found journal doubt woken None ends = Unit {0}
-HasHistory size machine turns found journal doubt woken (Some left) ends =
+-- there is one such history, and it is the one of the harts
+abbrev pub HasHistory : Size → Machine → ℕ → DurableState → List Change → Option Change → ℕ → Option Left → List HartEnd → Type 0
+HasHistory size machine turns found journal doubt woken left ends =
     (log : Log BusTurn) × AreDriven size.harts machine turns found log left ends
     × ∥ IsHistory size machine.memory journal doubt woken log ∥₁
 
@@ -64,7 +66,7 @@ IsOneOf d [] = ⊥
 IsOneOf d (p ∷ ps) = (p ≡ d) ⊎ IsOneOf d ps
 
 -- a loop ended so whose part is one of these
-abbrev pub EndsWith : Machine → ℕ → DurableState → Bool → AfterConsole → List (PartView BusTurn) → Ending → Type 0
+abbrev pub EndsWith : Machine → ℕ → DurableState → Bool → AfterConsole → List (PartView BusTurn) → HartEnd → Type 0
 EndsWith machine turns found gated parting parts e =
     (d : PartView BusTurn) × IsOneOf d parts × IsEnding machine turns found gated parting d e
 

@@ -25,13 +25,12 @@ use Rattle.machine.specs.Machine.{Machine}
 use Rattle.tallies.specs.Closed.{AreReceiptsOf}
 use Rattle.hart_threads.specs.Noted.{boot_told, entries_in}
 use Rattle.hart_threads.specs.Threads.{ends_life}
-use Rattle.hart_threads.specs.Ends.{Ending}
+use Rattle.hart_threads.specs.declared.ends.HartEnd.{HartEnd}
 use Rattle.hart_threads.specs.declared.ends.ShutBy.{ShutBy}
 use Rattle.hart_threads.specs.declared.ends.ShutBy.TheVariants.{Life, Console}
 use Rattle.hart_threads.specs.Called.{IsLastOf}
 use Rattle.hart_threads.specs.Doubts.{IsDoubtOf}
 use Rattle.hart_threads.specs.Heard.{Hearing}
-use Rattle.hart_threads.specs.Runs.{CarriesSteps, AllCarrySteps}
 use Rattle.hart_threads.specs.Since.{AreKept}
 use Rattle.board_session.specs.Commands.{party}
 use Rattle.board_session.specs.Dialogues.{DialogueEnds, Talks, dialogue_ends}
@@ -124,10 +123,8 @@ IsBooted new old size found issued disk =
 -- These are the moments at which its boot was over and its receipts were made. At each moment of it, within a command too, a crash has left
 -- what some first commands of the journal make, with each that had been acknowledged by then, or these and the one in doubt; or what is
 -- said of the time before its boot was over.
--- Each suspension of the life, also one in doubt, carries a memory that steps of harts made of the one that the boot left.
-pub record IsOfLife (size : Size) (found : DurableState) (issued : List Change) (begins : List ℕ) (failures : ℕ)
-    (earlier : ℕ → Content → Type 0) (moment : ℕ) (moments : List ℕ) (console : List (ℕ × Entry)) (doubtful : Option Command)
-    (disk : Facts) : Type 0 where
+pub record IsOfLife (size : Size) (found : DurableState) (issued : List Change) (failures : ℕ) (earlier : ℕ → Content → Type 0)
+    (moment : ℕ) (moments : List ℕ) (console : List (ℕ × Entry)) (doubtful : Option Command) (disk : Facts) : Type 0 where
   pub journal : List Change
   pub acknowledged : IsAcknowledged size issued journal console
   pub begun : (later : List Change) × (journal ≡ issued ++ later)
@@ -136,8 +133,6 @@ pub record IsOfLife (size : Size) (found : DurableState) (issued : List Change) 
   pub leaves : LeavesLife doubt disk size (fold found journal)
   pub allowed : (c : Change) → doubt ≡ Some c → refusal_of (fold found journal) c ≡ None
   pub reads : (s : DurableState) × StandsFor disk.content size s
-  pub carried : AllCarrySteps begins journal
-  pub doubted : (c : Change) → doubt ≡ Some c → CarriesSteps begins c
   pub failed : (c : Change) → doubt ≡ Some c → Failed failures disk.failures
   pub asked : IsDoubtOf size doubt doubtful
   pub kept : AreKept size found earlier moment (length issued) journal doubt disk moments
@@ -169,17 +164,16 @@ IsByLast journal None = Unit {0}
 IsByLast journal (Some Console) = Unit {0}
 IsByLast journal (Some (Life n entry)) = IsLastOf journal n entry
 
-abbrev pub AreByLast : List Change → List Ending → Type 0
+abbrev pub AreByLast : List Change → List HartEnd → Type 0
 AreByLast journal ends = All (λ e. IsByLast journal e.by) ends
 
 -- The board was on, over a disk that allows it, with the memory and harts that the mode begins. The disk given back is
--- that of the life that it then began, whose suspension carries what steps of harts made of that memory; and what was read
--- and answered is of that life, with its receipts, and with the refusals and states that the console heard. Its bus has one
--- history, of which that suspension's memory was a moment. Its harts are those of the board that was on, were driven, and
+-- that of the life that it then began; and what was read and answered is of that life, with its receipts, and with the refusals and
+-- states that the console heard. Its bus has one history, of which the memory of each suspension was a moment. Its harts are those of the board that was on, were driven, and
 -- ended so, with what that history has of them; where another hart ended the life, by the last command of its journal.
 pub record RanOver (new : Bool) (shape : Size) (mode : BootMode) (payloads : List (List ℕ)) (turns : ℕ)
     (old disk : Facts) (moments : List ℕ) (left : Option Left) (a : DialogueEnds) (input output : Option (List ℕ))
-    (heard : Hearing) (ends : List Ending) : Type 0 where
+    (heard : Hearing) (ends : List HartEnd) : Type 0 where
   pub allowed : RunsOver new shape mode payloads old.content
   pub size : Size
   pub found : DurableState
@@ -187,8 +181,8 @@ pub record RanOver (new : Bool) (shape : Size) (mode : BootMode) (payloads : Lis
   pub machine : Machine
   pub powered : IsBegun mode size payloads found machine
   pub console : List (ℕ × Entry)
-  pub life : IsOfLife size found (commands_by mode found) machine.memory old.failures
-      (LeftBefore new old size found (commands_by mode found)) (said_since new old) moments console heard.doubt disk
+  pub life : IsOfLife size found (commands_by mode found) old.failures (LeftBefore new old size found (commands_by mode found))
+      (said_since new old) moments console heard.doubt disk
   pub talks : TalksIf found (commands_by mode found) left a (dialogue_ends input output (party console heard))
   pub history : HasHistory size machine turns found life.journal life.doubt heard.woken left ends
   pub ended : AreByLast life.journal ends

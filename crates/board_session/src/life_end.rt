@@ -1,11 +1,10 @@
 //! The end of a life: the receipts that were told, and the disk.
 
-ghost use Rattle.std.specs.Prelude.{◌≡◌, ◌≤◌, ◌+◌, ℕ, List, [], ◌∷◌, true, None, Some, All, length, vec_len, vec_capacity};
+ghost use Rattle.std.specs.Prelude.{◌≡◌, ◌≤◌, ◌+◌, [], ◌∷◌, true, None, Some, All, length, vec_len, vec_capacity};
 ghost use Rattle.store.specs.Leaves.{IsIdle};
 ghost use Rattle.store.specs.Taken.{are_taken};
 ghost use Rattle.store.specs.Views.{size_of_store, found_state, journal_of, life_of, doubt_of, failures_at_open, disk_of};
 ghost use Rattle.hart_threads.specs.Noted.{boot_told};
-ghost use Rattle.hart_threads.specs.Runs.{IsCarriedBy};
 ghost use Rattle.hart_threads.specs.Bused.{AreSaved, AreWakes};
 ghost use Rattle.hart_threads.specs.Views.{bus_parts, inside, moments_with, parts_with};
 ghost use Rattle.hart_threads.specs.Ends.{AreNumberedFrom, IsEnding};
@@ -44,12 +43,12 @@ fn end_of<'c, R: Wait, J: Threaded>(
     number: usize,
     last: &Option<(u32, Entry)>,
 ) -> HartEnd
-    ensures number { result.number ≡ number }
+    ensures number { result.hart.id ≡ number }
     ensures by { IsBy last.now result.by }
     ensures well { IsEnding J.machine J.turns J.found J.gated parted.now.token.value rested.now.ended.local.run result }
 {
     let end = rested.end(parted);
-    if end.hart().index() == number && is_by(last, end.by()) {
+    if end.hart.id().index() == number && is_by(last, end.by) {
         return end;
     }
     for _ in rt.forever() {}
@@ -89,7 +88,6 @@ pub(crate) fn ends_of<'c, R: Wait, D: Disk + Drop, J: Threaded>(
             doze: _,
             part,
             run,
-            refused: _,
         } = rested.ended.local;
         whole.gather(part);
         bus.gather(run);
@@ -124,7 +122,6 @@ fn gather_loops<D: Disk + Drop, J: Threaded>(whole: &mut Unshared<D, J>, loops: 
             doze: _,
             part,
             run: _,
-            refused: _,
         } = rested.ended.local;
         whole.gather(part);
     }
@@ -176,7 +173,7 @@ pub(crate) fn disk_of<D: Disk + Drop, J: Threaded>(
     requires all { J.parts ≡ J.size.harts + 2 }
     ensures none_out { IsIdle (D.facts result.0) }
     ensures moments { result.1.at ≡ moments_with whole }
-    ensures life { (life : IsOfLife J.size J.found J.issued J.memory J.failures J.earlier J.moment result.1.at console.told
+    ensures life { (life : IsOfLife J.size J.found J.issued J.failures J.earlier J.moment result.1.at console.told
         heard.doubt (D.facts result.0)) × (life.journal ≡ journal_of (inside whole))
         × (life.doubt ≡ doubt_of (inside whole)) }
     ensures saved { AreSaved (life_of (inside whole)) result.2.0 }
@@ -194,12 +191,11 @@ pub(crate) fn disk_of<D: Disk + Drop, J: Threaded>(
 pub(crate) fn disk_at_once<D: Disk + Drop>(store: Store<D>) -> (D, Moments)
     requires taken { are_taken (found_state store) (journal_of store) ≡ true }
     requires few { length (journal_of store) ≤ 2 }
-    requires unsaved { IsCarriedBy (λ memory. ⊥) (life_of store) }
     requires up { doubt_of store ≡ None }
     ensures none_out { IsIdle (D.facts result.0) }
-    ensures life { (begins : List ℕ)
-        → IsOfLife (size_of_store store) (found_state store) (journal_of store) begins (failures_at_open store)
-        (disk_of store).since (disk_of store).moment result.1.at [] None (D.facts result.0) }
+    ensures life { (life : IsOfLife (size_of_store store) (found_state store) (journal_of store) (failures_at_open store)
+        (disk_of store).since (disk_of store).moment result.1.at [] None (D.facts result.0))
+        × (life.journal ≡ journal_of store) × (life.doubt ≡ doubt_of store) }
 {
     let moments = Moments::first(&store);
     (store.into_disk(), moments)

@@ -1,7 +1,6 @@
 //! Lines of an input.
 
 ghost use Rattle.std.specs.Prelude.{◌≡◌, [], ◌∷◌, ◌++◌, take};
-ghost use Rattle.std.specs.Io.KnownBytes.{Keeps};
 ghost use Rattle.board_session.specs.Lines.{FindsByte, TakesLine};
 
 use arrayvec::ArrayVec;

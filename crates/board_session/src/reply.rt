@@ -1,6 +1,6 @@
 //! Answers of the console.
 
-ghost use Rattle.std.specs.Prelude.{◌≡◌, ◌++◌, Some};
+ghost use Rattle.std.specs.Prelude.{Some};
 ghost use Rattle.board_session.specs.Texts.{reply_text};
 
 use crate::waking::Waking;

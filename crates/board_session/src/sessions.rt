@@ -2,7 +2,6 @@
 //! A law runs nothing, and tells the prover a fact: `kept_disks`.
 
 ghost use Rattle.std.specs.Prelude.{◌≡◌, ◌⊎◌, ◌≤◌, ◌+◌, ℕ, List, [], All, length, Some, None, true, false, Err, OnOk, IfOk, IfErr, MatchResult, map, vec_len, vec_capacity};
-ghost use Rattle.std.specs.Option.{option_to_list};
 ghost use Rattle.board_model.specs.Durable.{formatted};
 ghost use Rattle.board_model.specs.Shapes.{Size};
 ghost use Rattle.disk.specs.Facts.{Content};
@@ -13,7 +12,7 @@ ghost use Rattle.tallies.specs.Books.{fresh_from};
 ghost use Rattle.hart_threads.specs.Heard.{heard_nothing};
 ghost use Rattle.hart_threads.specs.Noted.{boot_told};
 ghost use Rattle.hart_threads.specs.Bused.{begun_bus};
-ghost use Rattle.hart_threads.specs.Runs.{IsCarriedBy};
+ghost use Rattle.hart_threads.specs.Carried.{IsCarriedBy};
 ghost use Rattle.hart_threads.specs.Views.{parts_with};
 ghost use Rattle.store.specs.Formats.{WritesHead};
 ghost use Rattle.store.specs.Leaves.{IsIdle, IsKept, LeavesOnly};
@@ -222,7 +221,7 @@ fn run_board<
     requires earlier { (t : ℕ) (c : Content) → (disk_of store).since t c → J.earlier t c }
     ensures none_out { IsIdle (D.facts result.disk) }
     ensures life { (console : List (ℕ × Entry))
-        × (life : IsOfLife J.size J.found J.issued J.memory J.failures J.earlier J.moment result.moments.at console
+        × (life : IsOfLife J.size J.found J.issued J.failures J.earlier J.moment result.moments.at console
         result.heard.doubt (D.facts result.disk))
         × TalksIf J.found J.issued result.console_left
         (dialogue_ends (I.remaining streams.input) (W.contents streams.out) (party [] heard_nothing))
@@ -252,7 +251,14 @@ fn run_board<
     };
     let Ok(parts) = whole.hand_out_all(alloc, on.harts.len(), &mut bus) else {
         drop((shape, tables, on));
-        return without_console(alloc, whole, Vec::new(alloc), Vec::new(alloc), side, boot);
+        return without_console(
+            alloc,
+            (whole, bus),
+            Vec::new(alloc),
+            Vec::new(alloc),
+            side,
+            boot,
+        );
     };
     let booted = BootedHarts {
         harts: on.harts,
@@ -268,7 +274,7 @@ fn run_board<
     );
     match driven {
         Ok((loops, talked)) => after_console(rt, alloc, (whole, bus), loops, talked, boot, room),
-        Err(back) => without_console(alloc, whole, back.loops, back.parts, back.side, boot),
+        Err(back) => without_console(alloc, (whole, bus), back.loops, back.parts, back.side, boot),
     }
 }
 
@@ -368,7 +374,7 @@ fn after_console<'c, R: Wait, D: Disk + Drop, J: Threaded, I: Read + Drop, W: Wr
     requires empty { vec_len room ≡ 0 }
     requires room { vec_len loops ≤ vec_capacity room }
     ensures none_out { IsIdle (D.facts result.disk) }
-    ensures life { (life : IsOfLife J.size J.found J.issued J.memory J.failures J.earlier J.moment result.moments.at
+    ensures life { (life : IsOfLife J.size J.found J.issued J.failures J.earlier J.moment result.moments.at
         talked.entry.side.part.told talked.entry.side.heard.doubt (D.facts result.disk))
         × AreByLast life.journal result.harts.items
         × HasHistory J.size J.machine J.turns J.found life.journal life.doubt talked.entry.side.heard.woken
@@ -401,24 +407,29 @@ fn after_console<'c, R: Wait, D: Disk + Drop, J: Threaded, I: Read + Drop, W: Wr
     }
 }
 
-/// What a session gives back whose console was not begun, once the loops that were begun have ended. It is refused `Memory`.
+/// What a session gives back whose console was not begun, once the loops that were begun have ended. It is refused `Memory`. The history
+/// of the bus ends with it.
 fn without_console<D: Disk + Drop, J: Threaded, I: Read + Drop, W: Write + Drop>(
     alloc: Global,
-    whole: Unshared<D, J>,
+    shared: (Unshared<D, J>, SharedBus<J>),
     loops: Vec<Rested<'_, J>>,
     parts: Vec<HartParts<J>>,
     side: ConsoleSide<J, I, W>,
     boot: BookPart<J, Entry>,
 ) -> SessionEnd<D, I, W>
-    requires back { AreBack (parts_with whole) }
+    requires back { AreBack (parts_with shared.0) }
     requires fresh { All (λ p. p.receipts.told ≡ []) parts.items }
-    requires harts { length (parts_with whole) + vec_len loops + vec_len parts ≡ J.size.harts }
+    requires harts { length (parts_with shared.0) + vec_len loops + vec_len parts ≡ J.size.harts }
     requires boot { boot.told ≡ boot_told J.issued }
     requires all { J.parts ≡ J.size.harts + 2 }
+    requires machine { J.machine.memory ≡ J.memory }
     requires unheard { side.heard ≡ heard_nothing }
     ensures none_out { IsIdle (D.facts result.disk) }
-    ensures life { IsOfLife J.size J.found J.issued J.memory J.failures J.earlier J.moment result.moments.at side.part.told None
-        (D.facts result.disk) }
+    ensures life { (life : IsOfLife J.size J.found J.issued J.failures J.earlier J.moment result.moments.at side.part.told
+        result.heard.doubt (D.facts result.disk))
+        × AreByLast life.journal result.harts.items
+        × HasHistory J.size J.machine J.turns J.found life.journal life.doubt result.heard.woken result.console_left
+        result.harts.items }
     ensures streams { result.streams ≡ side.streams }
     ensures heard { result.heard ≡ heard_nothing }
     ensures console_left { result.console_left ≡ None }
@@ -430,7 +441,9 @@ fn without_console<D: Disk + Drop, J: Threaded, I: Read + Drop, W: Write + Drop>
         part,
         heard,
     } = side;
-    let (disk, moments, _) = disk_of(whole, loops, parts, part, heard, boot);
+    let (whole, bus) = shared;
+    let (disk, moments, runs) = disk_of(whole, loops, parts, part, heard, boot);
+    end_history(bus, runs);
     unbegun(alloc, disk, moments, Refusal::Memory, streams)
 }
 
@@ -568,7 +581,7 @@ pub fn session<R: Threads + Wait + Sync, D: Disk + Drop + Send, I: Read + Drop, 
     // A refusal is the first of the format's, the open's and the boot's, before any line is read or answered; or
     // the board was on over the disk that was given, and the disk given back is that of its life, to which what
     // was read and answered belongs: each command of its journal was acknowledged to the boot, the console or a
-    // hart, and no other was; and its suspension carries what steps of harts made of the memory of the board that was on. A
+    // hart, and no other was; and the memory of its suspension was a moment of the one history of its bus. A
     // command is in doubt only where the disk failed, and it was asked for by the console, which was answered 6, or by a hart.
     // Each hart went from where the power-on left it by its own turns: it made all of them, or one of them ended the life
     // by the last command of its journal, or the console left so that they were halted. It is then refused by why the console

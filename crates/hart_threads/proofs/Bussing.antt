@@ -35,7 +35,7 @@ use Rattle.turns.specs.Own.{StepsIf, TurnAsOwn, TurnOwn}
 use Rattle.turns.specs.declared.readies.Ready.{Ready}
 use Rattle.turns.specs.declared.readies.Ready.TheVariants as readies
 use Rattle.hart_threads.specs.Bused.{AreSaved, CalledIf, IsCalled, LeftSo, Made, Makes, SavedBy, StepsBus, TurnsBus, WasTold, bus_turn}
-use Rattle.hart_threads.specs.Runs.{Carries, IsCarriedBy, StepsMake}
+use Rattle.hart_threads.specs.Carried.{Carries, IsCarriedBy}
 use Rattle.hart_threads.specs.declared.bus_turns.BusTurn.{BusTurn}
 use Rattle.hart_threads.proofs.Carrying.{asked_carried, held_keeps}
 
@@ -46,16 +46,16 @@ more count who x l ds v m n left made found is view =
     subst (λ (w : BookView BusTurn). Made w.log m left) (sym view) (∥∥₁_map made (λ (row : Makes l m n). (sym is, subst (λ k. Makes l m k) (sym found) row)))
 
 -- ---- a turn of a hart, with the bus for its step or without it
-turned_by : (size : Size) (r : Ready) (s t : ArchState) (m n begun : List ℕ) (k k' : Known) (word : Turned) (d d' : PartView BusTurn) (Same : Type 0) → TurnAsOwn size r s m t n k k' word
-    → StepsIf r (StepsMake begun m × StepsMake begun n × StepsBus d d' m n) (StepsMake begun m × Same) → (Same → d' ≡ d) → TurnsBus r d d' m n × StepsMake begun m × StepsMake begun n
-turned_by size readies.Idle s t m n begun k k' word d d' Same turned took same = (same took.1, took.0, subst (StepsMake begun) (sym turned.1) took.0)
-turned_by size readies.Woke s t m n begun k k' word d d' Same turned took same = (same took.1, took.0, subst (StepsMake begun) (sym turned.1) took.0)
-turned_by size (readies.Enters a o) s t m n begun k k' word d d' Same turned took same = (same took.1, took.0, subst (StepsMake begun) (sym turned.1) took.0)
-turned_by size (readies.Steps pending) s t m n begun k k' word d d' Same turned took same = (took.2, took.0, took.1)
+turned_by : (size : Size) (r : Ready) (s t : ArchState) (m n : List ℕ) (k k' : Known) (word : Turned) (d d' : PartView BusTurn) (Any Same : Type 0) → TurnAsOwn size r s m t n k k' word → StepsIf r (StepsBus d d' m n) (Any × Same) → (Same → d' ≡ d)
+    → TurnsBus r d d' m n
+turned_by size readies.Idle s t m n k k' word d d' Any Same turned took same = same took.1
+turned_by size readies.Woke s t m n k k' word d d' Any Same turned took same = same took.1
+turned_by size (readies.Enters a o) s t m n k k' word d d' Any Same turned took same = same took.1
+turned_by size (readies.Steps pending) s t m n k k' word d d' Any Same turned took same = took
 
-pub turned_bus : (size : Size) (s t : ArchState) (m n begun : List ℕ) (k k' : Known) (word : Turned) (d d' : PartView BusTurn) (Same : Type 0) (own : TurnOwn size s m t n k k' word)
-    → StepsIf own.0 (StepsMake begun m × StepsMake begun n × StepsBus d d' m n) (StepsMake begun m × Same) → (Same → d' ≡ d) → TurnsBus own.0 d d' m n × StepsMake begun m × StepsMake begun n
-turned_bus size s t m n begun k k' word d d' Same own took same = turned_by size own.0 s t m n begun own.1 k' word d d' Same own.3 took same
+pub turned_bus : (size : Size) (s t : ArchState) (m n : List ℕ) (k k' : Known) (word : Turned) (d d' : PartView BusTurn) (Any Same : Type 0) (own : TurnOwn size s m t n k k' word) → StepsIf own.0 (StepsBus d d' m n) (Any × Same) → (Same → d' ≡ d)
+    → TurnsBus own.0 d d' m n
+turned_bus size s t m n k k' word d d' Any Same own took same = turned_by size own.0 s t m n own.1 k' word d d' Any Same own.3 took same
 
 -- ---- a durable call
 stays_if : (dozes : Bool) (bus bus' : Bus) → bus' ≡ bus → CalledIf dozes bus bus'

@@ -1,5 +1,5 @@
 -- What holds of the memory that suspensions of a life carry: a command keeps that.
-use Rattle.std.proofs.Common.{◌≡◌, ⊎_elim, ℕ, zero, suc, Bool, List, [], ◌∷◌, ◌++◌, Option, Some, None, Result, Ok, Err, refl, sym, ap, subst, inl, inr}
+use Rattle.std.proofs.Common.{◌≡◌, ⊎_elim, ℕ, zero, suc, List, [], ◌∷◌, ◌++◌, Option, Some, None, Result, Ok, Err, refl, sym, ap, subst, inl, inr}
 use Rattle.board_model.specs.Durable.{DurableState, Change, Reset, Suspend}
 use Rattle.board_model.specs.Views.{change_of}
 use Rattle.board_model.specs.declared.durable.Command.{Command}
@@ -8,9 +8,7 @@ use Rattle.board_model.specs.declared.durable.Reason.{Reason}
 use Rattle.board_model.specs.declared.refusal.Refusal.{Refusal}
 use Rattle.disk.specs.declared.device.Disk.{Ghosts}
 use Rattle.disk.specs.declared.device.Lane.{Ghosts as Lanes}
-use Rattle.hart.specs.Means.{Steps}
 use Rattle.hart.specs.State.{ArchState}
-use Rattle.hart.specs.declared.Outcome.{Outcome}
 use Rattle.hsm.specs.Words.{HartView}
 use Rattle.store.specs.Asked.{Asked}
 use Rattle.store.specs.Follows.{FitsBoard}
@@ -29,17 +27,7 @@ use Rattle.sbi.specs.declared.words.Word.{Word}
 use Rattle.sbi.specs.declared.resets.ResetType.{ResetType}
 use Rattle.sbi.specs.Resets.{reset_of}
 use Rattle.sbi.specs.Helds.{MakesReset, MakesHeld}
-use Rattle.std.proofs.Math.Logic.{∥∥₁_map}
-use Rattle.hart_threads.specs.Runs.{IsStep, StepsInRow, StepsMake, Carries, AllCarry, IsCarriedBy}
-
--- ---- steps
-pub none_yet : (m n : List ℕ) → n ≡ m → StepsMake m n
-none_yet m n same = ∣ (zero, same) ∣₁
-
-pub state_determines_step : (begun m n : List ℕ) (pending : Bool) (s t : ArchState) (outcome : Outcome) → StepsMake begun m → Steps pending s m t n outcome → StepsMake begun n
-state_determines_step begun m n pending s t outcome made steps =
-    let last : IsStep m n = (pending, s, t, outcome, steps) in
-    ∥∥₁_map made (λ (row : (k : ℕ) × StepsInRow k begun m). let longer : (k : ℕ) × StepsInRow k begun n = (suc row.0, (m, row.1, last)) in longer)
+use Rattle.hart_threads.specs.Carried.{Carries, AllCarry, IsCarriedBy}
 
 -- ---- commands
 command_carries : (P : List ℕ → Type 0) (command : Command) → Carries P (change_of command)
@@ -163,3 +151,10 @@ module _ (P : List ℕ → Type 0) where
     held_keeps harts (calls.SystemSuspend kind address opaque) s t k k' bus bus' old new word is made p =
         slept_keeps harts s.id p.1.asked opaque k.harts k'.harts bus bus' p.0 old new is made p.1.slept
     held_keeps harts call s t k k' bus bus' old new word is made p = kept_both bus bus' old new is p.1 p.3
+
+-- such a call leaves the memory of the bus
+any_carries : (life : Life) → IsCarriedBy (λ memory. Unit {0}) life
+any_carries life = record { journal = λ k c e h a o m is. tt; doubt = λ c e h a o m is. tt }
+
+pub held_stays : {D L : Type 0} {g : Ghosts D L} {l : Lanes L} (harts : ℕ) (call : Call) (s t : ArchState) (k k' : Known) (bus bus' : Bus) (old new : Store D L g l) (word : Word) → MakesHeld harts call s t k k' bus bus' old new word → bus'.ram ≡ bus.ram
+held_stays {D} {L} {g} {l} harts call s t k k' bus bus' old new word made = (held_keeps (λ memory. Unit {0}) harts call s t k k' bus bus' old new word (any_carries (life_of old)) tt made).memory

@@ -84,13 +84,13 @@ as_both_were {L} {W} {l} {l'} {w} {w'} e f P p = subst (λ (x : L). P x w') (sym
 pub seated_as : {L : Type 0} {l l' : L} {s s' : ArchState} → s' ≡ s → l' ≡ l → (view : ArchState → L → Seated) → view s' l' ≡ view s l
 seated_as {L} {l} {l'} {s} {s'} e f view = ap (λ (x : ArchState). view x l') e ∙ ap (λ (y : L). view s y) f
 
-pub said_so : (size : Size) (begun : List ℕ) (answers : ℕ → Bool → Type 0) (hears : ℕ → Type 0) (turns made made' : ℕ) (a b b' : Seated) (why why' : Why) (told told' : Option (ℕ × Entry)) → b' ≡ b → made' ≡ made → why' ≡ why → told' ≡ told
-    → LoopOnce size begun answers hears turns made a b why told → LoopOnce size begun answers hears turns made' a b' why' told'
-said_so size begun answers hears turns made made' a b b' why why' told told' at many as_why as_told once =
-    subst (λ (o : Option (ℕ × Entry)). LoopOnce size begun answers hears turns made' a b' why' o) (sym as_told)
-    (subst (λ (y : Why). LoopOnce size begun answers hears turns made' a b' y told) (sym as_why)
-    (subst (λ (n : ℕ). LoopOnce size begun answers hears turns n a b' why told) (sym many)
-    (subst (λ (x : Seated). LoopOnce size begun answers hears turns made a x why told) (sym at) once)))
+pub said_so : (size : Size) (answers : ℕ → Bool → Type 0) (hears : ℕ → Type 0) (turns made made' : ℕ) (a b b' : Seated) (why why' : Why) (told told' : Option (ℕ × Entry)) → b' ≡ b → made' ≡ made → why' ≡ why → told' ≡ told
+    → LoopOnce size answers hears turns made a b why told → LoopOnce size answers hears turns made' a b' why' told'
+said_so size answers hears turns made made' a b b' why why' told told' at many as_why as_told once =
+    subst (λ (o : Option (ℕ × Entry)). LoopOnce size answers hears turns made' a b' why' o) (sym as_told)
+    (subst (λ (y : Why). LoopOnce size answers hears turns made' a b' y told) (sym as_why)
+    (subst (λ (n : ℕ). LoopOnce size answers hears turns n a b' why told) (sym many)
+    (subst (λ (x : Seated). LoopOnce size answers hears turns made a x why told) (sym at) once)))
 
 -- ---- the turn that ended the life told a receipt, of a command that ends one
 asks_end : (size : Size) (call : Call) (by : ℕ) (end : LifeEnd) (entry : Entry) → AsksFor size call by end entry → is_end entry ≡ true
@@ -116,12 +116,12 @@ look_goes : (woken : Bool) (d : Doze) (a b : Seated) (word : Word) → DozeOnce 
 look_goes false d a b word p = ap life_goes_on p.1
 look_goes true d a b word p = ap life_goes_on p.3
 
-told_by : (doze : Option Doze) (size : Size) (begun : List ℕ) (a b : Seated) (word : Word) (told : Option (ℕ × Entry)) → TurnOnceBy doze size begun a b word told → life_goes_on word ≡ false → HasEnd told
-told_by None size begun a b word told p off = comes_told size p.2 p.3 b word told p.5 off
-told_by (Some d) size begun a b word told p off = goes_not word (look_goes (is_woken a.hart.id p.0.0.doze) d a b word p.0.4) off
+told_by : (doze : Option Doze) (size : Size) (a b : Seated) (word : Word) (told : Option (ℕ × Entry)) → TurnOnceBy doze size a b word told → life_goes_on word ≡ false → HasEnd told
+told_by None size a b word told p off = comes_told size p.2 p.3 b word told p.5 off
+told_by (Some d) size a b word told p off = goes_not word (look_goes (is_woken a.hart.id p.0.0.doze) d a b word p.0.4) off
 
-pub turn_told : (size : Size) (begun : List ℕ) (a b : Seated) (word : Word) (told : Option (ℕ × Entry)) → TurnOnce size begun a b word told → life_goes_on word ≡ false → HasEnd told
-turn_told size begun a b word told p off = told_by a.doze size begun a b word told p off
+pub turn_told : (size : Size) (a b : Seated) (word : Word) (told : Option (ℕ × Entry)) → TurnOnce size a b word told → life_goes_on word ≡ false → HasEnd told
+turn_told size a b word told p off = told_by a.doze size a b word told p off
 
 -- what a part was told that was told nothing before
 pub none_noted : (first now : PartView Entry) → now ≡ first → first.told ≡ [] → now.told ≡ []

@@ -10,7 +10,6 @@ use Rattle.sbi_calls.specs.declared.words.Did.TheVariants.{Idle, Resumed}
 use Rattle.sbi.specs.declared.words.Word.TheVariants.{Goes}
 use Rattle.hart_threads.specs.Bused.{TakesBus}
 use Rattle.hart_threads.specs.Dozes.{is_woken, doze_left}
-use Rattle.hart_threads.specs.Refusals.{RefusedCalls}
 use Rattle.hart_threads.specs.Threads.{seated, DozeOnce, LookOnce}
 use Rattle.hart_threads.specs.declared.bus_turns.BusTurn.{BusTurn}
 
@@ -21,25 +20,25 @@ left_so by h found left w e is ram doze =
     λ i. record { ram = ram i; doze = dozes i }
 
 -- it was not woken
-pub idle_once : (by : ℕ) (found left : Bus) (w : Bool) (d : Doze) (s : ArchState) (k : Known) (p p' : PartView BusTurn) (r : RefusedCalls) → by ≡ s.id → w ≡ is_woken by found.doze → w ≡ false → left.ram ≡ found.ram → left.doze ≡ doze_left w found.doze → TakesBus found left p p'
-    → LookOnce d (seated s k (Some d) p r) (seated s k (Some d) p' r) (Goes Idle)
-idle_once by found left w d s k p p' r e is asleep ram doze takes =
+pub idle_once : (by : ℕ) (found left : Bus) (w : Bool) (d : Doze) (s : ArchState) (k : Known) (p p' : PartView BusTurn) → by ≡ s.id → w ≡ is_woken by found.doze → w ≡ false → left.ram ≡ found.ram → left.doze ≡ doze_left w found.doze → TakesBus found left p p'
+    → LookOnce d (seated s k (Some d) p) (seated s k (Some d) p') (Goes Idle)
+idle_once by found left w d s k p p' e is asleep ram doze takes =
     let so : false ≡ is_woken s.id found.doze = sym asleep ∙ is ∙ ap (λ (h : ℕ). is_woken h found.doze) e in (
       found,
       left,
       takes,
       left_so by s.id found left w e is ram doze,
-      subst (λ (x : Bool). DozeOnce x d (seated s k (Some d) p r) (seated s k (Some d) p' r) (Goes Idle)) so (refl, refl),
+      subst (λ (x : Bool). DozeOnce x d (seated s k (Some d) p) (seated s k (Some d) p') (Goes Idle)) so (refl, refl),
     )
 
 -- it was
-pub woken_once : (by : ℕ) (found left : Bus) (w : Bool) (d : Doze) (s t : ArchState) (k k' : Known) (p p' : PartView BusTurn) (r : RefusedCalls) → by ≡ s.id → w ≡ is_woken by found.doze → w ≡ true → left.ram ≡ found.ram → left.doze ≡ doze_left w found.doze → TakesBus found left p p'
-    → t ≡ fresh s.id d.at.address d.at.opaque → ResumesOwn s.id k k' → LookOnce d (seated s k (Some d) p r) (seated t k' None p' r) (Goes Resumed)
-woken_once by found left w d s t k k' p p' r e is called ram doze takes begins own =
+pub woken_once : (by : ℕ) (found left : Bus) (w : Bool) (d : Doze) (s t : ArchState) (k k' : Known) (p p' : PartView BusTurn) → by ≡ s.id → w ≡ is_woken by found.doze → w ≡ true → left.ram ≡ found.ram → left.doze ≡ doze_left w found.doze → TakesBus found left p p'
+    → t ≡ fresh s.id d.at.address d.at.opaque → ResumesOwn s.id k k' → LookOnce d (seated s k (Some d) p) (seated t k' None p') (Goes Resumed)
+woken_once by found left w d s t k k' p p' e is called ram doze takes begins own =
     let so : true ≡ is_woken s.id found.doze = sym called ∙ is ∙ ap (λ (h : ℕ). is_woken h found.doze) e in (
       found,
       left,
       takes,
       left_so by s.id found left w e is ram doze,
-      subst (λ (x : Bool). DozeOnce x d (seated s k (Some d) p r) (seated t k' None p' r) (Goes Resumed)) so (begins, own, refl, refl, refl),
+      subst (λ (x : Bool). DozeOnce x d (seated s k (Some d) p) (seated t k' None p') (Goes Resumed)) so (begins, own, refl, refl),
     )

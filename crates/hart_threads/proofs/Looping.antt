@@ -1,5 +1,5 @@
 -- Turns one after another.
-use Rattle.std.proofs.Common.{◌≡◌, ◌+◌, ℕ, zero, suc, Bool, List, Option, Some, None, ap, true, false, arith, refl, sym, ◌∙◌, subst, inl, inr}
+use Rattle.std.proofs.Common.{◌≡◌, ◌+◌, ℕ, zero, suc, Bool, Option, Some, None, ap, true, false, arith, refl, sym, ◌∙◌, subst, inl, inr}
 use Rattle.board_model.specs.Shapes.{Size}
 use Rattle.board_model.specs.declared.durable.Entry.{Entry}
 use Rattle.sbi_abi.specs.declared.call.Call.{Call}
@@ -30,9 +30,8 @@ use Rattle.hart_threads.specs.Begun.{BeginsAs}
 use Rattle.hart_threads.specs.Ends.{AnyAnswer, AnyWord, HasGone}
 use Rattle.hart_threads.specs.Bused.{CallsBus}
 use Rattle.hart_threads.specs.declared.bus_turns.BusTurn.{BusTurn}
-use Rattle.hart_threads.specs.Refusals.{RefusedCalls}
 use Rattle.hart_threads.specs.Seated.{StandsAfterTurn, StandsAfter}
-use Rattle.hart_threads.specs.Threads.{Seated, seated, HeldOnce, IsDozeBy, RefusedOnce, ComesOnce, OwnOnce, LookOnce, TurnOnceBy, TurnOnce, TurnsOn, LoopOnce}
+use Rattle.hart_threads.specs.Threads.{Seated, seated, HeldOnce, IsDozeBy, ComesOnce, OwnOnce, LookOnce, TurnOnceBy, TurnOnce, TurnsOn, LoopOnce}
 use Rattle.hart_threads.specs.declared.loops.Why.{Why}
 use Rattle.hart_threads.specs.declared.loops.Why.TheVariants as whys
 
@@ -100,12 +99,12 @@ between_after by s whys.Turns doze a = rests_between by s doze a
 
 -- ---- one turn
 -- of a hart that does not doze
-pub undozed : (size : Size) (begun : List ℕ) (s : ArchState) (k : Known) (doze : Option Doze) (took : PartView BusTurn) (r : RefusedCalls) (b : Seated) (word : Word) (told : Option (ℕ × Entry)) → doze ≡ None → OwnOnce size begun (seated s k None took r) b word told → TurnOnce size begun (seated s k doze took r) b word told
-undozed size begun s k doze took r b word told none own = subst (λ (o : Option Doze). TurnOnce size begun (seated s k o took r) b word told) (sym none) own
+pub undozed : (size : Size) (s : ArchState) (k : Known) (doze : Option Doze) (took : PartView BusTurn) (b : Seated) (word : Word) (told : Option (ℕ × Entry)) → doze ≡ None → OwnOnce size (seated s k None took) b word told → TurnOnce size (seated s k doze took) b word told
+undozed size s k doze took b word told none own = subst (λ (o : Option Doze). TurnOnce size (seated s k o took) b word told) (sym none) own
 
 -- of one that dozes
-pub dozed : (size : Size) (begun : List ℕ) (s : ArchState) (k : Known) (doze : Option Doze) (d : Doze) (took : PartView BusTurn) (r : RefusedCalls) (b : Seated) (word : Word) (told : Option (ℕ × Entry)) → doze ≡ Some d → LookOnce d (seated s k (Some d) took r) b word → told ≡ None → TurnOnce size begun (seated s k doze took r) b word told
-dozed size begun s k doze d took r b word told is once none = subst (λ (o : Option Doze). TurnOnce size begun (seated s k o took r) b word told) (sym is) (once, none)
+pub dozed : (size : Size) (s : ArchState) (k : Known) (doze : Option Doze) (d : Doze) (took : PartView BusTurn) (b : Seated) (word : Word) (told : Option (ℕ × Entry)) → doze ≡ Some d → LookOnce d (seated s k (Some d) took) b word → told ≡ None → TurnOnce size (seated s k doze took) b word told
+dozed size s k doze d took b word told is once none = subst (λ (o : Option Doze). TurnOnce size (seated s k o took) b word told) (sym is) (once, none)
 
 -- ---- what comes of what a hart did
 -- that asked for no durable call
@@ -113,10 +112,10 @@ pub made_comes : (size : Size) (a : Seated) (turned : Turned) (did : Did) → tu
 made_comes size a turned did is = subst (λ (w : Turned). ComesOnce size w a a (Goes did) None) (sym is) (refl, refl, refl)
 
 -- that asked for one
-pub held_comes : (size : Size) (s t : ArchState) (k k' : Known) (doze after : Option Doze) (took took' : PartView BusTurn) (r r' : RefusedCalls) (turned : Turned) (word : Word) (told : Option (ℕ × Entry)) → turned ≡ Durable
-    → HeldOnce size (call_of s) s t k k' word → IsToldBy size (call_of s) s.id word told → IsDozeBy size (call_of s) s.id word after → CallsBus word after took took' → RefusedOnce (call_of s) word t r r' → ComesOnce size turned (seated s k doze took r) (seated t k' after took' r') word told
-held_comes size s t k k' doze after took took' r r' turned word told is once has dozes called refused =
-    subst (λ (w : Turned). ComesOnce size w (seated s k doze took r) (seated t k' after took' r') word told) (sym is) (once, has, dozes, called, refused)
+pub held_comes : (size : Size) (s t : ArchState) (k k' : Known) (doze after : Option Doze) (took took' : PartView BusTurn) (turned : Turned) (word : Word) (told : Option (ℕ × Entry)) → turned ≡ Durable
+    → HeldOnce size (call_of s) s t k k' word → IsToldBy size (call_of s) s.id word told → IsDozeBy size (call_of s) s.id word after → CallsBus word after took took' → ComesOnce size turned (seated s k doze took) (seated t k' after took') word told
+held_comes size s t k k' doze after took took' turned word told is once has dozes called =
+    subst (λ (w : Turned). ComesOnce size w (seated s k doze took) (seated t k' after took') word told) (sym is) (once, has, dozes, called)
 
 -- the receipt that a turn has, by whether the life goes on
 held_none : (size : Size) (call : Call) (by : ℕ) (word : Word) (told : Option (ℕ × Entry)) → IsToldBy size call by word told → life_goes_on word ≡ true → told ≡ None
@@ -127,51 +126,49 @@ comes_none : (size : Size) (turned : Turned) (a b : Seated) (word : Word) (told 
 comes_none size (Made did) a b word told p on = p.2
 comes_none size Durable a b word told p on = held_none size (call_of a.hart) a.hart.id word told p.1 on
 
-none_by : (doze : Option Doze) (size : Size) (begun : List ℕ) (a b : Seated) (word : Word) (told : Option (ℕ × Entry)) → TurnOnceBy doze size begun a b word told → life_goes_on word ≡ true → told ≡ None
-none_by None size begun a b word told p on = comes_none size p.2 p.3 b word told p.5 on
-none_by (Some d) size begun a b word told p on = p.1
+none_by : (doze : Option Doze) (size : Size) (a b : Seated) (word : Word) (told : Option (ℕ × Entry)) → TurnOnceBy doze size a b word told → life_goes_on word ≡ true → told ≡ None
+none_by None size a b word told p on = comes_none size p.2 p.3 b word told p.5 on
+none_by (Some d) size a b word told p on = p.1
 
-turn_none : (size : Size) (begun : List ℕ) (a b : Seated) (word : Word) (told : Option (ℕ × Entry)) → TurnOnce size begun a b word told → life_goes_on word ≡ true → told ≡ None
-turn_none size begun a b word told p on = none_by a.doze size begun a b word told p on
+turn_none : (size : Size) (a b : Seated) (word : Word) (told : Option (ℕ × Entry)) → TurnOnce size a b word told → life_goes_on word ≡ true → told ≡ None
+turn_none size a b word told p on = none_by a.doze size a b word told p on
 
 -- ---- one turn more
-pub one_more : (size : Size) (begun : List ℕ) (answers : ℕ → Bool → Type 0) (hears : ℕ → Type 0) (n : ℕ) (a mid b : Seated) (word : Word) (told : Option (ℕ × Entry)) → TurnsOn size begun answers hears n a mid → TurnOnce size begun mid b word told → life_goes_on word ≡ true
-    → answers n true → hears n → TurnsOn size begun answers hears (n + 1) a b
-one_more size begun answers hears n a mid b word told many once on said heard =
+pub one_more : (size : Size) (answers : ℕ → Bool → Type 0) (hears : ℕ → Type 0) (n : ℕ) (a mid b : Seated) (word : Word) (told : Option (ℕ × Entry)) → TurnsOn size answers hears n a mid → TurnOnce size mid b word told → life_goes_on word ≡ true
+    → answers n true → hears n → TurnsOn size answers hears (n + 1) a b
+one_more size answers hears n a mid b word told many once on said heard =
     let e : suc n ≡ n + 1 = omega arith in
-    let none = turn_none size begun mid b word told once on in
-    subst (λ (k : ℕ). TurnsOn size begun answers hears k a b) e (mid, word, many, subst (λ (o : Option (ℕ × Entry)). TurnOnce size begun mid b word o) none once, on, said, heard)
+    let none = turn_none size mid b word told once on in
+    subst (λ (k : ℕ). TurnsOn size answers hears k a b) e (mid, word, many, subst (λ (o : Option (ℕ × Entry)). TurnOnce size mid b word o) none once, on, said, heard)
 
 -- that ended the life
-pub ended_life : (size : Size) (begun : List ℕ) (answers : ℕ → Bool → Type 0) (hears : ℕ → Type 0) (turns n : ℕ) (a mid b : Seated) (word : Word) (told : Option (ℕ × Entry)) → TurnsOn size begun answers hears n a mid → TurnOnce size begun mid b word told → life_goes_on word ≡ false
-    → answers n true → hears n → LoopOnce size begun answers hears turns (n + 1) a b whys.Life told
-ended_life size begun answers hears turns n a mid b word told many once off said heard = let e : n + 1 ≡ suc n = omega arith in (n, mid, word, e, many, once, off, said, heard)
+pub ended_life : (size : Size) (answers : ℕ → Bool → Type 0) (hears : ℕ → Type 0) (turns n : ℕ) (a mid b : Seated) (word : Word) (told : Option (ℕ × Entry)) → TurnsOn size answers hears n a mid → TurnOnce size mid b word told → life_goes_on word ≡ false
+    → answers n true → hears n → LoopOnce size answers hears turns (n + 1) a b whys.Life told
+ended_life size answers hears turns n a mid b word told many once off said heard = let e : n + 1 ≡ suc n = omega arith in (n, mid, word, e, many, once, off, said, heard)
 
 -- ---- a part that a turn was told nothing for
-pub kept_part : (size : Size) (begun : List ℕ) (a b : Seated) (word : Word) (told : Option (ℕ × Entry)) (first now next : PartView Entry) → TurnOnce size begun a b word told → life_goes_on word ≡ true → now ≡ first → next ≡ part_after told now → next ≡ first
-kept_part size begun a b word told first now next once on same is =
-    let none = turn_none size begun a b word told once on in
+pub kept_part : (size : Size) (a b : Seated) (word : Word) (told : Option (ℕ × Entry)) (first now next : PartView Entry) → TurnOnce size a b word told → life_goes_on word ≡ true → now ≡ first → next ≡ part_after told now → next ≡ first
+kept_part size a b word told first now next once on same is =
+    let none = turn_none size a b word told once on in
     is ∙ (ap (λ (o : Option (ℕ × Entry)). part_after o now) none ∙ same)
 
 -- ---- what is left where nothing is said of the gate
-turns_alone : (size : Size) (begun : List ℕ) (answers : ℕ → Bool → Type 0) (hears : ℕ → Type 0) (n : ℕ) (a b : Seated) → TurnsOn size begun answers hears n a b → TurnsOn size begun AnyAnswer AnyWord n a b
-turns_alone size begun answers hears zero a b none = none
-turns_alone size begun answers hears (suc n) a b (mid, word, many, once, on, said, heard) = (mid, word, turns_alone size begun answers hears n a mid many, once, on, tt, tt)
+turns_alone : (size : Size) (answers : ℕ → Bool → Type 0) (hears : ℕ → Type 0) (n : ℕ) (a b : Seated) → TurnsOn size answers hears n a b → TurnsOn size AnyAnswer AnyWord n a b
+turns_alone size answers hears zero a b none = none
+turns_alone size answers hears (suc n) a b (mid, word, many, once, on, said, heard) = (mid, word, turns_alone size answers hears n a mid many, once, on, tt, tt)
 
-loop_alone : (size : Size) (begun : List ℕ) (answers : ℕ → Bool → Type 0) (hears : ℕ → Type 0) (turns made : ℕ) (a b : Seated) (why : Why) (told : Option (ℕ × Entry)) → LoopOnce size begun answers hears turns made a b why told → LoopOnce size begun AnyAnswer AnyWord turns made a b why told
-loop_alone size begun answers hears turns made a b whys.Life told (n, mid, word, is, many, once, off, said, heard) = (n, mid, word, is, turns_alone size begun answers hears n a mid many, once, off, tt, tt)
-loop_alone size begun answers hears turns made a b whys.Closed told (many, few, none) = (turns_alone size begun answers hears made a b many, few, none)
-loop_alone size begun answers hears turns made a b whys.Gate told (many, few, none, said) = (turns_alone size begun answers hears made a b many, few, none, tt)
-loop_alone size begun answers hears turns made a b whys.Turns told (many, all, none) = (turns_alone size begun answers hears made a b many, all, none)
+loop_alone : (size : Size) (answers : ℕ → Bool → Type 0) (hears : ℕ → Type 0) (turns made : ℕ) (a b : Seated) (why : Why) (told : Option (ℕ × Entry)) → LoopOnce size answers hears turns made a b why told → LoopOnce size AnyAnswer AnyWord turns made a b why told
+loop_alone size answers hears turns made a b whys.Life told (n, mid, word, is, many, once, off, said, heard) = (n, mid, word, is, turns_alone size answers hears n a mid many, once, off, tt, tt)
+loop_alone size answers hears turns made a b whys.Closed told (many, few, none) = (turns_alone size answers hears made a b many, few, none)
+loop_alone size answers hears turns made a b whys.Gate told (many, few, none, said) = (turns_alone size answers hears made a b many, few, none, tt)
+loop_alone size answers hears turns made a b whys.Turns told (many, all, none) = (turns_alone size answers hears made a b many, all, none)
 
 -- a loop whose hart is as the boot left it
-pub has_gone : (m : Machine) (size : Size) (begun : List ℕ) (answers : ℕ → Bool → Type 0) (hears : ℕ → Type 0) (turns given made h : ℕ) (a b : Seated) (why : Why) (told : Option (ℕ × Entry)) → m.size ≡ size → m.memory ≡ begun → given ≡ turns → b.hart.id ≡ h → BeginsAs m h a
-    → LoopOnce size begun answers hears given made a b why told → HasGone m turns made b why told
-has_gone m size begun answers hears turns given made h a b why told sized remembered is same begins once =
-    let all = loop_alone size begun answers hears given made a b why told once in (
+pub has_gone : (m : Machine) (size : Size) (answers : ℕ → Bool → Type 0) (hears : ℕ → Type 0) (turns given made h : ℕ) (a b : Seated) (why : Why) (told : Option (ℕ × Entry)) → m.size ≡ size → given ≡ turns → b.hart.id ≡ h → BeginsAs m h a
+    → LoopOnce size answers hears given made a b why told → HasGone m turns made b why told
+has_gone m size answers hears turns given made h a b why told sized is same begins once =
+    let all = loop_alone size answers hears given made a b why told once in (
       a,
       subst (λ (k : ℕ). BeginsAs m k a) (sym same) begins,
-      subst (λ (n : ℕ). LoopOnce m.size m.memory AnyAnswer AnyWord n made a b why told) is
-          (subst (λ (z : Size). LoopOnce z m.memory AnyAnswer AnyWord given made a b why told) (sym sized)
-          (subst (λ (l : List ℕ). LoopOnce size l AnyAnswer AnyWord given made a b why told) (sym remembered) all)),
+      subst (λ (n : ℕ). LoopOnce m.size AnyAnswer AnyWord n made a b why told) is (subst (λ (z : Size). LoopOnce z AnyAnswer AnyWord given made a b why told) (sym sized) all),
     )

@@ -2,6 +2,7 @@
 use Rattle.std.proofs.Common.{◌≡◌, ◌∙◌, ℕ, zero, suc, Bool, List, Option, Some, None, sym, ap}
 use Rattle.board_model.specs.Shapes.{Size}
 use Rattle.board_model.specs.declared.durable.Entry.{Entry}
+use Rattle.hart.specs.State.{ArchState}
 use Rattle.machine.specs.Machine.{Machine}
 use Rattle.sbi.specs.declared.words.Word.{Word}
 use Rattle.sbi_calls.specs.declared.words.Turned.{Turned}
@@ -12,9 +13,10 @@ use Rattle.tallies.specs.declared.book_views.PartView.{PartView}
 use Rattle.turns.specs.declared.readies.Ready.{Ready}
 use Rattle.turns.specs.declared.readies.Ready.TheVariants as readies
 use Rattle.hart_threads.specs.Bused.{TakesBus, TurnsBus, part_of_hart}
-use Rattle.hart_threads.specs.Ends.{Ending, IsOfHart, AnyAnswer, AnyWord}
+use Rattle.hart_threads.specs.Ends.{IsOfHart, AnyAnswer, AnyWord}
 use Rattle.hart_threads.specs.Threads.{Seated, ComesOnce, LoopOnce, OwnOnce, TurnOnce, TurnOnceBy, TurnsOn}
 use Rattle.hart_threads.specs.declared.bus_turns.BusTurn.{BusTurn}
+use Rattle.hart_threads.specs.declared.ends.HartEnd.{HartEnd}
 use Rattle.hart_threads.specs.declared.loops.Why.{Why}
 use Rattle.hart_threads.specs.declared.loops.Why.TheVariants as whys
 
@@ -35,33 +37,33 @@ comes_whose : (size : Size) (did : Turned) (a b : Seated) (word : Word) (told : 
 comes_whose size (Made did) a b word told p = ap (λ (x : Seated). x.took.who) p.0
 comes_whose size Durable a b word told p = takes_whose p.3.0 p.3.1 a.took b.took p.3.2
 
-own_whose : (size : Size) (begun : List ℕ) (a b : Seated) (word : Word) (told : Option (ℕ × Entry)) → OwnOnce size begun a b word told → b.took.who ≡ a.took.who
-own_whose size begun a b word told p = comes_whose size p.2 p.3 b word told p.5 ∙ steps_whose p.4.0 a.took p.3.took p.0 p.1 p.7
+own_whose : (size : Size) (a b : Seated) (word : Word) (told : Option (ℕ × Entry)) → OwnOnce size a b word told → b.took.who ≡ a.took.who
+own_whose size a b word told p = comes_whose size p.2 p.3 b word told p.5 ∙ steps_whose p.4.0 a.took p.3.took p.0 p.1 p.7
 
-turned_whose : (doze : Option Doze) (size : Size) (begun : List ℕ) (a b : Seated) (word : Word) (told : Option (ℕ × Entry)) → TurnOnceBy doze size begun a b word told → b.took.who ≡ a.took.who
-turned_whose None size begun a b word told p = own_whose size begun a b word told p
-turned_whose (Some d) size begun a b word told p = takes_whose p.0.0 p.0.1 a.took b.took p.0.2
+turned_whose : (doze : Option Doze) (size : Size) (a b : Seated) (word : Word) (told : Option (ℕ × Entry)) → TurnOnceBy doze size a b word told → b.took.who ≡ a.took.who
+turned_whose None size a b word told p = own_whose size a b word told p
+turned_whose (Some d) size a b word told p = takes_whose p.0.0 p.0.1 a.took b.took p.0.2
 
-turn_whose : (size : Size) (begun : List ℕ) (a b : Seated) (word : Word) (told : Option (ℕ × Entry)) → TurnOnce size begun a b word told → b.took.who ≡ a.took.who
-turn_whose size begun a b word told p = turned_whose a.doze size begun a b word told p
+turn_whose : (size : Size) (a b : Seated) (word : Word) (told : Option (ℕ × Entry)) → TurnOnce size a b word told → b.took.who ≡ a.took.who
+turn_whose size a b word told p = turned_whose a.doze size a b word told p
 
 -- ---- a loop
-module _ (size : Size) (begun : List ℕ) (answers : ℕ → Bool → Type 0) (hears : ℕ → Type 0) where
-  turns_whose : (n : ℕ) (a b : Seated) → TurnsOn size begun answers hears n a b → b.took.who ≡ a.took.who
+module _ (size : Size) (answers : ℕ → Bool → Type 0) (hears : ℕ → Type 0) where
+  turns_whose : (n : ℕ) (a b : Seated) → TurnsOn size answers hears n a b → b.took.who ≡ a.took.who
   turns_whose zero a b p = ap (λ (x : Seated). x.took.who) p
-  turns_whose (suc n) a b p = turn_whose size begun p.0 b p.1 None p.3 ∙ turns_whose n a p.0 p.2
+  turns_whose (suc n) a b p = turn_whose size p.0 b p.1 None p.3 ∙ turns_whose n a p.0 p.2
 
-  loop_whose : (turns made : ℕ) (a b : Seated) (why : Why) (told : Option (ℕ × Entry)) → LoopOnce size begun answers hears turns made a b why told → b.took.who ≡ a.took.who
-  loop_whose turns made a b whys.Life told p = turn_whose size begun p.1 b p.2 told p.5 ∙ turns_whose p.0 a p.1 p.4
+  loop_whose : (turns made : ℕ) (a b : Seated) (why : Why) (told : Option (ℕ × Entry)) → LoopOnce size answers hears turns made a b why told → b.took.who ≡ a.took.who
+  loop_whose turns made a b whys.Life told p = turn_whose size p.1 b p.2 told p.5 ∙ turns_whose p.0 a p.1 p.4
   loop_whose turns made a b whys.Closed told p = turns_whose made a b p.0
   loop_whose turns made a b whys.Gate told p = turns_whose made a b p.0
   loop_whose turns made a b whys.Turns told p = turns_whose made a b p.0
 
 -- of a hart that its end is told of
-pub hart_whose : (m : Machine) (turns : ℕ) (took : PartView BusTurn) (e : Ending) → IsOfHart m turns took e → took.who ≡ part_of_hart e.number
+pub hart_whose : (m : Machine) (turns : ℕ) (took : PartView BusTurn) (e : HartEnd) → IsOfHart m turns took e → took.who ≡ part_of_hart e.hart.id
 hart_whose m turns took e p =
     let gone = p.2 in
     sym (ap (λ (d : PartView BusTurn). d.who) p.3)
-    ∙ loop_whose m.size m.memory AnyAnswer AnyWord turns e.made gone.0 p.0 e.why p.1 gone.2
+    ∙ loop_whose m.size AnyAnswer AnyWord turns e.made gone.0 p.0 e.why p.1 gone.2
     ∙ ap (λ (d : PartView BusTurn). d.who) gone.1.took
-    ∙ ap (λ (x : Ending). part_of_hart x.number) (sym p.5)
+    ∙ ap (λ (s : ArchState). part_of_hart s.id) (sym p.5)

@@ -14,7 +14,6 @@ use Rattle.sbi_calls.specs.declared.tables.Tables.{Tables}
 use Rattle.susp.specs.Dozes.{doze_of}
 use Rattle.susp.specs.declared.buses.Doze.{Doze}
 use Rattle.hart_threads.specs.Bused.{fresh_part}
-use Rattle.hart_threads.specs.Refusals.{none_refused}
 use Rattle.hart_threads.specs.Seated.{IsSeated}
 use Rattle.hart_threads.specs.declared.seated.ActingHart.{ActingHart}
 use Rattle.hart_threads.specs.Threads.{Seated, seated}
@@ -29,18 +28,17 @@ abbrev pub StandsAs : HartState → ℕ → List HartView → Type 0
 StandsAs x h vs = (st : Stage) × stands h st vs × IsAt x st
 
 -- The hart of that number as the board has it: its registers, its state in the hart table, and its doze, where the board
--- dozes by it. It has not had the bus yet, and no call of it was refused.
+-- dozes by it. It has not had the bus yet.
 pub record BeginsAs (m : Machine) (h : ℕ) (a : Seated) : Type 0 where
   pub hart : a.hart ≡ hart_at m h
   pub state : StandsAs (state_at m h) h a.known.harts
   pub doze : a.doze ≡ doze_of h m.doze
   pub took : a.took ≡ fresh_part h
-  pub refused : a.refused ≡ none_refused
 
 -- a hart with seats of its own, which is one of that board
 abbrev pub IsFromBoot : Machine → Tables → ArchState → Seats → Option Doze → Type 0
 IsFromBoot m t s seats doze =
-    IsSeated t s.id seats doze × BeginsAs m s.id (seated s (known seats) doze (fresh_part s.id) none_refused)
+    IsSeated t s.id seats doze × BeginsAs m s.id (seated s (known seats) doze (fresh_part s.id))
 
 -- they are the harts of a board, that of the highest number first
 abbrev pub AreFromLast : List ActingHart → Type 0

@@ -14,7 +14,7 @@ use Rattle.turns.specs.declared.readies.Ready.{Ready}
 use Rattle.store.specs.Lives.{Life}
 use Rattle.hart_threads.specs.Heard.{one_more}
 use Rattle.hart_threads.specs.Looks.{doze_by}
-use Rattle.hart_threads.specs.Runs.{IsCarriedBy}
+use Rattle.hart_threads.specs.Carried.{IsCarriedBy}
 use Rattle.hart_threads.specs.declared.bus_turns.BusTurn.{BusTurn}
 
 -- one hold of the bus: as it was found, and as it was left

@@ -1,55 +1,23 @@
 -- How a hart's loop ended, and where the hart then stood. Source: docs/THREADS.md, "The end of a loop"; SBI specification
 -- 2.0, chapter HSM.
-use Rattle.std.specs.Prelude.{◌≡◌, ◌≤◌, ℕ, suc, Bool, true, List, [], ◌∷◌, Option, Some, None, is_some}
+use Rattle.std.specs.Prelude.{◌≡◌, ℕ, suc, Bool, true, List, [], ◌∷◌, Option, Some, None}
 use Rattle.board_model.specs.Durable.{DurableState}
 use Rattle.board_model.specs.declared.durable.Entry.{Entry}
-use Rattle.hart.specs.State.{ArchState}
 use Rattle.hsm.specs.Calls.{KeepsAll, StandsBy}
 use Rattle.hsm.specs.declared.state.State.{State}
 use Rattle.hsm.specs.Words.{HartView}
 use Rattle.machine.specs.Machine.{Machine}
-use Rattle.susp.specs.declared.buses.Doze.{Doze}
 use Rattle.tallies.specs.declared.book_views.PartView.{PartView}
 use Rattle.hart_threads.specs.declared.bus_turns.BusTurn.{BusTurn}
 use Rattle.hart_threads.specs.Begun.{BeginsAs}
 use Rattle.hart_threads.specs.Threads.{Seated, EndsLife, LoopOnce}
 use Rattle.hart_threads.specs.declared.closing.AfterConsole.{AfterConsole}
 use Rattle.hart_threads.specs.declared.closing.AfterConsole.TheVariants.{Halt}
+use Rattle.hart_threads.specs.declared.ends.HartEnd.{HartEnd}
 use Rattle.hart_threads.specs.declared.ends.ShutBy.{ShutBy}
 use Rattle.hart_threads.specs.declared.ends.ShutBy.TheVariants.{Life, Console}
 use Rattle.hart_threads.specs.declared.loops.Why.{Why}
 use Rattle.hart_threads.specs.declared.loops.Why.TheVariants as whys
-
--- a hart whose loop has ended, without its life: its number, its state, whether its board dozes by it, its pc and what
--- its last trap left, how many turns it made of how often it asked whether it goes on, and why it ended
-pub record Ending : Type 0 where
-  pub number : ℕ
-  pub state : State
-  pub dozing : Bool
-  pub pc : ℕ
-  pub scause : ℕ
-  pub sepc : ℕ
-  pub stval : ℕ
-  pub made : ℕ
-  pub asked : ℕ
-  pub why : Why
-  pub by : Option ShutBy
-
--- of that hart, with its own copy of its doze
-abbrev pub ending : ArchState → State → Option Doze → ℕ → ℕ → Why → Option ShutBy → Ending
-ending s state doze made asked why by = record {
-  number = s.id;
-  state = state;
-  dozing = is_some doze;
-  pc = s.pc;
-  scause = s.scause;
-  sepc = s.sepc;
-  stval = s.stval;
-  made = made;
-  asked = asked;
-  why = why;
-  by = by;
-}
 
 -- what ended all loops: such a command, or a console that halted the harts when it left
 abbrev pub IsShutBy : DurableState → AfterConsole → Option ShutBy → Type 0
@@ -77,26 +45,25 @@ AnyWord turn = Unit {0}
 -- another; and its loop ended so.
 abbrev pub HasGone : Machine → ℕ → ℕ → Seated → Why → Option (ℕ × Entry) → Type 0
 HasGone m turns made b why told =
-    (a : Seated) × BeginsAs m b.hart.id a × LoopOnce m.size m.memory AnyAnswer AnyWord turns made a b why told
+    (a : Seated) × BeginsAs m b.hart.id a × LoopOnce m.size AnyAnswer AnyWord turns made a b why told
 
 -- the state that one look more tells of the hart, which stands there
 abbrev pub IsStateOf : State → ℕ → List HartView → Type 0
 IsStateOf state h vs = (later : List HartView) × KeepsAll vs later × StandsBy state h later
 
--- it is told of a hart that has gone so, with that part of the history of the bus
-abbrev pub IsOfHart : Machine → ℕ → PartView BusTurn → Ending → Type 0
+-- it is told of a hart that has gone so, with that part of the history of the bus: its registers, its state, and its copy of its doze
+abbrev pub IsOfHart : Machine → ℕ → PartView BusTurn → HartEnd → Type 0
 IsOfHart m turns took e =
     (b : Seated) × (told : Option (ℕ × Entry)) × HasGone m turns e.made b e.why told × (b.took ≡ took)
-    × IsStateOf e.state b.hart.id b.known.harts
-    × (e ≡ ending b.hart e.state b.doze e.made e.asked e.why e.by)
+    × IsStateOf e.state b.hart.id b.known.harts × (e.hart ≡ b.hart) × (e.doze ≡ b.doze)
 
 -- they are of the harts from that number on, one after another
-abbrev pub AreNumberedFrom : ℕ → List Ending → Type 0
+abbrev pub AreNumberedFrom : ℕ → List HartEnd → Type 0
 AreNumberedFrom first [] = Unit {0}
-AreNumberedFrom first (e ∷ es) = (e.number ≡ first) × AreNumberedFrom (suc first) es
+AreNumberedFrom first (e ∷ es) = (e.hart.id ≡ first) × AreNumberedFrom (suc first) es
 
--- It ended for such a reason, and asked before each turn whether it goes on. What is told is of a hart of that board, which
--- made just so many turns since the boot left it, with that part of the history of the bus.
-abbrev pub IsEnding : Machine → ℕ → DurableState → Bool → AfterConsole → PartView BusTurn → Ending → Type 0
+-- It ended for such a reason. What is told is of a hart of that board, which made just so many turns since the boot left it, with that
+-- part of the history of the bus.
+abbrev pub IsEnding : Machine → ℕ → DurableState → Bool → AfterConsole → PartView BusTurn → HartEnd → Type 0
 IsEnding m turns found gated parting took e =
-    EndsBy turns found gated parting e.made e.by e.why × (e.made ≤ e.asked) × ∥ IsOfHart m turns took e ∥₁
+    EndsBy turns found gated parting e.made e.by e.why × ∥ IsOfHart m turns took e ∥₁

@@ -6,7 +6,7 @@ use Rattle.board_model.specs.Views.{change_in}
 use Rattle.board_model.specs.declared.durable.Entry.{Entry}
 use Rattle.board_model.specs.Shapes.{Size}
 use Rattle.board_model.specs.declared.durable.Reason.{Reason}
-use Rattle.hart.specs.State.{ArchState, answered, reg, started as fresh}
+use Rattle.hart.specs.State.{ArchState, answered, started as fresh}
 use Rattle.hsm.specs.Words.{HartView}
 use Rattle.hsm.specs.declared.view.Stage.TheVariants.{Running}
 use Rattle.hsm.specs.declared.view.Action.TheVariants.{Quieted, Unquieted}
@@ -24,7 +24,6 @@ use Rattle.sbi_calls.specs.declared.words.Turned.{Turned}
 use Rattle.sbi_calls.specs.declared.words.Turned.TheVariants.{Made, Durable}
 use Rattle.hart_threads.specs.Called.{AsksDoze, IsToldBy}
 use Rattle.hart_threads.specs.Legal.{IsToldOf}
-use Rattle.hart_threads.specs.Runs.{StepsMake}
 use Rattle.susp.specs.Checks.{IsChecked}
 use Rattle.susp.specs.Dozes.{dozing}
 use Rattle.susp.specs.Sleeps.{AreUnclaimed}
@@ -43,7 +42,6 @@ use Rattle.hart_threads.specs.Bused.{TakesBus, TurnsBus, CallsBus}
 use Rattle.hart_threads.specs.Dozes.{is_woken, doze_left}
 use Rattle.hart_threads.specs.declared.bus_turns.BusTurn.{BusTurn}
 use Rattle.susp.specs.declared.buses.Bus.{Bus}
-use Rattle.hart_threads.specs.Refusals.{RefusedCalls, finds_failure, after_call}
 use Rattle.hart_threads.specs.declared.loops.Why.{Why}
 use Rattle.hart_threads.specs.declared.loops.Why.TheVariants as whys
 
@@ -91,11 +89,6 @@ HeldOnce size call s t k k' word =
     ⊎ ((sleep : Sleep) × SleepsOnce size s t k k' × (word ≡ word_of_sleep sleep))
     ⊎ ((kind : ResetType) × (t ≡ s) × (k' ≡ k) × (word ≡ Over (ends.Reset kind)))
 
--- Exactly where the hart then finds -1 in a0, its store refused one call more of it, and this is the last of them. The count
--- grows by calls of the store alone, so such a call asked the store.
-abbrev pub RefusedOnce : Call → Word → ArchState → RefusedCalls → RefusedCalls → Type 0
-RefusedOnce call word t r r' = r' ≡ after_call (finds_failure word (reg t 10)) call r
-
 -- the doze of which the hart then keeps a copy: the one that its call asked for, with the arguments in order on the
 -- board's size; after any other call none
 abbrev pub IsDozeBy : Size → Call → ℕ → Word → Option Doze → Type 0
@@ -104,17 +97,15 @@ IsDozeBy size call by (Goes Dozing) doze =
 IsDozeBy size call by word doze = doze ≡ None
 
 -- ---- a turn
--- a hart, what its seats know, its copy of its doze, its part of the history of the bus, and its calls that the store refused,
--- between two of its turns
+-- a hart, what its seats know, its copy of its doze, and its part of the history of the bus, between two of its turns
 pub record Seated : Type 0 where
   pub hart : ArchState
   pub known : Known
   pub doze : Option Doze
   pub took : PartView BusTurn
-  pub refused : RefusedCalls
 
-abbrev pub seated : ArchState → Known → Option Doze → PartView BusTurn → RefusedCalls → Seated
-seated s k doze took r = record { hart = s; known = k; doze = doze; took = took; refused = r }
+abbrev pub seated : ArchState → Known → Option Doze → PartView BusTurn → Seated
+seated s k doze took = record { hart = s; known = k; doze = doze; took = took }
 
 -- what comes of what the hart did: a durable call is made, and has the receipt of its command where that was
 -- acknowledged; anything else is the turn's word
@@ -123,17 +114,15 @@ ComesOnce size Durable a b word told =
     HeldOnce size (call_of a.hart) a.hart b.hart a.known b.known word
     × IsToldBy size (call_of a.hart) a.hart.id word told
     × IsDozeBy size (call_of a.hart) a.hart.id word b.doze × CallsBus word b.doze a.took b.took
-    × RefusedOnce (call_of a.hart) word b.hart a.refused b.refused
 ComesOnce size (Made did) a b word told = (b ≡ a) × (word ≡ Goes did) × (told ≡ None)
 
 -- a turn of a hart that does not doze, with the memory as its one hold of the bus found it and as it left it, which its part of the
--- history has; both are what steps of harts made of the memory that the boot left
-abbrev pub OwnOnce : Size → List ℕ → Seated → Seated → Word → Option (ℕ × Entry) → Type 0
-OwnOnce size begun a b word told =
+-- history has
+abbrev pub OwnOnce : Size → Seated → Seated → Word → Option (ℕ × Entry) → Type 0
+OwnOnce size a b word told =
     (found : List ℕ) × (left : List ℕ) × (did : Turned) × (mid : Seated)
     × (own : TurnOwn size a.hart found mid.hart left a.known mid.known did) × ComesOnce size did mid b word told
-    × (mid.doze ≡ a.doze) × TurnsBus own.0 a.took mid.took found left × StepsMake begun found × StepsMake begun left
-    × (mid.refused ≡ a.refused)
+    × (mid.doze ≡ a.doze) × TurnsBus own.0 a.took mid.took found left
 
 -- A turn of a hart that dozes, by what its one look at the bus found: nothing, until its doze was woken. Then it begins
 -- again at the address of its own copy, with that opaque value; it has taken what was pending for it, and its quiet has
@@ -142,7 +131,7 @@ abbrev pub DozeOnce : Bool → Doze → Seated → Seated → Word → Type 0
 DozeOnce false d a b word = (b ≡ record a { took = b.took }) × (word ≡ Goes Idle)
 DozeOnce true d a b word =
     (b.hart ≡ fresh a.hart.id d.at.address d.at.opaque) × ResumesOwn a.hart.id a.known b.known × (b.doze ≡ None)
-    × (word ≡ Goes Resumed) × (b.refused ≡ a.refused)
+    × (word ≡ Goes Resumed)
 
 -- and what the look found of the bus and left there: the memory stays, and a doze that was woken is over
 abbrev pub LookOnce : Doze → Seated → Seated → Word → Type 0
@@ -152,35 +141,35 @@ LookOnce d a b word =
     × DozeOnce (is_woken a.hart.id found.doze) d a b word
 
 -- one turn of the hart, by its copy of its doze: no receipt comes of a turn in a doze
-abbrev pub TurnOnceBy : Option Doze → Size → List ℕ → Seated → Seated → Word → Option (ℕ × Entry) → Type 0
-TurnOnceBy None size begun a b word told = OwnOnce size begun a b word told
-TurnOnceBy (Some d) size begun a b word told = LookOnce d a b word × (told ≡ None)
+abbrev pub TurnOnceBy : Option Doze → Size → Seated → Seated → Word → Option (ℕ × Entry) → Type 0
+TurnOnceBy None size a b word told = OwnOnce size a b word told
+TurnOnceBy (Some d) size a b word told = LookOnce d a b word × (told ≡ None)
 
-abbrev pub TurnOnce : Size → List ℕ → Seated → Seated → Word → Option (ℕ × Entry) → Type 0
-TurnOnce size begun a b word told = TurnOnceBy a.doze size begun a b word told
+abbrev pub TurnOnce : Size → Seated → Seated → Word → Option (ℕ × Entry) → Type 0
+TurnOnce size a b word told = TurnOnceBy a.doze size a b word told
 
 -- ---- the turns of a loop
 -- so many turns, after each of which the life went on: the gate let each begin, and heard of each
-abbrev pub TurnsOn : Size → List ℕ → (ℕ → Bool → Type 0) → (ℕ → Type 0) → ℕ → Seated → Seated → Type 0
-TurnsOn size begun answers hears zero a b = b ≡ a
-TurnsOn size begun answers hears (suc n) a b =
-    (mid : Seated) × (word : Word) × TurnsOn size begun answers hears n a mid × TurnOnce size begun mid b word None
+abbrev pub TurnsOn : Size → (ℕ → Bool → Type 0) → (ℕ → Type 0) → ℕ → Seated → Seated → Type 0
+TurnsOn size answers hears zero a b = b ≡ a
+TurnsOn size answers hears (suc n) a b =
+    (mid : Seated) × (word : Word) × TurnsOn size answers hears n a mid × TurnOnce size mid b word None
     × (life_goes_on word ≡ true) × answers n true × hears n
 
 -- A loop of at most so many turns made that many, and ended so: by the life's end, which its last turn told; by what
 -- ended all loops, before it had made all; by the gate, which said so before then; or with the last of them.
-abbrev pub LoopOnce : Size → List ℕ → (ℕ → Bool → Type 0) → (ℕ → Type 0) → ℕ → ℕ → Seated → Seated → Why
+abbrev pub LoopOnce : Size → (ℕ → Bool → Type 0) → (ℕ → Type 0) → ℕ → ℕ → Seated → Seated → Why
     → Option (ℕ × Entry) → Type 0
-LoopOnce size begun answers hears turns made a b whys.Life told =
+LoopOnce size answers hears turns made a b whys.Life told =
     (n : ℕ) × (mid : Seated) × (word : Word) × (made ≡ suc n)
-    × TurnsOn size begun answers hears n a mid × TurnOnce size begun mid b word told × (life_goes_on word ≡ false)
+    × TurnsOn size answers hears n a mid × TurnOnce size mid b word told × (life_goes_on word ≡ false)
     × answers n true × hears n
-LoopOnce size begun answers hears turns made a b whys.Closed told =
-    TurnsOn size begun answers hears made a b × (made < turns) × (told ≡ None)
-LoopOnce size begun answers hears turns made a b whys.Gate told =
-    TurnsOn size begun answers hears made a b × (made < turns) × (told ≡ None) × answers made false
-LoopOnce size begun answers hears turns made a b whys.Turns told =
-    TurnsOn size begun answers hears made a b × (made ≡ turns) × (told ≡ None)
+LoopOnce size answers hears turns made a b whys.Closed told =
+    TurnsOn size answers hears made a b × (made < turns) × (told ≡ None)
+LoopOnce size answers hears turns made a b whys.Gate told =
+    TurnsOn size answers hears made a b × (made < turns) × (told ≡ None) × answers made false
+LoopOnce size answers hears turns made a b whys.Turns told =
+    TurnsOn size answers hears made a b × (made ≡ turns) × (told ≡ None)
 
 -- a command that ends the life
 abbrev pub is_end : Entry → Bool

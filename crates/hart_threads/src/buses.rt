@@ -1,6 +1,6 @@
 //! The bus of a board on threads, which knows of which life its memory is.
 
-ghost use Rattle.std.specs.Prelude.{◌≡◌, ◌<◌, ◌≤◌, ◌+◌, ◌↔◌, ℕ, List, [], ◌∷◌, true, IsOk, OnOk, IfOk, IfErr, drop, length, vec_len};
+ghost use Rattle.std.specs.Prelude.{◌≡◌, ◌<◌, ◌+◌, ◌↔◌, ◌∷◌, true, IsOk, OnOk, IfErr, drop, length};
 ghost use Rattle.tallies.specs.BookViews.{id_of, parts_of};
 ghost use Rattle.tallies.specs.Books.{Each, IsPart, first_of, fresh_from};
 ghost use Rattle.board_model.specs.declared.refusal.Refusal.{Refusal};
@@ -15,7 +15,6 @@ ghost use Rattle.susp.specs.Dozes.{can_wake, after_wake};
 ghost use Rattle.hart_threads.specs.Dozes.{doze_left, is_woken};
 ghost use Rattle.hart_threads.specs.Heard.{after_waking};
 ghost use Rattle.hart_threads.specs.Bused.{AreSaved, Made, IsCalled, TakesBus, begun_bus};
-ghost use Rattle.hart_threads.specs.Runs.{IsCarried, StepsMake};
 
 use crate::bus_turns::{
     BusBook, BusKeeper, BusPart, BusTurn, CallParts, Remembers, held_part, note_look, note_turn,
@@ -33,9 +32,9 @@ use store::{Saving, Store};
 use susp::{Bus, Doze, doze_of, wake};
 use tallies::{Journal, NewBook};
 
-/// The memory of a board on threads, and its doze where it sleeps to RAM, of the life J: its memory is what steps of harts
-/// made of the one that J's boot left. Each hold of it in which something is done is noted in its history, in the part of the holder: so
-/// it is what the turns of that history made, one after another, of the bus that the boot left.
+/// The memory of a board on threads, and its doze where it sleeps to RAM, of the life J. Each hold of it in which
+/// something is done is noted in its history, in the part of the holder: so it is what the turns of that history made, one after another,
+/// of the bus that J's boot left.
 ///
 /// A type keeps that, and a lock keeps its value's type. Nothing reaches the memory or the doze but the calls of this type
 /// and `SharedStore::call`.
@@ -44,7 +43,6 @@ pub struct SharedBus<J: Journal> {
     pub(crate) bus: Bus,
     book: BusBook<J>,
     keeper: BusKeeper<J>,
-    ghost run: { StepsMake J.memory bus.ram },
     ghost made: { Made keeper.log (begun_bus J.memory) bus },
 }
 
@@ -110,11 +108,6 @@ impl<J: Journal> SharedBus<J> {
         self.book.look(&mut keeper);
     }
 
-    /// What is kept from one holder of the lock to the next.
-    pub fn stands(&self)
-        ensures { StepsMake J.memory (bus_in self.now).ram }
-    {}
-
     /// The doze, where the board sleeps to RAM.
     pub fn doze(&self) -> Option<Doze>
         ensures { result ≡ (bus_in self.now).doze }
@@ -132,8 +125,6 @@ impl<J: Journal> SharedBus<J> {
     ) -> (Outcome, BusPart<J>)
         requires before { A.found ≡ bus_in self.old }
         ensures steps { Steps pending hart.old (bus_in self.old).ram hart.new (bus_in self.new).ram result.0 }
-        ensures found { StepsMake J.memory (bus_in self.old).ram }
-        ensures left { StepsMake J.memory (bus_in self.new).ram }
         ensures doze { (bus_in self.new).doze ≡ (bus_in self.old).doze }
         ensures noted { TakesBus (bus_in self.old) (bus_in self.new) part result.1 }
     {
@@ -200,7 +191,6 @@ impl<J: Journal> SharedBus<J> {
         requires seats { AreSeatsOfBoth tables.now seats }
         requires acts { Acts hart.old.id Running seats }
         requires hart { hart.old.id < harts_of_both tables.now }
-        requires carried { IsCarried J.memory (life_of store.old) }
         requires saved { AreSaved (life_of store.old) parts.store }
         ensures gives { GivesBack tables.entry.now hart.old.id seats result.0 }
         ensures acts { Acts hart.old.id (stage_told result.1) result.0 }
@@ -208,7 +198,6 @@ impl<J: Journal> SharedBus<J> {
         ensures makes { MakesHeld (harts_of_both tables.entry.now) (call_of hart.old) hart.old hart.new
             (known seats) (known result.0) (bus_in self.old) (bus_in self.new) store.old store.new result.1 }
         ensures memory { (bus_in self.new).ram ≡ (bus_in self.old).ram }
-        ensures carried { IsCarried J.memory (life_of store.new) }
         ensures saved { AreSaved (life_of store.new) result.2.store }
         ensures called { IsCalled result.1 (bus_in self.old) (bus_in self.new) }
         ensures noted { TakesBus (bus_in self.old) (bus_in self.new) parts.caller result.2.caller }

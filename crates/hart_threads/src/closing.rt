@@ -140,13 +140,6 @@ impl<J: Threaded> HaltPolls<J> {
             of: PhantomData,
         }
     }
-
-    /// How often.
-    pub fn times(&self) -> u64
-        ensures { result ≡ self.now }
-    {
-        self.times
-    }
 }
 
 /// The locks of a hart, one look of which found the halt unset: with it the hart may ask for its next turn. Only

@@ -1,6 +1,6 @@
 //! The book of what is in doubt.
 
-ghost use Rattle.std.specs.Prelude.{◌≡◌, ◌&&◌, ℕ, List, [], ◌∷◌, true, Some, None, IfSome, Option, length, is_none, is_some};
+ghost use Rattle.std.specs.Prelude.{◌≡◌, ◌&&◌, List, [], ◌∷◌, true, Some, IfSome, Option, length, is_none, is_some};
 ghost use Rattle.std.specs.Option.{option_to_list};
 ghost use Rattle.board_model.specs.Durable.{Change};
 ghost use Rattle.board_model.specs.declared.durable.Entry.{Entry};

@@ -4,7 +4,6 @@ ghost use Rattle.std.specs.Prelude.{◌≡◌, ◌<◌, Some};
 ghost use Rattle.hsm.specs.declared.view.Stage.TheVariants.{Quiet};
 ghost use Rattle.sbi_calls.specs.Both.{AreSeatsOfBoth, GivesBack, Acts, harts_of_both, known};
 ghost use Rattle.hart_threads.specs.Looks.{doze_by};
-ghost use Rattle.hart_threads.specs.Refusals.{RefusedCalls};
 ghost use Rattle.hart_threads.specs.Seated.{StandsAfterTurn};
 ghost use Rattle.hart_threads.specs.Threads.{seated, LookOnce};
 
@@ -45,8 +44,8 @@ pub(crate) fn doze_turn<J: Journal>(
     ensures gives { GivesBack tables.entry.now hart.old.id seats result.0 }
     ensures stands { StandsAfterTurn result.1 result.2 hart.old.id result.0 }
     ensures id { hart.new.id ≡ hart.old.id }
-    ensures once { (r : RefusedCalls) → LookOnce doze (seated hart.old (known seats) (Some doze) part r)
-        (seated hart.new (known result.0) result.2 result.3 r) result.1 }
+    ensures once { LookOnce doze (seated hart.old (known seats) (Some doze) part)
+        (seated hart.new (known result.0) result.2 result.3) result.1 }
 {
     let (woken, part) = bus.end_doze::<Brand>(&seats, tables, hart.id(), part);
     if !woken {

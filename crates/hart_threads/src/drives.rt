@@ -1,11 +1,10 @@
 //! The harts' threads and the console, until all have ended.
 
-ghost use Rattle.std.specs.Prelude.{◌≡◌, ◌≤◌, ◌<◌, ◌+◌, ℕ, [], true, false, Some, All, IfOk, IfErr, map, vec_len, vec_capacity};
+ghost use Rattle.std.specs.Prelude.{◌≡◌, ◌<◌, ◌+◌, ℕ, [], true, false, Some, All, IfOk, IfErr, map, vec_len, vec_capacity};
 ghost use Rattle.board_model.specs.declared.refusal.Refusal.TheVariants.{Memory};
 ghost use Rattle.sbi_calls.specs.Both.{AreTablesOf, known};
 ghost use Rattle.machine.specs.Held.{IsHeld};
 ghost use Rattle.hart_threads.specs.Bused.{fresh_part};
-ghost use Rattle.hart_threads.specs.Refusals.{none_refused};
 ghost use Rattle.hart_threads.specs.Seated.{IsSeated};
 ghost use Rattle.hart_threads.specs.Threads.{seated};
 ghost use Rattle.hart_threads.specs.Begun.{AreFromLast, BeginsAs, IsFromBoot, board_of};
@@ -16,7 +15,6 @@ use crate::ends::{Rested, at_rest};
 use crate::gates::Gate;
 use crate::locks::Locks;
 use crate::loops::hart_loop;
-use crate::refusals::Refusals;
 use crate::seated::{ActingHart, seat_harts};
 use crate::shared::{HartLocal, HartParts, SharedBoard};
 use crate::threaded::Threaded;
@@ -178,10 +176,9 @@ struct HartWork<'r, 'g, 'a, 'c, 's, R, G: Gate, D: Disk + Drop, J: Threaded> {
     turns: u64,
     ghost sized: { board.shape.now ≡ J.size },
     ghost named: { J.machine.size ≡ board.shape.now },
-    ghost remembered: { J.machine.memory ≡ J.memory },
     ghost tables: { AreTablesOf board.shape.now board.tables.now },
     ghost begins: { ∥ BeginsAs J.machine acting.hart.id
-        (seated acting.hart (known acting.seats) acting.doze (fresh_part acting.hart.id) none_refused) ∥₁ },
+        (seated acting.hart (known acting.seats) acting.doze (fresh_part acting.hart.id)) ∥₁ },
     ghost fresh: { parts.receipts.told ≡ [] },
     ghost numbered: { parts.run ≡ fresh_part acting.hart.id },
     ghost given: { turns ≡ J.turns },
@@ -216,7 +213,6 @@ fn loop_of<
         doze,
         part: parts.receipts,
         run: parts.run,
-        refused: Refusals::none(),
     };
     let locks = Locks::new(board.bus, board.store);
     let ended = hart_loop(rt, gate, board.of_loop(), locks, hart, local, turns);
@@ -254,7 +250,7 @@ fn works_of<
     Vec<HartParts<J>>,
 )
     requires board { board.shape.now ≡ J.size }
-    requires named { (J.machine.size ≡ board.shape.now) × (J.machine.memory ≡ J.memory) }
+    requires named { J.machine.size ≡ board.shape.now }
     requires turns { turns ≡ J.turns }
     requires numbered { AreFromLast all.items }
     requires runs { map (λ p. p.run) parts.items ≡ fresh_from 2 (vec_len parts) }
@@ -292,7 +288,7 @@ fn known_begun<J: Threaded>(acting: &ActingHart, tables: &Tables)
     requires { IsFromBoot J.machine tables.now acting.now.hart acting.now.seats acting.now.doze }
     ensures seated { IsSeated tables.now acting.now.hart.id acting.now.seats acting.now.doze }
     ensures begins { ∥ BeginsAs J.machine acting.now.hart.id
-        (seated acting.now.hart (known acting.now.seats) acting.now.doze (fresh_part acting.now.hart.id) none_refused) ∥₁ }
+        (seated acting.now.hart (known acting.now.seats) acting.now.doze (fresh_part acting.now.hart.id)) ∥₁ }
 {
     let _ = acting;
     let _ = tables;

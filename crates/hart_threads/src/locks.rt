@@ -4,7 +4,6 @@ ghost use Rattle.std.specs.Prelude.{◌≡◌, ℕ, List, true, false};
 ghost use Rattle.hart.specs.Means.{Steps};
 ghost use Rattle.hart_threads.specs.Bused.{StepsBus};
 ghost use Rattle.hart_threads.specs.Locks.{Held, no_locks, with_bus, with_store};
-ghost use Rattle.hart_threads.specs.Runs.{StepsMake};
 
 use crate::bus_turns::BusPart;
 use crate::buses::SharedBus;
@@ -112,8 +111,8 @@ impl<'a, J: Journal> BusLock<'a, J> {
         pending: bool,
         part: BusPart<J>,
     ) -> (Outcome, BusPart<J>)
-        ensures { (found : List ℕ) × (left : List ℕ) × StepsMake J.memory found × StepsMake J.memory left
-            × StepsBus part result.1 found left × Steps pending hart.old found hart.new left result.0 }
+        ensures { (found : List ℕ) × (left : List ℕ) × StepsBus part result.1 found left
+            × Steps pending hart.old found hart.new left result.0 }
     {
         let mut bus = self.bus.lock(rt);
         bus.step::<Brand>(hart, pending, part)

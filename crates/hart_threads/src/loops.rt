@@ -135,9 +135,9 @@ pub fn hart_loop<'c, R: Wait, G: Gate, D: Disk + Drop, J: Threaded, C: Crew>(
     ensures id { result.hart.id ≡ hart.id }
     ensures noted { result.local.part ≡ part_after result.told local.part }
     ensures range { result.made ≤ turns }
-    ensures once { LoopOnce board.entry.shape.now J.memory (G.answers gate.now hart.id) (G.hears gate.now hart.id) turns
-        result.made (seated hart (known local.seats) local.doze local.run local.refused)
-        (seated result.hart (known result.local.seats) result.local.doze result.local.run result.local.refused) result.why
+    ensures once { LoopOnce board.entry.shape.now (G.answers gate.now hart.id) (G.hears gate.now hart.id) turns
+        result.made (seated hart (known local.seats) local.doze local.run)
+        (seated result.hart (known result.local.seats) result.local.doze result.local.run) result.why
         result.told }
 {
     let mut run = HartRun {

@@ -6,7 +6,6 @@ use crate::bus_turns::BusPart;
 use crate::buses::SharedBus;
 use crate::closing::Closing;
 use crate::receipts::CommandReceipt;
-use crate::refusals::Refusals;
 use crate::shared_store::SharedStore;
 use crate::threaded::Threaded;
 use board_model::{Entry, Shape};
@@ -80,8 +79,6 @@ pub struct HartLocal<J: Journal> {
     pub part: BookPart<J, Entry>,
     /// Its part of the history of the bus.
     pub run: BusPart<J>,
-    /// Its calls that the store refused.
-    pub refused: Refusals<J>,
 }
 
 /// What the loop of a hart has of the books of its life: its part of the receipts, and of the history of the bus.

@@ -1,12 +1,10 @@
 //! A store that knows of which life its journal is.
 
 ghost use Rattle.std.specs.Prelude.{◌≡◌, ◌≤◌, ◌<◌, length, true, None, Err, IfOk, IfSome, IsTrue, is_some};
-ghost use Rattle.board_model.specs.Durable.{DurableState, Change, fold, refusal_of};
-ghost use Rattle.board_model.specs.Shapes.{Size};
 ghost use Rattle.board_model.specs.Views.{change_of, durable_of};
 ghost use Rattle.store.specs.Lives.{Applied};
 ghost use Rattle.std.specs.Option.{option_to_list};
-ghost use Rattle.store.specs.Views.{size_of_store, found_state, journal_of, life_of, now_state, receipts, doubt_of, failures_at_open, disk_of};
+ghost use Rattle.store.specs.Views.{size_of_store, journal_of, life_of, now_state, receipts, doubt_of, failures_at_open, disk_of};
 ghost use Rattle.store.specs.Asked.{Asked};
 ghost use Rattle.hsm.specs.declared.view.Stage.TheVariants.{Running};
 ghost use Rattle.sbi_abi.specs.Calls.{call_of};
@@ -20,7 +18,6 @@ ghost use Rattle.hart_threads.specs.Heard.{after_look, heard_by};
 ghost use Rattle.hart_threads.specs.Bused.{AreSaved, IsCalled, TakesBus, part_in};
 ghost use Rattle.hart_threads.specs.Called.{IsToldBy, IsLastOf};
 ghost use Rattle.hart_threads.specs.Legal.{BeginsWith, IsNamed, MayAnswer, MayShow, number_told};
-ghost use Rattle.hart_threads.specs.Runs.{IsCarried};
 ghost use Rattle.hart_threads.specs.Since.{AreKept, moments_after, moments_told};
 
 use crate::bus_turns::{BusPart, CallParts, held_part};
@@ -42,8 +39,8 @@ use tallies::{Book, BookPart, Journal, Keeper};
 
 /// A store whose journal is J's: its open found what J says, its board has that size, its journal begins with
 /// what the boot issued, and its state now is what the journal makes of what was found. The table of commands
-/// (docs/DURABLE.md) refuses none of them, one after another. Each suspension of it carries a memory that steps of harts made
-/// of the one that the boot left. At each moment since its boot was over, within a command and within a call of its disk too, a
+/// (docs/DURABLE.md) refuses none of them, one after another. Each suspension of it carries a memory
+/// that the store found on the bus. At each moment since its boot was over, within a command and within a call of its disk too, a
 /// crash has left what some first commands of the journal make, all of those among them of which a receipt had been made by
 /// then, or these and the one in doubt.
 ///
@@ -62,7 +59,6 @@ pub struct SharedStore<D: Disk + Drop, J: Journal> {
     moments: Moments,
     ghost named: { IsNamed J.found J.size store },
     ghost issued: { BeginsWith J.issued (journal_of store) },
-    ghost carried: { IsCarried J.memory (life_of store) },
     ghost there: { IsTrue (is_some run) },
     ghost saved: { AreSaved (life_of store) (part_in run) },
     ghost counted: { count ≡ receipts store },
@@ -108,7 +104,6 @@ impl<D: Disk + Drop, J: Journal> SharedStore<D, J> {
     pub fn stands(&self)
         ensures named { IsNamed J.found J.size (store_in self.now) }
         ensures issued { BeginsWith J.issued (journal_of (store_in self.now)) }
-        ensures carried { IsCarried J.memory (life_of (store_in self.now)) }
         ensures kept { AreKept J.size J.found J.earlier J.moment (length J.issued) (journal_of (store_in self.now)) (doubt_of (store_in self.now))
             (disk_of (store_in self.now))
             (moments_in self.now) }

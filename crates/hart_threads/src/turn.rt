@@ -116,8 +116,8 @@ fn came_of<R: Wait, D: Disk + Drop, J: Threaded, C: Crew>(
     ensures id { hart.new.id ≡ hart.old.id }
     ensures noted { result.local.part ≡ part_after result.told local.part }
     ensures once { ComesOnce board.entry.shape.now turned
-        (seated hart.old (known local.seats) local.doze local.run local.refused)
-        (seated hart.new (known result.local.seats) result.local.doze result.local.run result.local.refused) result.word
+        (seated hart.old (known local.seats) local.doze local.run)
+        (seated hart.new (known result.local.seats) result.local.doze result.local.run) result.word
         result.told }
 {
     match turned {
@@ -147,9 +147,8 @@ fn own_turn<'a, R: Wait, D: Disk + Drop, J: Threaded, C: Crew>(
     ensures stands { StandsAfterTurn result.0.word result.0.local.doze hart.old.id result.0.local.seats }
     ensures id { hart.new.id ≡ hart.old.id }
     ensures noted { result.0.local.part ≡ part_after result.0.told local.part }
-    ensures once { OwnOnce board.entry.shape.now J.memory
-        (seated hart.old (known local.seats) None local.run local.refused)
-        (seated hart.new (known result.0.local.seats) result.0.local.doze result.0.local.run result.0.local.refused)
+    ensures once { OwnOnce board.entry.shape.now (seated hart.old (known local.seats) None local.run)
+        (seated hart.new (known result.0.local.seats) result.0.local.doze result.0.local.run)
         result.0.word result.0.told }
 {
     let HartLocal {
@@ -157,7 +156,6 @@ fn own_turn<'a, R: Wait, D: Disk + Drop, J: Threaded, C: Crew>(
         doze: _,
         part,
         run,
-        refused,
     } = local;
     let (bus, apart) = locks.apart();
     let mut bus = LockedBus {
@@ -174,7 +172,6 @@ fn own_turn<'a, R: Wait, D: Disk + Drop, J: Threaded, C: Crew>(
         doze: None,
         part,
         run,
-        refused,
     };
     let end = came_of(rt, board, &mut locks, hart, local, turned);
     (end, locks)
@@ -196,15 +193,14 @@ fn dozing_turn<R: Wait, D: Disk + Drop, J: Threaded>(
     ensures stands { StandsAfterTurn result.word result.local.doze hart.old.id result.local.seats }
     ensures id { hart.new.id ≡ hart.old.id }
     ensures noted { (result.local.part ≡ local.part) × (result.told ≡ None) }
-    ensures once { LookOnce doze (seated hart.old (known local.seats) (Some doze) local.run local.refused)
-        (seated hart.new (known result.local.seats) result.local.doze result.local.run result.local.refused) result.word }
+    ensures once { LookOnce doze (seated hart.old (known local.seats) (Some doze) local.run)
+        (seated hart.new (known result.local.seats) result.local.doze result.local.run) result.word }
 {
     let HartLocal {
         seats,
         doze: _,
         part,
         run,
-        refused,
     } = local;
     let mut bus = locks.take_bus(rt);
     let (seats, word, doze, run) = doze_turn(&mut bus, hart, seats, tables, doze, run);
@@ -214,7 +210,6 @@ fn dozing_turn<R: Wait, D: Disk + Drop, J: Threaded>(
         doze,
         part,
         run,
-        refused,
     };
     TurnEnd {
         local,
@@ -241,9 +236,9 @@ pub(crate) fn whole_turn<'a, R: Wait, D: Disk + Drop, J: Threaded, C: Crew>(
     ensures stands { StandsAfterTurn result.0.word result.0.local.doze hart.old.id result.0.local.seats }
     ensures id { hart.new.id ≡ hart.old.id }
     ensures noted { result.0.local.part ≡ part_after result.0.told local.part }
-    ensures once { TurnOnce board.entry.shape.now J.memory
-        (seated hart.old (known local.seats) local.doze local.run local.refused)
-        (seated hart.new (known result.0.local.seats) result.0.local.doze result.0.local.run result.0.local.refused)
+    ensures once { TurnOnce board.entry.shape.now
+        (seated hart.old (known local.seats) local.doze local.run)
+        (seated hart.new (known result.0.local.seats) result.0.local.doze result.0.local.run)
         result.0.word result.0.told }
     ensures made { result.1 ≡ allowed.entry }
 {

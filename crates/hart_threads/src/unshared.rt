@@ -16,7 +16,7 @@ ghost use Rattle.hart_threads.specs.Doubts.{IsDoubtOf};
 ghost use Rattle.hart_threads.specs.Heard.{heard_nothing};
 ghost use Rattle.hart_threads.specs.Legal.{BeginsWith, IsNamed};
 ghost use Rattle.hart_threads.specs.Noted.{boot_told, entries_in};
-ghost use Rattle.hart_threads.specs.Runs.{IsCarried, IsCarriedBy};
+ghost use Rattle.hart_threads.specs.Carried.{IsCarriedBy};
 ghost use Rattle.hart_threads.specs.Since.{AreKept};
 
 use crate::bus_turns::{BusPart, held_part};
@@ -45,7 +45,6 @@ pub struct Unshared<D: Disk + Drop, J: Journal> {
     pub(crate) run: Option<BusPart<J>>,
     pub ghost named: { IsNamed J.found J.size store },
     pub ghost issued: { BeginsWith J.issued (journal_of store) },
-    pub ghost carried: { IsCarried J.memory (life_of store) },
     pub ghost there: { IsTrue (is_some run) },
     pub ghost saved: { AreSaved (life_of store) (part_in run) },
     pub ghost counted: { count ≡ receipts store },
@@ -75,7 +74,6 @@ impl<D: Disk + Drop, J: Journal> Unshared<D, J> {
         requires issued { journal_of store ≡ J.issued }
         requires taken { are_taken J.found J.issued ≡ true }
         requires few { length J.issued ≤ 4096 }
-        requires carried { IsCarried J.memory (life_of store) }
         requires unsaved { (told : List (ℕ × TurnView)) → IsCarriedBy (WasTold told) (life_of store) }
         requires bus { bus_parts bus.old ≡ fresh_from 0 (J.size.harts + 2) }
         requires book { id_of book ≡ J.book }
@@ -196,7 +194,6 @@ impl<D: Disk + Drop, J: Journal> Unshared<D, J> {
     pub fn close(self, heard: Heard<J>) -> (Store<D>, Moments, (BusPart<J>, BusPart<J>))
         ensures named { IsNamed J.found J.size result.0 }
         ensures issued { BeginsWith J.issued (journal_of result.0) }
-        ensures carried { IsCarried J.memory (life_of result.0) }
         ensures same { result.0 ≡ inside self }
         ensures told { AreStanding (entries_in (journal_of result.0)) (told_in (parts_with self)) }
         ensures all { length (parts_with self) ≡ J.parts

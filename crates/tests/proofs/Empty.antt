@@ -2,7 +2,7 @@
 use Rattle.std.proofs.Common.{◌≡◌, ℕ, List, [], None, sym, subst}
 use Rattle.board_model.specs.Durable.{Change}
 use Rattle.hart_threads.specs.Bused.{begun_bus}
-use Rattle.hart_threads.specs.Runs.{AllCarry, IsCarriedBy}
+use Rattle.hart_threads.specs.Carried.{AllCarry, IsCarriedBy}
 use Rattle.hart_threads.proofs.Carrying.{none_carry}
 use Rattle.store.specs.Lives.{Life}
 use Rattle.susp.specs.declared.buses.Bus.{Bus}

@@ -10,9 +10,7 @@ ghost use Rattle.board_model.specs.Durable.{DurableState, Image, Change, Consume
 ghost use Rattle.board_model.specs.Shapes.{Size};
 ghost use Rattle.board_model.specs.Views.{change_of};
 ghost use Rattle.board_model.specs.declared.boot_mode.BootMode.{BootMode};
-ghost use Rattle.board_model.specs.declared.boot_mode.BootMode.TheVariants as modes;
 ghost use Rattle.board_model.specs.declared.refusal.Refusal.{Refusal};
-ghost use Rattle.board_model.specs.declared.refusal.Refusal.TheVariants.{Down};
 ghost use Rattle.disk.specs.Facts.{Content};
 ghost use Rattle.store.specs.Asked.{Asked};
 ghost use Rattle.store.specs.Leaves.{IsIdle, Leaves, LeavesOnly};

@@ -1,7 +1,7 @@
-use Rattle.std.proofs.Common.{◌≡◌, ◌∙◌, ◌∷◌, List, sym, ap, subst}
+use Rattle.std.proofs.Common.{◌∙◌, ◌∷◌, List, ap, subst}
 use Rattle.tallies.specs.Books.{Each, IsPart}
 use Rattle.tallies.specs.declared.book_views.PartView.{PartView}
-use Rattle.hart_threads.specs.Views.{bus_in, bus_log, bus_parts}
+use Rattle.hart_threads.specs.Views.{bus_in, bus_log}
 use Rattle.hart_threads.specs.declared.bus_turns.BusTurn.{BusTurn}
 use Rattle.board_session.proofs.life_end.end_history.Goals as goal
 

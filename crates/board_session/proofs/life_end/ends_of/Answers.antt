@@ -1,8 +1,8 @@
-use Rattle.std.proofs.Common.{◌≡◌, ◌∙◌, ◌∷◌, List, length, arith, sym, ap, subst, All}
+use Rattle.std.proofs.Common.{◌∙◌, ◌∷◌, List, length, arith, sym, ap, subst, All}
 use Rattle.std.proofs.lemmas.List.Elements.{All-push}
 use Rattle.board_model.specs.declared.durable.Entry.{Entry}
 use Rattle.tallies.specs.declared.book_views.PartView.{PartView}
-use Rattle.hart_threads.specs.Ends.{Ending}
+use Rattle.hart_threads.specs.declared.ends.HartEnd.{HartEnd}
 use Rattle.hart_threads.specs.Views.{bus_parts, parts_with}
 use Rattle.hart_threads.specs.declared.bus_turns.BusTurn.{BusTurn}
 use Rattle.board_session.specs.Backs.{AreBack}
@@ -38,8 +38,8 @@ loop-rested-preserved-in-Some g c =
           (subst (λ es. All P es) (sym c.push_reserved.ensures.items)
           (All-push P c.loop-rested.ends.items _ (ends_with t.machine t.turns g.J.Journal.found t.gated c.args.parted.now.token.value e.local.run before c.loop-rested.ends.items i.well)
           (one_with t.machine t.turns g.J.Journal.found t.gated c.args.parted.now.token.value e.local.run before _ c.end_of.ensures.well)));
-      by = subst (λ es. All (λ (x : Ending). IsBy c.args.last.now x.by) es) (sym c.push_reserved.ensures.items)
-          (All-push (λ (x : Ending). IsBy c.args.last.now x.by) c.loop-rested.ends.items _ i.by c.end_of.ensures.by);
+      by = subst (λ es. All (λ (x : HartEnd). IsBy c.args.last.now x.by) es) (sym c.push_reserved.ensures.items)
+          (All-push (λ (x : HartEnd). IsBy c.args.last.now x.by) c.loop-rested.ends.items _ i.by c.end_of.ensures.by);
     }
 
 pub loop-rested-preserved : goal.loop-rested-preserved
@@ -67,6 +67,6 @@ loop-rested-preserved g c =
           (subst (λ es. All P es) (sym c.push_reserved.ensures.items)
           (All-push P c.loop-rested.ends.items _ (ends_with t.machine t.turns g.J.Journal.found t.gated c.args.parted.now.token.value e.local.run before c.loop-rested.ends.items i.well)
           (one_with t.machine t.turns g.J.Journal.found t.gated c.args.parted.now.token.value e.local.run before _ c.end_of.ensures.well)));
-      by = subst (λ es. All (λ (x : Ending). IsBy c.args.last.now x.by) es) (sym c.push_reserved.ensures.items)
-          (All-push (λ (x : Ending). IsBy c.args.last.now x.by) c.loop-rested.ends.items _ i.by c.end_of.ensures.by);
+      by = subst (λ es. All (λ (x : HartEnd). IsBy c.args.last.now x.by) es) (sym c.push_reserved.ensures.items)
+          (All-push (λ (x : HartEnd). IsBy c.args.last.now x.by) c.loop-rested.ends.items _ i.by c.end_of.ensures.by);
     }

@@ -1,6 +1,6 @@
-use Rattle.std.proofs.Common.{◌≡◌, ◌∙◌, Bool, All, sym, ap, subst}
+use Rattle.std.proofs.Common.{◌∙◌, Bool, All, sym, ap, subst}
 use Rattle.hart_threads.specs.Views.{bus_parts, inside, parts_with}
-use Rattle.hart_threads.specs.Ends.{Ending}
+use Rattle.hart_threads.specs.declared.ends.HartEnd.{HartEnd}
 use Rattle.hart_threads.specs.declared.closing.AfterConsole.{AfterConsole}
 use Rattle.store.specs.Views.{journal_of, life_of}
 use Rattle.board_session.specs.Histories.{harts_after}
@@ -30,8 +30,8 @@ returns-clause-life g c =
     let left = c.args.talked.left in
     let kept = life_of (inside ended.new.whole) in
     let gone = all_ends_by t.machine t.turns j.found t.gated c.args.talked.parted.token.value log parts ends end.1.told.1.1 ended.ensures.well in
-    let driven = subst (λ (b : Bool). All (λ (e : Ending). EndedBy t.machine t.turns j.found b (harts_after left) log e) ends) c.requires.ungated
-    (subst (λ (p : AfterConsole). All (λ (e : Ending). EndedBy t.machine t.turns j.found t.gated p log e) ends) c.args.talked.parts gone) in
+    let driven = subst (λ (b : Bool). All (λ (e : HartEnd). EndedBy t.machine t.turns j.found b (harts_after left) log e) ends) c.requires.ungated
+    (subst (λ (p : AfterConsole). All (λ (e : HartEnd). EndedBy t.machine t.turns j.found t.gated p log e) ends) c.args.talked.parts gone) in
     let many = ended.ensures.many ∙ c.requires.harts in (
       life.0,
       are_by_last _ life.0.journal c.last-last.result ends (life.1 ∙ ap (λ x. journal_of x) ended.ensures.store) c.last-last.ensures ended.ensures.by,

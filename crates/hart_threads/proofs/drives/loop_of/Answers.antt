@@ -4,7 +4,6 @@ use Rattle.sbi_calls.specs.Both.{known}
 use Rattle.hart_threads.specs.Begun.{BeginsAs}
 use Rattle.tallies.specs.declared.book_views.PartView.{PartView}
 use Rattle.hart_threads.specs.declared.bus_turns.BusTurn.{BusTurn}
-use Rattle.hart_threads.specs.Refusals.{RefusedCalls, none_refused}
 use Rattle.hart_threads.specs.Threads.{seated}
 use Rattle.hart_threads.proofs.Looping.{has_gone}
 use Rattle.hart_threads.proofs.drives.loop_of.Goals as goal
@@ -16,6 +15,5 @@ at_rest-requires-clause-gone g c =
     let m = g.J.Threaded.machine in
     let gate = w.gate.now in
     let loop = c.hart_loop-ended in
-    ∥∥₁_map w.begins (λ begins. has_gone m _ g.J.Journal.memory (g.G.Gate.answers gate a.hart.id) (g.G.Gate.hears gate a.hart.id) g.J.Threaded.turns w.turns loop.result.made a.hart.id _ _ _ _ (w.named ∙ sym c.of_loop.ensures.shape) w.remembered w.given loop.ensures.id
-    (subst (λ (r : RefusedCalls). BeginsAs m a.hart.id (seated a.hart (known a.seats) a.doze w.parts.run r)) (sym c.none.ensures)
-    (subst (λ (d : PartView BusTurn). BeginsAs m a.hart.id (seated a.hart (known a.seats) a.doze d none_refused)) (sym w.numbered) begins)) loop.ensures.once)
+    ∥∥₁_map w.begins (λ begins. has_gone m _ (g.G.Gate.answers gate a.hart.id) (g.G.Gate.hears gate a.hart.id) g.J.Threaded.turns w.turns loop.result.made a.hart.id _ _ _ _ (w.named ∙ sym c.of_loop.ensures.shape) w.given loop.ensures.id
+    (subst (λ (d : PartView BusTurn). BeginsAs m a.hart.id (seated a.hart (known a.seats) a.doze d)) (sym w.numbered) begins) loop.ensures.once)

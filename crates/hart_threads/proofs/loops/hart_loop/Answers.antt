@@ -35,8 +35,8 @@ loop-made-preserved g c =
       gives = gives_then c.args.board.tables.now by c.args.local.seats r.local.seats b.seats i.gives (subst (λ (k : ℕ). GivesBack c.args.board.tables.now k r.local.seats b.seats) i.id t.ensures.gives);
       rests = rests_on by b.seats t.result.0.word b.doze on (subst (λ (k : ℕ). StandsAfterTurn t.result.0.word b.doze k b.seats) i.id t.ensures.stands);
       id = t.ensures.id ∙ i.id;
-      part = kept_part c.args.board.shape.now g.J.Journal.memory (seated r.hart (known r.local.seats) r.local.doze r.local.run r.local.refused) (seated t.new.hart (known b.seats) b.doze b.run b.refused) t.result.0.word t.result.0.told c.args.local.part r.local.part b.part t.ensures.once on i.part t.ensures.noted;
-      turns = one_more c.args.board.shape.now g.J.Journal.memory (g.G.Gate.answers gate by) (g.G.Gate.hears gate by) c.loop-made.made (seated c.args.hart (known c.args.local.seats) c.args.local.doze c.args.local.run c.args.local.refused) (seated r.hart (known r.local.seats) r.local.doze r.local.run r.local.refused) (seated t.new.hart (known b.seats) b.doze b.run b.refused) t.result.0.word t.result.0.told i.turns t.ensures.once on said heard;
+      part = kept_part c.args.board.shape.now (seated r.hart (known r.local.seats) r.local.doze r.local.run) (seated t.new.hart (known b.seats) b.doze b.run) t.result.0.word t.result.0.told c.args.local.part r.local.part b.part t.ensures.once on i.part t.ensures.noted;
+      turns = one_more c.args.board.shape.now (g.G.Gate.answers gate by) (g.G.Gate.hears gate by) c.loop-made.made (seated c.args.hart (known c.args.local.seats) c.args.local.doze c.args.local.run) (seated r.hart (known r.local.seats) r.local.doze r.local.run) (seated t.new.hart (known b.seats) b.doze b.run) t.result.0.word t.result.0.told i.turns t.ensures.once on said heard;
       asked = c.in-Ok.ensures ∙ ap (λ (n : ℕ). n + 1) i.asked;
       free = c.tell-locks.ensures.free;
     }
@@ -95,10 +95,10 @@ returns-in-Err-clause-noted g c = as_both_were c.end.ensures.hart.1 c.end.ensure
 pub returns-in-Err-clause-once : goal.returns-in-Err-clause-once
 returns-in-Err-clause-once g c =
     let e = c.end.ensures in let gate = c.args.gate.now in let by = c.args.hart.id in let l = c.loop-made.run.local in
-    let begun = seated c.args.hart (known c.args.local.seats) c.args.local.doze c.args.local.run c.args.local.refused in
-    let now = seated c.loop-made.run.hart (known l.seats) l.doze l.run l.refused in
-    said_so c.args.board.shape.now g.J.Journal.memory (g.G.Gate.answers gate by) (g.G.Gate.hears gate by) c.args.turns c.loop-made.made _ begun now _ whys.Closed _ None _
-    (seated_as e.hart.0 e.hart.1 (λ s x. seated s (known x.seats) x.doze x.run x.refused)) e.end.0 e.end.1 e.end.2
+    let begun = seated c.args.hart (known c.args.local.seats) c.args.local.doze c.args.local.run in
+    let now = seated c.loop-made.run.hart (known l.seats) l.doze l.run in
+    said_so c.args.board.shape.now (g.G.Gate.answers gate by) (g.G.Gate.hears gate by) c.args.turns c.loop-made.made _ begun now _ whys.Closed _ None _
+    (seated_as e.hart.0 e.hart.1 (λ s x. seated s (known x.seats) x.doze x.run)) e.end.0 e.end.1 e.end.2
     (c.loop-made.invariant.turns, c.loop-made-test.true, refl)
 
 -- ---- the gate did
@@ -138,17 +138,17 @@ returns-in_default-clause-noted g c = as_both_were c.end-in_default.ensures.hart
 pub returns-in_default-clause-once : goal.returns-in_default-clause-once
 returns-in_default-clause-once g c =
     let e = c.end-in_default.ensures in let gate = c.args.gate.now in let by = c.args.hart.id in let l = c.loop-made.run.local in
-    let begun = seated c.args.hart (known c.args.local.seats) c.args.local.doze c.args.local.run c.args.local.refused in
-    let now = seated c.loop-made.run.hart (known l.seats) l.doze l.run l.refused in
-    said_so c.args.board.shape.now g.J.Journal.memory (g.G.Gate.answers gate by) (g.G.Gate.hears gate by) c.args.turns c.loop-made.made _ begun now _ whys.Gate _ None _
-    (seated_as e.hart.0 e.hart.1 (λ s x. seated s (known x.seats) x.doze x.run x.refused)) e.end.0 e.end.1 e.end.2
+    let begun = seated c.args.hart (known c.args.local.seats) c.args.local.doze c.args.local.run in
+    let now = seated c.loop-made.run.hart (known l.seats) l.doze l.run in
+    said_so c.args.board.shape.now (g.G.Gate.answers gate by) (g.G.Gate.hears gate by) c.args.turns c.loop-made.made _ begun now _ whys.Gate _ None _
+    (seated_as e.hart.0 e.hart.1 (λ s x. seated s (known x.seats) x.doze x.run)) e.end.0 e.end.1 e.end.2
     (c.loop-made.invariant.turns, c.loop-made-test.true, refl, subst (λ (k : ℕ). g.G.Gate.answers gate k c.loop-made.made false) (c.id.ensures ∙ c.loop-made.invariant.id) c.in_default.ensures.asked)
 
 -- ---- its last turn ended the life
 pub end-requires-then-not-goes_on-clause-receipt : goal.end-requires-then-not-goes_on-clause-receipt
 end-requires-then-not-goes_on-clause-receipt g c =
     let t = c.whole_turn-end in let r = c.loop-made.run in let b = t.result.0.local in λ e.
-    (turn_told c.args.board.shape.now g.J.Journal.memory (seated r.hart (known r.local.seats) r.local.doze r.local.run r.local.refused) (seated t.new.hart (known b.seats) b.doze b.run b.refused) t.result.0.word t.result.0.told t.ensures.once (sym c.goes_on.ensures ∙ c.if-not-goes_on.true)).0
+    (turn_told c.args.board.shape.now (seated r.hart (known r.local.seats) r.local.doze r.local.run) (seated t.new.hart (known b.seats) b.doze b.run) t.result.0.word t.result.0.told t.ensures.once (sym c.goes_on.ensures ∙ c.if-not-goes_on.true)).0
 
 pub end-requires-then-not-goes_on-clause-noted : goal.end-requires-then-not-goes_on-clause-noted
 end-requires-then-not-goes_on-clause-noted g c = let t = c.whole_turn-end in one_noted t.result.0.told c.args.local.part c.loop-made.run.local.part t.result.0.local.part t.ensures.noted c.loop-made.invariant.part c.requires.fresh
@@ -156,7 +156,7 @@ end-requires-then-not-goes_on-clause-noted g c = let t = c.whole_turn-end in one
 pub end-requires-then-not-goes_on-clause-ends : goal.end-requires-then-not-goes_on-clause-ends
 end-requires-then-not-goes_on-clause-ends g c =
     let t = c.whole_turn-end in let r = c.loop-made.run in let b = t.result.0.local in
-    (turn_told c.args.board.shape.now g.J.Journal.memory (seated r.hart (known r.local.seats) r.local.doze r.local.run r.local.refused) (seated t.new.hart (known b.seats) b.doze b.run b.refused) t.result.0.word t.result.0.told t.ensures.once (sym c.goes_on.ensures ∙ c.if-not-goes_on.true)).1
+    (turn_told c.args.board.shape.now (seated r.hart (known r.local.seats) r.local.doze r.local.run) (seated t.new.hart (known b.seats) b.doze b.run) t.result.0.word t.result.0.told t.ensures.once (sym c.goes_on.ensures ∙ c.if-not-goes_on.true)).1
 
 pub end-requires-then-not-goes_on-clause-whole : goal.end-requires-then-not-goes_on-clause-whole
 end-requires-then-not-goes_on-clause-whole g c = λ e. absurd (life_not_turns e)
@@ -194,16 +194,16 @@ returns-then-not-goes_on-clause-noted g c =
 pub returns-then-not-goes_on-clause-once : goal.returns-then-not-goes_on-clause-once
 returns-then-not-goes_on-clause-once g c =
     let e = c.end-then-not-goes_on.ensures in let gate = c.args.gate.now in let by = c.args.hart.id in let l = c.whole_turn-end.result.0.local in
-    let begun = seated c.args.hart (known c.args.local.seats) c.args.local.doze c.args.local.run c.args.local.refused in
-    let now = seated c.whole_turn-end.new.hart (known l.seats) l.doze l.run l.refused in
+    let begun = seated c.args.hart (known c.args.local.seats) c.args.local.doze c.args.local.run in
+    let now = seated c.whole_turn-end.new.hart (known l.seats) l.doze l.run in
     let i = c.loop-made.invariant in let t = c.whole_turn-end in let r = c.loop-made.run in
     let off = sym c.goes_on.ensures ∙ c.if-not-goes_on.true in
     let said = subst (λ (k : ℕ). g.G.Gate.answers gate k c.loop-made.made true) (c.id.ensures ∙ i.id) c.in-Some.ensures.asked in
     let is : t.result.1 ≡ (by, c.loop-made.made) = t.ensures.made ∙ (c.in-Some.ensures.turn ∙ ap (λ (k : ℕ). let p : ℕ × ℕ = (k, c.loop-made.made) in p) (c.id.ensures ∙ i.id)) in
     let heard = subst (λ (p : ℕ × ℕ). g.G.Gate.hears gate p.0 p.1) is c.tell-locks.ensures.told in
-    said_so c.args.board.shape.now g.J.Journal.memory (g.G.Gate.answers gate by) (g.G.Gate.hears gate by) c.args.turns (c.loop-made.made + 1) _ begun now _ whys.Life _ c.whole_turn-end.result.0.told _
-    (seated_as e.hart.0 e.hart.1 (λ s x. seated s (known x.seats) x.doze x.run x.refused)) e.end.0 e.end.1 e.end.2
-    (ended_life c.args.board.shape.now g.J.Journal.memory (g.G.Gate.answers gate by) (g.G.Gate.hears gate by) c.args.turns c.loop-made.made begun (seated r.hart (known r.local.seats) r.local.doze r.local.run r.local.refused) now t.result.0.word t.result.0.told i.turns t.ensures.once off said heard)
+    said_so c.args.board.shape.now (g.G.Gate.answers gate by) (g.G.Gate.hears gate by) c.args.turns (c.loop-made.made + 1) _ begun now _ whys.Life _ c.whole_turn-end.result.0.told _
+    (seated_as e.hart.0 e.hart.1 (λ s x. seated s (known x.seats) x.doze x.run)) e.end.0 e.end.1 e.end.2
+    (ended_life c.args.board.shape.now (g.G.Gate.answers gate by) (g.G.Gate.hears gate by) c.args.turns c.loop-made.made begun (seated r.hart (known r.local.seats) r.local.doze r.local.run) now t.result.0.word t.result.0.told i.turns t.ensures.once off said heard)
 
 -- ---- it made all its turns
 pub end-requires-2-clause-receipt : goal.end-requires-2-clause-receipt
@@ -242,12 +242,12 @@ returns-clause-noted g c = as_both_were c.end-2.ensures.hart.1 c.end-2.ensures.e
 pub returns-clause-once : goal.returns-clause-once
 returns-clause-once g c =
     let e = c.end-2.ensures in let gate = c.args.gate.now in let by = c.args.hart.id in let l = c.loop-made.run.local in
-    let begun = seated c.args.hart (known c.args.local.seats) c.args.local.doze c.args.local.run c.args.local.refused in
-    let now = seated c.loop-made.run.hart (known l.seats) l.doze l.run l.refused in
+    let begun = seated c.args.hart (known c.args.local.seats) c.args.local.doze c.args.local.run in
+    let now = seated c.loop-made.run.hart (known l.seats) l.doze l.run in
     let all : c.loop-made.made ≡ c.args.turns = omega arith in
-    said_so c.args.board.shape.now g.J.Journal.memory (g.G.Gate.answers gate by) (g.G.Gate.hears gate by) c.args.turns c.args.turns _ begun now _ whys.Turns _ None _
-    (seated_as e.hart.0 e.hart.1 (λ s x. seated s (known x.seats) x.doze x.run x.refused)) e.end.0 e.end.1 e.end.2
-    (subst (λ (n : ℕ). TurnsOn c.args.board.shape.now g.J.Journal.memory (g.G.Gate.answers gate by) (g.G.Gate.hears gate by) n begun now) all c.loop-made.invariant.turns, refl, refl)
+    said_so c.args.board.shape.now (g.G.Gate.answers gate by) (g.G.Gate.hears gate by) c.args.turns c.args.turns _ begun now _ whys.Turns _ None _
+    (seated_as e.hart.0 e.hart.1 (λ s x. seated s (known x.seats) x.doze x.run)) e.end.0 e.end.1 e.end.2
+    (subst (λ (n : ℕ). TurnsOn c.args.board.shape.now (g.G.Gate.answers gate by) (g.G.Gate.hears gate by) n begun now) all c.loop-made.invariant.turns, refl, refl)
 
 pub look-requires-clause-few : goal.look-requires-clause-few
 look-requires-clause-few g c κs within = few_asked c.loop-made.run.asked c.loop-made.made c.args.turns c.loop-made.invariant.asked c.loop-made-test.true c.ranges.turns.fits

@@ -13,7 +13,7 @@ returns-in-Durable-clause-stands g c =
 pub returns-in-Durable-clause-once : goal.returns-in-Durable-clause-once
 returns-in-Durable-clause-once g c =
     let m = c.call_locked in let a = c.args.local in let b = m.result.local in
-    held_comes c.args.board.shape.now c.args.hart.now m.new.hart (known a.seats) (known b.seats) a.doze b.doze a.run b.run a.refused b.refused c.args.turned m.result.word m.result.told c.in-Durable.is m.ensures.once m.ensures.told m.ensures.doze m.ensures.took m.ensures.refused
+    held_comes c.args.board.shape.now c.args.hart.now m.new.hart (known a.seats) (known b.seats) a.doze b.doze a.run b.run c.args.turned m.result.word m.result.told c.in-Durable.is m.ensures.once m.ensures.told m.ensures.doze m.ensures.took
 
 pub returns-in-Made-clause-gives : goal.returns-in-Made-clause-gives
 returns-in-Made-clause-gives g c = gives_none c.args.board.tables.now c.args.hart.now.id c.args.local.seats c.requires.seats
@@ -21,7 +21,7 @@ returns-in-Made-clause-gives g c = gives_none c.args.board.tables.now c.args.har
 pub returns-in-Made-clause-once : goal.returns-in-Made-clause-once
 returns-in-Made-clause-once g c =
     let l = c.args.local in
-    made_comes c.args.board.shape.now (seated c.args.hart.now (known l.seats) l.doze l.run l.refused) c.args.turned c.in-Made.did c.in-Made.is
+    made_comes c.args.board.shape.now (seated c.args.hart.now (known l.seats) l.doze l.run) c.args.turned c.in-Made.did c.in-Made.is
 
 pub call_locked-requires-clause-tables : goal.call_locked-requires-clause-tables
 call_locked-requires-clause-tables g c κs within = c.requires.tables

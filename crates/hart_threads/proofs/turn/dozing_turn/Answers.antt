@@ -2,7 +2,7 @@ use Rattle.std.proofs.Common.{refl}
 use Rattle.hart_threads.proofs.turn.dozing_turn.Goals as goal
 
 pub returns-clause-once : goal.returns-clause-once
-returns-clause-once g c = c.doze_turn-seats.ensures.once c.args.local.refused
+returns-clause-once g c = c.doze_turn-seats.ensures.once
 
 pub doze_turn-seats-requires-clause-seats : goal.doze_turn-seats-requires-clause-seats
 doze_turn-seats-requires-clause-seats g c = c.requires.seated.0

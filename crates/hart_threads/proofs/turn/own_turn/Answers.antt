@@ -43,19 +43,16 @@ returns-clause-once g c =
     let t = c.turn_by_bus-seats in
     let turn = t.ensures.turns in
     let shape = c.args.board.shape.now in
-    let took = turned_bus shape c.args.hart.now t.new.hart turn.0 turn.1 g.J.Journal.memory (known c.args.local.seats) (known t.result.0) t.result.1 c.args.local.run (part_in t.new.bus.run) _ turn.2 turn.3 (λ same. ap (λ b. part_in b.run) same) in
+    let took = turned_bus shape c.args.hart.now t.new.hart turn.0 turn.1 (known c.args.local.seats) (known t.result.0) t.result.1 c.args.local.run (part_in t.new.bus.run) _ _ turn.2 turn.3 (λ same. ap (λ b. part_in b.run) same) in
     let now = c.held_part-run in (
       turn.0,
       turn.1,
       t.result.1,
-      seated t.new.hart (known t.result.0) None now.result c.args.local.refused,
+      seated t.new.hart (known t.result.0) None now.result,
       turn.2,
       c.came_of-end.ensures.once,
       refl,
-      subst (λ (d : PartView BusTurn). TurnsBus turn.2.0 c.args.local.run d turn.0 turn.1) (sym now.ensures) took.0,
-      took.1,
-      took.2,
-      refl,
+      subst (λ (d : PartView BusTurn). TurnsBus turn.2.0 c.args.local.run d turn.0 turn.1) (sym now.ensures) took,
     )
 
 pub turn_by_bus-seats-requires-clause-tables : goal.turn_by_bus-seats-requires-clause-tables

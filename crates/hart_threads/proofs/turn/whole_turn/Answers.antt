@@ -21,12 +21,12 @@ returns-in-Some-clause-noted g c =
 pub returns-in-Some-clause-once : goal.returns-in-Some-clause-once
 returns-in-Some-clause-once g c =
     let t = c.dozing_turn-end in let a = c.args.local in let b = t.result.local in
-    dozed c.args.board.shape.now g.J.Journal.memory c.args.hart.now (known a.seats) a.doze c.in-Some.doze a.run a.refused (seated t.new.hart (known b.seats) b.doze b.run b.refused) t.result.word t.result.told c.in-Some.is t.ensures.once t.ensures.noted.1
+    dozed c.args.board.shape.now c.args.hart.now (known a.seats) a.doze c.in-Some.doze a.run (seated t.new.hart (known b.seats) b.doze b.run) t.result.word t.result.told c.in-Some.is t.ensures.once t.ensures.noted.1
 
 pub returns-clause-once : goal.returns-clause-once
 returns-clause-once g c =
     let t = c.own_turn-end in let a = c.args.local in let b = t.result.0.local in
-    undozed c.args.board.shape.now g.J.Journal.memory c.args.hart.now (known a.seats) a.doze a.run a.refused (seated t.new.hart (known b.seats) b.doze b.run b.refused) t.result.0.word t.result.0.told c.in_default.is t.ensures.once
+    undozed c.args.board.shape.now c.args.hart.now (known a.seats) a.doze a.run (seated t.new.hart (known b.seats) b.doze b.run) t.result.0.word t.result.0.told c.in_default.is t.ensures.once
 
 pub own_turn-end-requires-clause-tables : goal.own_turn-end-requires-clause-tables
 own_turn-end-requires-clause-tables g c κs within = c.requires.tables

@@ -1,13 +1,9 @@
 use Rattle.std.proofs.Common.{◌∙◌, ℕ, ap}
 use Rattle.tallies.specs.Books.{fresh_from}
 use Rattle.hart_threads.specs.Bused.{WasTold}
-use Rattle.hart_threads.specs.Runs.{StepsMake}
 use Rattle.hart_threads.specs.declared.bus_turns.BusTurn.{BusTurn}
 use Rattle.tests.proofs.Empty.{none_carried}
 use Rattle.tests.proofs.boards.shared.Goals as goal
-
-pub new-whole-requires-clause-carried : goal.new-whole-requires-clause-carried
-new-whole-requires-clause-carried g c κs within = none_carried (StepsMake g.J.Journal.memory) _ c.requires.begun.1 c.requires.begun.2
 
 pub new-whole-requires-clause-unsaved : goal.new-whole-requires-clause-unsaved
 new-whole-requires-clause-unsaved g c κs within = λ told. none_carried (WasTold told) _ c.requires.begun.1 c.requires.begun.2

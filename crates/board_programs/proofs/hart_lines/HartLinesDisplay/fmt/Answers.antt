@@ -3,12 +3,12 @@ use Rattle.std.proofs.lemmas.Grind.{flat_map-append, put_two}
 use Rattle.std.proofs.lemmas.List.{append-nil, take_more}
 use Rattle.std.specs.Fmt.{HasWritten, IsPlainFormatter}
 use Rattle.std.specs.List.{flat_map}
-use Rattle.hart_threads.specs.Ends.{Ending}
+use Rattle.hart_threads.specs.declared.ends.HartEnd.{HartEnd}
 use Rattle.board_programs.specs.HartTexts.{line_text}
 use Rattle.board_programs.proofs.hart_lines.HartLinesDisplay.fmt.Goals as goal
 
 -- the lines of one hart more
-one_more : (f : Ending → List ℕ) (es : List Ending) (i : ℕ) (e : Ending) → i < length es → e ≡ get_or es i e → flat_map f (take i es) ++ f e ≡ flat_map f (take (i + 1) es)
+one_more : (f : HartEnd → List ℕ) (es : List HartEnd) (i : ℕ) (e : HartEnd) → i < length es → e ≡ get_or es i e → flat_map f (take i es) ++ f e ≡ flat_map f (take (i + 1) es)
 one_more f es i e lt is =
     ap (λ (text : List ℕ). flat_map f (take i es) ++ text) (ap f is ∙ sym (append-nil (f (get_or es i e))))
     ∙ sym (ap (flat_map f) (take_more es i e lt) ∙ flat_map-append f (take i es) (get_or es i e ∷ []))

@@ -10,7 +10,6 @@ invariant_of-self g c =
     let old = c.args.self.now in
     let left : Bus = record { ram = old.bus.ram; doze = c.doze_left-self.result } in
     record {
-      run = old.run;
       made = more (g.J.Journal.size.harts + 2) c.args.part.who (bus_turn g.A.Remembers.found left) old.keeper.log old.keeper.parts c.note_turn-part.new.keeper (begun_bus g.J.Journal.memory) old.bus left old.made c.requires.before refl c.note_turn-part.ensures.keeper;
     }
 

@@ -3,7 +3,6 @@ use Rattle.susp.specs.declared.buses.Bus.{Bus}
 use Rattle.tallies.specs.Books.{told_after}
 use Rattle.hart_threads.specs.Bused.{begun_bus, bus_turn}
 use Rattle.hart_threads.proofs.Bussing.{more}
-use Rattle.hart_threads.proofs.Carrying.{state_determines_step}
 use Rattle.hart_threads.proofs.buses.SharedBus.step.Goals as goal
 
 pub invariant_of-self : goal.invariant_of-self
@@ -11,14 +10,8 @@ invariant_of-self g c =
     let old = c.args.self.now in
     let left : Bus = record { ram = c.step-outcome.new.ram; doze = old.bus.doze } in
     record {
-      run = state_determines_step g.J.Journal.memory old.bus.ram c.step-outcome.new.ram _ _ _ _ old.run c.step-outcome.ensures;
       made = more (g.J.Journal.size.harts + 2) c.args.part.who (bus_turn g.A.Remembers.found left) old.keeper.log old.keeper.parts c.note_turn-part.new.keeper (begun_bus g.J.Journal.memory) old.bus left old.made c.requires.before refl c.note_turn-part.ensures.keeper;
     }
-
-pub returns-clause-left : goal.returns-clause-left
-returns-clause-left g c =
-    let old = c.args.self.now in
-    state_determines_step g.J.Journal.memory old.bus.ram c.step-outcome.new.ram _ _ _ _ old.run c.step-outcome.ensures
 
 pub returns-clause-noted : goal.returns-clause-noted
 returns-clause-noted g c =

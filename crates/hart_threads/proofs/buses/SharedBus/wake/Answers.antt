@@ -1,10 +1,9 @@
-use Rattle.std.proofs.Common.{◌≡◌, ◌+◌, ◌∙◌, ℕ, suc, true, length, List, Option, refl, sym, ap, subst}
+use Rattle.std.proofs.Common.{◌≡◌, ◌+◌, ◌∙◌, suc, true, length, Option, refl, sym, ap, subst}
 use Rattle.susp.specs.Dozes.{can_wake}
 use Rattle.susp.specs.declared.buses.Bus.{Bus}
 use Rattle.tallies.specs.Books.{told_after}
 use Rattle.tallies.specs.declared.book_views.PartView.{PartView}
 use Rattle.hart_threads.specs.Bused.{AreWakes, Made, begun_bus, bus_turn, part_in}
-use Rattle.hart_threads.specs.Runs.{StepsMake}
 use Rattle.hart_threads.specs.declared.bus_turns.BusTurn.{BusTurn}
 use Rattle.hart_threads.proofs.Bussing.{more}
 use Rattle.hart_threads.proofs.Waking.{holds_part, holds_some, woken_more}
@@ -18,7 +17,6 @@ invariant_of-self-2 g c =
     let old = c.args.self.now in
     let left = c.wake.new.bus in
     record {
-      run = subst (λ (m : List ℕ). StepsMake g.J.Journal.memory m) (sym c.wake.ensures.ram) old.run;
       made = more (g.J.Journal.size.harts + 2) c.held_part-part.result.who (bus_turn g.A.Remembers.found left) old.keeper.log old.keeper.parts c.note_turn-part.new.keeper (begun_bus g.J.Journal.memory) old.bus left old.made c.requires.before refl c.note_turn-part.ensures.keeper;
     }
 
@@ -27,7 +25,6 @@ pub invariant_of-self : goal.invariant_of-self
 invariant_of-self g c =
     let old = c.args.self.now in
     record {
-      run = subst (λ (m : List ℕ). StepsMake g.J.Journal.memory m) (sym c.wake.ensures.ram) old.run;
       made = subst (λ (b : Bus). Made old.keeper.log (begun_bus g.J.Journal.memory) b) (sym c.in_err-wake.ensures.refused.1) old.made;
     }
 

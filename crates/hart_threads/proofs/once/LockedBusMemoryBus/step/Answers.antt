@@ -8,4 +8,4 @@ pub returns : goal.returns
 returns g c =
     let e = c.step-outcome.ensures in
     let part = c.held_part-part.ensures ∙ ap part_in c.take.ensures.value in
-    (e.0, e.1, (e.2, e.3, subst (λ (d : PartView BusTurn). StepsBus d c.step-outcome.result.1 e.0 e.1) part e.4), e.5)
+    (e.0, e.1, subst (λ (d : PartView BusTurn). StepsBus d c.step-outcome.result.1 e.0 e.1) part e.2, e.3)

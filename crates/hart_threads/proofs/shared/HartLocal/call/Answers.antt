@@ -5,7 +5,6 @@ use Rattle.susp.specs.declared.buses.Doze.{Doze}
 use Rattle.hart_threads.specs.Looks.{doze_by}
 use Rattle.hart_threads.specs.Threads.{IsDozeBy}
 use Rattle.hart_threads.proofs.Holding.{held_once}
-use Rattle.hart_threads.proofs.Refusing.{denied}
 use Rattle.hart_threads.proofs.shared.HartLocal.call.Goals as goal
 
 pub returns-clause-once : goal.returns-clause-once
@@ -20,11 +19,6 @@ returns-clause-doze g c =
     let made = held_once (harts_of_both c.args.board.tables.now) c.args.board.shape.now (call_of c.args.hart.now) c.args.hart.now d.new.hart (known c.args.self.seats) (known d.result.0) _ _ _ _ d.result.1
     c.requires.tables (d.ensures.board ∙ sym c.requires.board) d.ensures.makes in
     subst (λ (o : Option Doze). IsDozeBy c.args.board.shape.now (call_of c.args.hart.now) c.args.hart.now.id d.result.1 o) (sym (c.doze_by-doze.ensures ∙ ap (λ (o : Option Doze). doze_by d.result.1 o) c.doze-found.ensures)) made.doze
-
-pub returns-clause-denied : goal.returns-clause-denied
-returns-clause-denied g c = λ finds.
-    let d = c.call-seats in
-    denied (harts_of_both c.args.board.tables.now) (call_of c.args.hart.now) c.args.hart.now d.new.hart (known c.args.self.seats) (known d.result.0) _ _ _ _ d.result.1 d.ensures.makes finds
 
 pub returns-clause-took : goal.returns-clause-took
 returns-clause-took g c =

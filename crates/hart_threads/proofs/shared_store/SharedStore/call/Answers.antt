@@ -35,7 +35,7 @@ invariant_of-self g c =
     let before = old.counted in
     let kept = subst (λ (w : Word). AreKept size g.J.Journal.found g.J.Journal.earlier g.J.Journal.moment (length g.J.Journal.issued) (journal_of d.new.store) (doubt_of d.new.store) (disk_of d.new.store) (moments_by w (disk_of d.new.store).moment old.moments.at)) c.in-Goes.is
     (held_kept g.J.Journal.found size g.J.Journal.earlier g.J.Journal.moment (length g.J.Journal.issued) old.store d.new.store old.moments.at old.named (g.met.D.Disk.only_now _) old.kept (harts_of_both c.args.tables.now) call c.args.hart.now d.new.hart (known c.args.seats) (known d.result.0) c.args.bus.now.bus d.new.self.bus d.result.1 d.ensures.makes) in
-    record { named = m.named; issued = begins_still g.J.Journal.issued (journal_of old.store) (journal_of d.new.store) old.issued same; carried = d.ensures.carried; there = refl; saved = d.ensures.saved; counted = omega (arith, before, as_long); few = old.few; tied = ap entries_in same ∙ old.tied; none = old.none; opened = h.opened ∙ old.opened; doubted = noted_on size (doubt_of old.store) (doubt_of d.new.store) c.in_doubt.result old.doubts c.note.new.self c.in_doubt.ensures h.turns old.doubted noted; kept = kept }
+    record { named = m.named; issued = begins_still g.J.Journal.issued (journal_of old.store) (journal_of d.new.store) old.issued same; there = refl; saved = d.ensures.saved; counted = omega (arith, before, as_long); few = old.few; tied = ap entries_in same ∙ old.tied; none = old.none; opened = h.opened ∙ old.opened; doubted = noted_on size (doubt_of old.store) (doubt_of d.new.store) c.in_doubt.result old.doubts c.note.new.self c.in_doubt.ensures h.turns old.doubted noted; kept = kept }
 
 pub last_entry-requires-after_bounds : goal.last_entry-requires-after_bounds
 last_entry-requires-after_bounds g c κs within =
@@ -86,7 +86,7 @@ invariant_of-self-in-Over g c =
     let tied = tied_after size call by end (journal_of old.store) (journal_of d.new.store) grown old.keeper.log (old.count + 1) c.in-Some.entry c.args.part.who c.in-Some.ensures.some old.tied
     ∙ ap (λ (e : Entry). entries_of ((c.args.part.who, e) ∷ old.keeper.log)) (sym entry)
     ∙ sym (ap (λ (v : BookView Entry). entries_of v.log) note.keeper) in
-    record { named = m.named; issued = begins_longer size call by end (journal_of old.store) (journal_of d.new.store) grown g.J.Journal.issued old.issued; carried = d.ensures.carried; there = refl; saved = d.ensures.saved; counted = omega (arith, longer, before); few = omega (arith, few, before); tied = tied; none = ap (λ (v : BookView Entry). length v.parts) note.keeper ∙ old.none; opened = h.opened ∙ old.opened; doubted = noted_on size (doubt_of old.store) (doubt_of d.new.store) c.in_doubt.result old.doubts c.note.new.self c.in_doubt.ensures h.turns old.doubted noted; kept = kept }
+    record { named = m.named; issued = begins_longer size call by end (journal_of old.store) (journal_of d.new.store) grown g.J.Journal.issued old.issued; there = refl; saved = d.ensures.saved; counted = omega (arith, longer, before); few = omega (arith, few, before); tied = tied; none = ap (λ (v : BookView Entry). length v.parts) note.keeper ∙ old.none; opened = h.opened ∙ old.opened; doubted = noted_on size (doubt_of old.store) (doubt_of d.new.store) c.in_doubt.result old.doubts c.note.new.self c.in_doubt.ensures h.turns old.doubted noted; kept = kept }
 
 pub returns-in-Some-clause-told : goal.returns-in-Some-clause-told
 returns-in-Some-clause-told g c =

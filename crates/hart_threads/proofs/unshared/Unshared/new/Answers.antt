@@ -90,7 +90,6 @@ invariant_of-whole g c = record {
     };
   };
   issued = begins_same g.J.Journal.issued (journal_of c.args.store) c.requires.issued;
-  carried = c.requires.carried;
   there = refl;
   saved =
       let own = c.hand_out-own.ensures.part ∙ ap (λ (ds : List (PartView BusTurn)). first_of ds) (c.requires.bus ∙ two_more g.J.Journal.size.harts) in
