@@ -4,9 +4,8 @@ use Rattle.std.specs.Fmt.{decimal}
 use Rattle.hsm.specs.declared.state.State.{State}
 use Rattle.hsm.specs.declared.state.State.TheVariants as states
 use Rattle.board_model.specs.Texts.{hex_text}
+use Rattle.board_model.specs.declared.durable.Entry.{Entry}
 use Rattle.hart_threads.specs.declared.ends.HartEnd.{HartEnd}
-use Rattle.hart_threads.specs.declared.ends.ShutBy.{ShutBy}
-use Rattle.hart_threads.specs.declared.ends.ShutBy.TheVariants.{Life, Console}
 use Rattle.hart_threads.specs.declared.loops.Why.{Why}
 use Rattle.hart_threads.specs.declared.loops.Why.TheVariants as whys
 use lib.Chars.{codes}
@@ -21,17 +20,16 @@ abbrev pub doze_text : Bool → List ℕ
 doze_text false = []
 doze_text true = codes " dozing"
 
--- by the end of the life, by the gate, which the console shuts, or with its turns
-abbrev pub shut_text : Option ShutBy → List ℕ
-shut_text (Some (Life n entry)) = codes "life"
-shut_text (Some Console) = codes "quit"
+-- by a command that ended the life, its own or another hart's, by the gate or the console, or with its turns
+abbrev pub shut_text : Option (ℕ × Entry) → List ℕ
+shut_text (Some over) = codes "life"
 shut_text None = codes "quit"
 
-abbrev pub reason_text : Why → Option ShutBy → List ℕ
-reason_text whys.Life by = codes "life"
-reason_text whys.Closed by = shut_text by
-reason_text whys.Gate by = codes "quit"
-reason_text whys.Turns by = codes "turns"
+abbrev pub reason_text : Why → Option (ℕ × Entry) → List ℕ
+reason_text whys.Life over = codes "life"
+reason_text whys.Closed over = shut_text over
+reason_text whys.Gate over = codes "quit"
+reason_text whys.Turns over = codes "turns"
 
 abbrev pub value_text : ℕ → List ℕ
 value_text v = codes "0x" ++ hex_text 16 v
@@ -47,8 +45,8 @@ trap_text pc scause sepc stval =
     ++ codes " stval " ++ value_text stval
 
 -- how many turns it made, and why its loop ended
-abbrev pub loop_text : ℕ → Why → Option ShutBy → List ℕ
-loop_text made why by = codes "turns " ++ decimal made ++ codes " ended " ++ reason_text why by
+abbrev pub loop_text : ℕ → Why → Option (ℕ × Entry) → List ℕ
+loop_text made why over = codes "turns " ++ decimal made ++ codes " ended " ++ reason_text why over
 
 -- a line of these three, with its line feed
 abbrev pub line_of : List ℕ → List ℕ → List ℕ → List ℕ
@@ -58,7 +56,7 @@ line_of place trap end = codes "sbiboard: " ++ (place ++ (codes " " ++ (trap ++ 
 abbrev pub line_text : HartEnd → List ℕ
 line_text e =
     line_of (place_text e.hart.id e.state (is_some e.doze)) (trap_text e.hart.pc e.hart.scause e.hart.sepc e.hart.stval)
-    (loop_text e.made e.why e.by)
+    (loop_text e.made e.why e.over)
 
 -- their lines, in order
 abbrev pub lines_text : List HartEnd → List ℕ

@@ -5,9 +5,9 @@ ghost use Rattle.hart.specs.Csrs.{csr_number, csr_read};
 ghost use Rattle.hart.specs.declared.csr.Csr.{Csr};
 ghost use Rattle.board_programs.specs.HartTexts.{doze_text, line_text, lines_text, loop_text, place_text, reason_text, state_text, trap_text};
 
-use board_model::Value;
+use board_model::{Entry, Value};
 use hart::Hart;
-use hart_threads::{HartEnd, ShutBy, Why};
+use hart_threads::{HartEnd, Why};
 use hsm::State;
 use rv_decode::{CsrNumber, SCAUSE, SEPC, STVAL};
 use std::fmt;
@@ -45,9 +45,9 @@ impl fmt::Display for DozeName {
     }
 }
 
-/// Why a loop ended.
+/// Why a loop ended, and the command that ended the life, where one ended the loop.
 #[derive(Drop)]
-struct ShutReason(Why, Option<ShutBy>);
+struct ShutReason(Why, Option<(u32, Entry)>);
 
 impl fmt::Display for ShutReason {
     ghost output = { λ r. Some (reason_text r.0 r.1) };
@@ -58,8 +58,8 @@ impl fmt::Display for ShutReason {
             Why::Gate => f.write_str("quit"),
             Why::Turns => f.write_str("turns"),
             Why::Closed => match self.1 {
-                Some(ShutBy::Life(_, _)) => f.write_str("life"),
-                Some(ShutBy::Console) | None => f.write_str("quit"),
+                Some(_) => f.write_str("life"),
+                None => f.write_str("quit"),
             },
         }
     }
@@ -110,14 +110,14 @@ impl fmt::Display for Trap {
 struct LoopEnd {
     made: u64,
     why: Why,
-    by: Option<ShutBy>,
+    over: Option<(u32, Entry)>,
 }
 
 impl fmt::Display for LoopEnd {
-    ghost output = { λ l. Some (loop_text l.made l.why l.by) };
+    ghost output = { λ l. Some (loop_text l.made l.why l.over) };
 
     fn fmt<W: fmt::Write>(&self, f: &mut fmt::Formatter<W>) -> fmt::Result {
-        let (made, why) = (self.made, ShutReason(self.why, self.by));
+        let (made, why) = (self.made, ShutReason(self.why, self.over));
         write!(f, "turns {made} ended {why}")
     }
 }
@@ -159,12 +159,12 @@ fn trap_of(hart: &Hart) -> Trap
 fn loop_end_of(end: &HartEnd) -> LoopEnd
     ensures made { result.made ≡ end.now.made }
     ensures why { result.why ≡ end.now.why }
-    ensures by { result.by ≡ end.now.by }
+    ensures over { result.over ≡ end.now.over }
 {
     LoopEnd {
         made: end.made,
         why: end.why,
-        by: end.by,
+        over: end.over,
     }
 }
 

@@ -1,7 +1,7 @@
 -- The parts of a history that has ended, and what they say of it.
 use Rattle.std.proofs.Common.{◌≡◌, ◌∙◌, ◌+◌, ℕ, suc, Bool, true, false, List, [], ◌∷◌, ◌++◌, ◌==◌, All, Option, Some, length, if◌then◌else◌, inl, inr, refl, sym, ap, subst}
 use Rattle.std.proofs.Math.Logic.{∥∥₁_map, ∥∥₁_map₂}
-use Rattle.board_model.specs.Durable.{DurableState, Change}
+use Rattle.board_model.specs.Durable.{Change}
 use Rattle.board_model.specs.Shapes.{Size}
 use Rattle.machine.specs.Machine.{Machine}
 use Rattle.store.specs.Lives.{Life}
@@ -47,27 +47,27 @@ one_of P d (p ∷ ps) (inr rest) all = one_of P d ps rest all.1
 part_is : (log : Log BusTurn) (d : PartView BusTurn) (k : ℕ) → IsPart log d → d.who ≡ k → d ≡ part_view k (told_by k log)
 part_is log d k is who = let told : d.told ≡ told_by k log = is ∙ ap (λ (j : ℕ). told_by j log) who in λ i. record { who = who i; told = told i }
 
-module _ (machine : Machine) (turns : ℕ) (found : DurableState) (gated : Bool) (parting : AfterConsole) where
+module _ (machine : Machine) (turns : ℕ) (gated : Bool) (parting : AfterConsole) where
   -- one more is back
-  pub one_with : (d : PartView BusTurn) (parts : List (PartView BusTurn)) (e : HartEnd) → IsEnding machine turns found gated parting d e → EndsWith machine turns found gated parting (d ∷ parts) e
+  pub one_with : (d : PartView BusTurn) (parts : List (PartView BusTurn)) (e : HartEnd) → IsEnding machine turns gated parting d e → EndsWith machine turns gated parting (d ∷ parts) e
   one_with d parts e is = (d, inl refl, is)
 
-  pub ends_with : (d : PartView BusTurn) (parts : List (PartView BusTurn)) (es : List HartEnd) → All (EndsWith machine turns found gated parting parts) es → All (EndsWith machine turns found gated parting (d ∷ parts)) es
+  pub ends_with : (d : PartView BusTurn) (parts : List (PartView BusTurn)) (es : List HartEnd) → All (EndsWith machine turns gated parting parts) es → All (EndsWith machine turns gated parting (d ∷ parts)) es
   ends_with d parts es all = λ k e lt. let is = all k e lt in (is.0, inr is.1, is.2)
 
   -- all are
   abbrev pub EndedBy : Log BusTurn → HartEnd → Type 0
-  EndedBy log e = IsEnding machine turns found gated parting (took_by log e.hart.id) e
+  EndedBy log e = IsEnding machine turns gated parting (took_by log e.hart.id) e
 
-  ends_by : (log : Log BusTurn) (d : PartView BusTurn) (e : HartEnd) → IsPart log d → IsEnding machine turns found gated parting d e → IsEnding machine turns found gated parting (took_by log e.hart.id) e
+  ends_by : (log : Log BusTurn) (d : PartView BusTurn) (e : HartEnd) → IsPart log d → IsEnding machine turns gated parting d e → IsEnding machine turns gated parting (took_by log e.hart.id) e
   ends_by log d e is ending = (
     ending.0,
     ∥∥₁_map ending.1 (λ (of : IsOfHart machine turns d e).
         let so : IsOfHart machine turns (took_by log e.hart.id) e = subst (λ (p : PartView BusTurn). IsOfHart machine turns p e) (part_is log d (part_of_hart e.hart.id) is (hart_whose machine turns d e of)) of in so),
   )
 
-  pub all_ends_by : (log : Log BusTurn) (parts : List (PartView BusTurn)) (es : List HartEnd) → Each (IsPart log) parts → All (EndsWith machine turns found gated parting parts) es
-      → All (λ e. IsEnding machine turns found gated parting (took_by log e.hart.id) e) es
+  pub all_ends_by : (log : Log BusTurn) (parts : List (PartView BusTurn)) (es : List HartEnd) → Each (IsPart log) parts → All (EndsWith machine turns gated parting parts) es
+      → All (λ e. IsEnding machine turns gated parting (took_by log e.hart.id) e) es
   all_ends_by log parts es told all = λ k e lt. let is = all k e lt in ends_by log is.0 _ (one_of (IsPart log) is.0 parts is.1 told) is.2
 
 -- ---- a memory that a part was told

@@ -1,5 +1,5 @@
 -- A session of a board that was on.
-use Rattle.std.proofs.Common.{◌≡◌, ◌⊎◌, ◌≤◌, ℕ, Bool, List, Option, Some, None, inl, inr, arith, subst, sym}
+use Rattle.std.proofs.Common.{◌≡◌, ◌⊎◌, ◌≤◌, ℕ, Bool, List, Option, Some, inl, inr, arith, subst, sym}
 use Rattle.std.proofs.Math.Logic.{∥∥₁_map}
 use Rattle.board_model.specs.Durable.{DurableState, Change}
 use Rattle.board_model.specs.Shapes.{Size}
@@ -15,7 +15,7 @@ use Rattle.board_session.specs.Dialogues.{DialogueEnds, Talks, dialogue_ends}
 use Rattle.board_session.specs.declared.talks.Left.{Left}
 use Rattle.hart_threads.specs.declared.ends.HartEnd.{HartEnd}
 use Rattle.board_session.specs.Histories.{HasHistory}
-use Rattle.board_session.specs.Sessions.{RunsOver, Begins, IsOfLife, TalksIf, AreByLast, RanOver, LeftBefore, said_since}
+use Rattle.board_session.specs.Sessions.{RunsOver, Begins, IsOfLife, TalksIf, AreOfLife, RanOver, LeftBefore, said_since}
 
 -- what is said of the time before the boot says less
 or_else : (A B P : Type 0) → (A → B) → A ⊎ P → B ⊎ P
@@ -25,8 +25,8 @@ or_else A B P f (inr p) = inr p
 -- a life that has ended so, with the history of its bus
 abbrev HasEnded : Size → DurableState → List Change → ℕ → (ℕ → Content → Type 0) → ℕ → List ℕ → List (ℕ × Entry) → Hearing → Facts → Machine → ℕ → Option Left → List HartEnd → Type 0
 HasEnded size found issued failures earlier moment moments console heard disk machine turns left ends =
-    (life : IsOfLife size found issued failures earlier moment moments console heard.doubt disk) × AreByLast life.journal ends
-    × HasHistory size machine turns found life.journal life.doubt heard.woken left ends
+    (life : IsOfLife size found issued failures earlier moment moments console heard.doubt disk) × AreOfLife life.acknowledged.harts life.journal left ends
+    × HasHistory size machine turns life.journal life.doubt heard.woken left ends
 
 weaker : (size : Size) (found : DurableState) (issued : List Change) (failures : ℕ) (earlier said : ℕ → Content → Type 0) (moment from : ℕ) (moments : List ℕ) (console : List (ℕ × Entry)) (heard : Hearing) (disk : Facts) (machine : Machine) (turns : ℕ) (left : Option Left) (ends : List HartEnd)
     → from ≤ moment → ((t : ℕ) (c : Content) → t ≤ from → earlier t c → said t c)
@@ -98,7 +98,3 @@ pub talked : (found : DurableState) (issued : List Change) (left : Left) (a a' b
 talked found issued left a a' b b' o is given same talks =
     subst (λ (x : Option Left). TalksIf found issued x a' b') (sym is)
     (subst (λ (x : DialogueEnds). Talks found issued left a' x) (sym same) (subst (λ (x : DialogueEnds). Talks found issued left x b) given talks))
-
--- nothing was read or answered where it was not begun
-pub untalked : (found : DurableState) (issued : List Change) (a b : DialogueEnds) (o : Option Left) → o ≡ None → b ≡ a → TalksIf found issued o a b
-untalked found issued a b o is same = subst (λ (x : Option Left). TalksIf found issued x a b) (sym is) same

@@ -1,7 +1,7 @@
 -- The one history of the bus of a session, and what it has of each hart, of the store and of the console. Source: docs/THREADS.md,
 -- "The bus"; docs/CONSOLE.md.
 use Rattle.std.specs.Prelude.{◌≡◌, ◌⊎◌, ◌<◌, ◌+◌, ℕ, Bool, false, List, [], ◌∷◌, All, Option, Some, None, length}
-use Rattle.board_model.specs.Durable.{DurableState, Change}
+use Rattle.board_model.specs.Durable.{Change}
 use Rattle.board_model.specs.Shapes.{Size}
 use Rattle.machine.specs.Machine.{Machine}
 use Rattle.susp.specs.declared.buses.Bus.{Bus}
@@ -47,16 +47,16 @@ pub record IsHistory (size : Size) (memory : List ℕ) (journal : List Change) (
 -- turns that its loop made, and what the history has of it is what those turns did with the bus. It made all the turns that each hart is
 -- given, or a hart ended the life by a command that was acknowledged, or the console had left so that the harts are halted. Where the
 -- console was not begun there is no end of any.
-abbrev pub AreDriven : ℕ → Machine → ℕ → DurableState → Log BusTurn → Option Left → List HartEnd → Type 0
-AreDriven harts machine turns found log None ends = ends ≡ []
-AreDriven harts machine turns found log (Some left) ends =
+abbrev pub AreDriven : ℕ → Machine → ℕ → Log BusTurn → Option Left → List HartEnd → Type 0
+AreDriven harts machine turns log None ends = ends ≡ []
+AreDriven harts machine turns log (Some left) ends =
     (length ends ≡ harts) × AreNumberedFrom 0 ends
-    × All (λ e. IsEnding machine turns found false (harts_after left) (took_by log e.hart.id) e) ends
+    × All (λ e. IsEnding machine turns false (harts_after left) (took_by log e.hart.id) e) ends
 
 -- there is one such history, and it is the one of the harts
-abbrev pub HasHistory : Size → Machine → ℕ → DurableState → List Change → Option Change → ℕ → Option Left → List HartEnd → Type 0
-HasHistory size machine turns found journal doubt woken left ends =
-    (log : Log BusTurn) × AreDriven size.harts machine turns found log left ends
+abbrev pub HasHistory : Size → Machine → ℕ → List Change → Option Change → ℕ → Option Left → List HartEnd → Type 0
+HasHistory size machine turns journal doubt woken left ends =
+    (log : Log BusTurn) × AreDriven size.harts machine turns log left ends
     × ∥ IsHistory size machine.memory journal doubt woken log ∥₁
 
 -- ---- while its parts come back
@@ -66,9 +66,9 @@ IsOneOf d [] = ⊥
 IsOneOf d (p ∷ ps) = (p ≡ d) ⊎ IsOneOf d ps
 
 -- a loop ended so whose part is one of these
-abbrev pub EndsWith : Machine → ℕ → DurableState → Bool → AfterConsole → List (PartView BusTurn) → HartEnd → Type 0
-EndsWith machine turns found gated parting parts e =
-    (d : PartView BusTurn) × IsOneOf d parts × IsEnding machine turns found gated parting d e
+abbrev pub EndsWith : Machine → ℕ → Bool → AfterConsole → List (PartView BusTurn) → HartEnd → Type 0
+EndsWith machine turns gated parting parts e =
+    (d : PartView BusTurn) × IsOneOf d parts × IsEnding machine turns gated parting d e
 
 -- the history ended, with these parts of it: the store's, the console's, and others
 pub record EndsHistory (size : Size) (memory : List ℕ) (log : Log BusTurn) (store console : PartView BusTurn)

@@ -1,6 +1,6 @@
 -- What a session makes of its disk: over which disks its board runs, why it is refused before any thread, and
 -- what the disk that it gives back stands for. Source: docs/CONSOLE.md, "Statuses and faults".
-use Rattle.std.specs.Prelude.{◌≡◌, ◌⊎◌, ◌≤◌, ℕ, Bool, true, false, List, [], ◌∷◌, ◌++◌, All, Option, Some, None, Result, Ok, Err, length}
+use Rattle.std.specs.Prelude.{◌≡◌, ◌⊎◌, ◌≤◌, ℕ, Bool, true, false, List, [], ◌∷◌, ◌++◌, All, Option, Some, None, Result, Ok, Err, IfSome, length, map}
 use Rattle.std.specs.Option.{option_to_list}
 use Rattle.board_model.specs.Durable.{DurableState, Change, formatted, fold, refusal_of}
 use Rattle.board_model.specs.Shapes.{Size, sectors_of}
@@ -25,9 +25,8 @@ use Rattle.machine.specs.Machine.{Machine}
 use Rattle.tallies.specs.Closed.{AreReceiptsOf}
 use Rattle.hart_threads.specs.Noted.{boot_told, entries_in}
 use Rattle.hart_threads.specs.Threads.{ends_life}
+use Rattle.hart_threads.specs.Ends.{own_receipt}
 use Rattle.hart_threads.specs.declared.ends.HartEnd.{HartEnd}
-use Rattle.hart_threads.specs.declared.ends.ShutBy.{ShutBy}
-use Rattle.hart_threads.specs.declared.ends.ShutBy.TheVariants.{Life, Console}
 use Rattle.hart_threads.specs.Called.{IsLastOf}
 use Rattle.hart_threads.specs.Doubts.{IsDoubtOf}
 use Rattle.hart_threads.specs.Heard.{Hearing}
@@ -82,10 +81,10 @@ abbrev pub Begins : Bool → Size → Content → Size → DurableState → Type
 Begins true shape c size s = (size ≡ shape) × (s ≡ formatted)
 Begins false shape c size s = StandsFor c size s
 
--- the receipts of the harts, each of which has one at most
+-- the receipts of the harts, each of which has one at most, the last hart's first
 abbrev pub hart_receipts : List (Option (ℕ × Entry)) → List (ℕ × Entry)
 hart_receipts [] = []
-hart_receipts (told ∷ harts) = option_to_list told ++ hart_receipts harts
+hart_receipts (told ∷ harts) = hart_receipts harts ++ option_to_list told
 
 -- Who was told the receipts of a journal: the boot those of the commands that it issued, the console its own, and
 -- each hart of the board the one of the reset or suspension that ended the life, if it was told one. They are those of the
@@ -152,25 +151,22 @@ outcome_of (Some lefts.InputFailed) = Ok tt
 outcome_of (Some lefts.Unwritten) = Err Output
 
 -- ---- the harts of the session
--- where another hart ended the life, it was by that command
-abbrev pub IsBy : Option (ℕ × Entry) → Option ShutBy → Type 0
-IsBy last None = Unit {0}
-IsBy last (Some Console) = Unit {0}
-IsBy last (Some (Life n entry)) = last ≡ Some (n, entry)
+-- the command that ended its loop, its own or another hart's, is that one
+abbrev pub IsOver : Option (ℕ × Entry) → HartEnd → Type 0
+IsOver last e = IfSome e.over (λ t. last ≡ Some t)
 
--- the same of a journal: it was by its last command, which stands at that place
-abbrev pub IsByLast : List Change → Option ShutBy → Type 0
-IsByLast journal None = Unit {0}
-IsByLast journal (Some Console) = Unit {0}
-IsByLast journal (Some (Life n entry)) = IsLastOf journal n entry
-
-abbrev pub AreByLast : List Change → List HartEnd → Type 0
-AreByLast journal ends = All (λ e. IsByLast journal e.by) ends
+-- The ends of a session's harts are of that life: each hart was told the receipt that its end has of it, and no other; and the command that
+-- ended its loop, its own or another hart's, is the journal's last.
+abbrev pub AreOfLife : List (Option (ℕ × Entry)) → List Change → Option Left → List HartEnd → Type 0
+AreOfLife harts journal None ends = Unit {0}
+AreOfLife harts journal (Some left) ends =
+    (harts ≡ map own_receipt ends) × All (λ e. IfSome e.over (λ t. IsLastOf journal t.0 t.1)) ends
 
 -- The board was on, over a disk that allows it, with the memory and harts that the mode begins. The disk given back is
 -- that of the life that it then began; and what was read and answered is of that life, with its receipts, and with the refusals and
--- states that the console heard. Its bus has one history, of which the memory of each suspension was a moment. Its harts are those of the board that was on, were driven, and
--- ended so, with what that history has of them; where another hart ended the life, by the last command of its journal.
+-- states that the console heard. Its bus has one history, of which the memory of each suspension was a moment. Its harts are those of the
+-- board that was on, were driven, and ended so, with what that history has of them and the receipts that they were told; where a hart ended
+-- the life, by the last command of its journal.
 pub record RanOver (new : Bool) (shape : Size) (mode : BootMode) (payloads : List (List ℕ)) (turns : ℕ)
     (old disk : Facts) (moments : List ℕ) (left : Option Left) (a : DialogueEnds) (input output : Option (List ℕ))
     (heard : Hearing) (ends : List HartEnd) : Type 0 where
@@ -184,5 +180,5 @@ pub record RanOver (new : Bool) (shape : Size) (mode : BootMode) (payloads : Lis
   pub life : IsOfLife size found (commands_by mode found) old.failures (LeftBefore new old size found (commands_by mode found))
       (said_since new old) moments console heard.doubt disk
   pub talks : TalksIf found (commands_by mode found) left a (dialogue_ends input output (party console heard))
-  pub history : HasHistory size machine turns found life.journal life.doubt heard.woken left ends
-  pub ended : AreByLast life.journal ends
+  pub history : HasHistory size machine turns life.journal life.doubt heard.woken left ends
+  pub ended : AreOfLife life.acknowledged.harts life.journal left ends

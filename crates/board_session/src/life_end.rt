@@ -1,35 +1,35 @@
 //! The end of a life: the receipts that were told, and the disk.
 
-ghost use Rattle.std.specs.Prelude.{◌≡◌, ◌≤◌, ◌+◌, [], ◌∷◌, true, None, Some, All, length, vec_len, vec_capacity};
+ghost use Rattle.std.specs.Prelude.{◌≡◌, ◌≤◌, ◌+◌, [], ◌∷◌, true, None, Some, All, length, map, vec_len, vec_capacity};
 ghost use Rattle.store.specs.Leaves.{IsIdle};
 ghost use Rattle.store.specs.Taken.{are_taken};
 ghost use Rattle.store.specs.Views.{size_of_store, found_state, journal_of, life_of, doubt_of, failures_at_open, disk_of};
 ghost use Rattle.hart_threads.specs.Noted.{boot_told};
 ghost use Rattle.hart_threads.specs.Bused.{AreSaved, AreWakes};
 ghost use Rattle.hart_threads.specs.Views.{bus_parts, inside, moments_with, parts_with};
-ghost use Rattle.hart_threads.specs.Ends.{AreNumberedFrom, IsEnding};
+ghost use Rattle.hart_threads.specs.Ends.{AreNumberedFrom, IsEnding, own_receipt};
 ghost use Rattle.hart_threads.specs.declared.bus_turns.BusTurn.{BusTurn as TurnView};
 ghost use Rattle.tallies.specs.Logs.{Log};
 ghost use Rattle.board_session.specs.Backs.{AreBack};
 ghost use Rattle.board_session.specs.Histories.{EndsHistory, EndsWith};
-ghost use Rattle.board_session.specs.Sessions.{IsBy, IsOfLife};
+ghost use Rattle.board_session.specs.Sessions.{IsOfLife, IsOver};
 
 use board_model::Entry;
 use disk::Disk;
 use hart_threads::{
     BookPart, BusPart, HartEnd, HartLocal, HartParts, Heard, Moments, Parted, Rested, SharedBus,
-    ShutBy, Threaded, Unshared,
+    Threaded, Unshared,
 };
 use std::sync::Wait;
 use store::Store;
 
-/// Whether a loop that another hart's command ended was ended by this one.
-fn is_by(last: &Option<(u32, Entry)>, by: Option<ShutBy>) -> bool
-    ensures { result ≡ true → IsBy last.now by }
+/// Whether a loop that a command ended was ended by this one.
+fn is_over(last: &Option<(u32, Entry)>, end: &HartEnd) -> bool
+    ensures { result ≡ true → IsOver last.now end.now }
 {
-    match by {
-        Some(ShutBy::Life(number, entry)) => *last == Some((number, entry)),
-        Some(ShutBy::Console) | None => true,
+    match end.over {
+        Some(over) => *last == Some(over),
+        None => true,
     }
 }
 
@@ -44,11 +44,12 @@ fn end_of<'c, R: Wait, J: Threaded>(
     last: &Option<(u32, Entry)>,
 ) -> HartEnd
     ensures number { result.hart.id ≡ number }
-    ensures by { IsBy last.now result.by }
-    ensures well { IsEnding J.machine J.turns J.found J.gated parted.now.token.value rested.now.ended.local.run result }
+    ensures over { IsOver last.now result }
+    ensures told { own_receipt result ≡ rested.now.ended.told }
+    ensures well { IsEnding J.machine J.turns J.gated parted.now.token.value rested.now.ended.local.run result }
 {
     let end = rested.end(parted);
-    if end.hart.id().index() == number && is_by(last, end.by) {
+    if end.hart.id().index() == number && is_over(last, &end) {
         return end;
     }
     for _ in rt.forever() {}
@@ -67,17 +68,17 @@ pub(crate) fn ends_of<'c, R: Wait, D: Disk + Drop, J: Threaded>(
     room: Vec<HartEnd>,
     last: &Option<(u32, Entry)>,
 ) -> Vec<HartEnd>
-    requires back { AreBack (parts_with whole.old) }
+    requires none { length (parts_with whole.old) ≡ 0 }
     requires empty { vec_len room ≡ 0 }
     requires room { vec_len loops ≤ vec_capacity room }
     ensures store { inside whole.new ≡ inside whole.old }
     ensures moments { moments_with whole.new ≡ moments_with whole.old }
-    ensures back { AreBack (parts_with whole.new) }
-    ensures parts { length (parts_with whole.new) ≡ length (parts_with whole.old) + vec_len loops.entry }
+    ensures back { (back : AreBack (parts_with whole.new)) × (back.harts ≡ map own_receipt result.items) }
+    ensures parts { length (parts_with whole.new) ≡ vec_len loops.entry }
     ensures many { vec_len result ≡ vec_len loops.entry }
     ensures numbered { AreNumberedFrom 0 result.items }
-    ensures well { All (EndsWith J.machine J.turns J.found J.gated parted.now.token.value (bus_parts bus.new)) result.items }
-    ensures by { All (λ e. IsBy last.now e.by) result.items }
+    ensures well { All (EndsWith J.machine J.turns J.gated parted.now.token.value (bus_parts bus.new)) result.items }
+    ensures over { All (IsOver last.now) result.items }
 {
     let (mut loops, mut ends) = (loops, room);
     while let Some(rested) = loops.pop() {
@@ -108,7 +109,10 @@ pub(crate) fn end_history<J: Threaded>(bus: SharedBus<J>, runs: (BusPart<J>, Bus
 }
 
 /// The parts of loops that ended come back to the store.
-fn gather_loops<D: Disk + Drop, J: Threaded>(whole: &mut Unshared<D, J>, loops: Vec<Rested<'_, J>>)
+pub(crate) fn gather_loops<D: Disk + Drop, J: Threaded>(
+    whole: &mut Unshared<D, J>,
+    loops: Vec<Rested<'_, J>>,
+)
     requires back { AreBack (parts_with whole.old) }
     ensures store { inside whole.new ≡ inside whole.old }
     ensures moments { moments_with whole.new ≡ moments_with whole.old }
@@ -128,7 +132,10 @@ fn gather_loops<D: Disk + Drop, J: Threaded>(whole: &mut Unshared<D, J>, loops: 
 }
 
 /// Parts that were given to no loop come back to the store.
-fn gather_parts<D: Disk + Drop, J: Threaded>(whole: &mut Unshared<D, J>, parts: Vec<HartParts<J>>)
+pub(crate) fn gather_parts<D: Disk + Drop, J: Threaded>(
+    whole: &mut Unshared<D, J>,
+    parts: Vec<HartParts<J>>,
+)
     requires back { AreBack (parts_with whole.old) }
     requires fresh { All (λ p. p.receipts.told ≡ []) parts.items }
     ensures store { inside whole.new ≡ inside whole.old }
@@ -156,32 +163,27 @@ fn gather_last<D: Disk + Drop, J: Threaded>(
     whole.gather(boot);
 }
 
-/// The disk of a store whose life ends here, once the harts' parts, the console's and the boot's are back, and what the
+/// The disk of a store whose life ends here, once the harts' parts are back, and the console's and the boot's with them, and what the
 /// console heard; the moments of its receipts; and what the store and the console did with the bus.
 pub(crate) fn disk_of<D: Disk + Drop, J: Threaded>(
     whole: Unshared<D, J>,
-    loops: Vec<Rested<'_, J>>,
-    parts: Vec<HartParts<J>>,
     console: BookPart<J, Entry>,
     heard: Heard<J>,
     boot: BookPart<J, Entry>,
 ) -> (D, Moments, (BusPart<J>, BusPart<J>))
-    requires back { AreBack (parts_with whole) }
-    requires fresh { All (λ p. p.receipts.told ≡ []) parts.items }
-    requires harts { length (parts_with whole) + vec_len loops + vec_len parts ≡ J.size.harts }
+    requires harts { length (parts_with whole) ≡ J.size.harts }
     requires boot { boot.told ≡ boot_told J.issued }
     requires all { J.parts ≡ J.size.harts + 2 }
     ensures none_out { IsIdle (D.facts result.0) }
     ensures moments { result.1.at ≡ moments_with whole }
-    ensures life { (life : IsOfLife J.size J.found J.issued J.failures J.earlier J.moment result.1.at console.told
-        heard.doubt (D.facts result.0)) × (life.journal ≡ journal_of (inside whole))
-        × (life.doubt ≡ doubt_of (inside whole)) }
+    ensures life { (back : AreBack (parts_with whole))
+        → (life : IsOfLife J.size J.found J.issued J.failures J.earlier J.moment result.1.at console.told
+        heard.doubt (D.facts result.0)) × (life.acknowledged.harts ≡ back.harts)
+        × (life.journal ≡ journal_of (inside whole)) × (life.doubt ≡ doubt_of (inside whole)) }
     ensures saved { AreSaved (life_of (inside whole)) result.2.0 }
     ensures woken { AreWakes heard.woken result.2.1 }
 {
     let mut whole = whole;
-    gather_loops(&mut whole, loops);
-    gather_parts(&mut whole, parts);
     gather_last(&mut whole, console, boot);
     let (store, moments, runs) = whole.close(heard);
     (store.into_disk(), moments, runs)

@@ -28,12 +28,12 @@ ghost use Rattle.board_session.specs.Commands.{party};
 ghost use Rattle.board_session.specs.Dialogues.{Talks, dialogue_ends};
 ghost use Rattle.board_session.specs.Backs.{AreBack};
 ghost use Rattle.board_session.specs.Histories.{HasHistory, harts_after};
-ghost use Rattle.board_session.specs.Sessions.{TakesFormat, RunsOver, RefusesDisk, RefusesSession, Begins, IsOfLife, RanOver, TalksIf, outcome_of, AreByLast, IsBooted};
+ghost use Rattle.board_session.specs.Sessions.{TakesFormat, RunsOver, RefusesDisk, RefusesSession, Begins, IsOfLife, RanOver, TalksIf, outcome_of, AreOfLife, IsBooted};
 
 use crate::gate::{Open, harts_after};
 use crate::given::Options;
 use crate::heard::ConsoleHeard;
-use crate::life_end::{disk_at_once, disk_of, end_history, ends_of};
+use crate::life_end::{disk_at_once, disk_of, end_history, ends_of, gather_loops, gather_parts};
 use crate::talks::{Left, console};
 use board::{Board, BoardParts, Payloads};
 use board_model::{Entry, Refusal, Shape};
@@ -226,8 +226,8 @@ fn run_board<
         × TalksIf J.found J.issued result.console_left
         (dialogue_ends (I.remaining streams.input) (W.contents streams.out) (party [] heard_nothing))
         (dialogue_ends (I.remaining result.streams.input) (W.contents result.streams.out) (party console result.heard))
-        × AreByLast life.journal result.harts.items
-        × HasHistory J.size J.machine J.turns J.found life.journal life.doubt result.heard.woken result.console_left
+        × AreOfLife life.acknowledged.harts life.journal result.console_left result.harts.items
+        × HasHistory J.size J.machine J.turns life.journal life.doubt result.heard.woken result.console_left
         result.harts.items }
     ensures ran { result.ran ≡ outcome_of result.console_left }
     ensures unheard { result.console_left ≡ None → (result.streams ≡ streams) × (result.heard ≡ heard_nothing) }
@@ -273,7 +273,7 @@ fn run_board<
         rt, alloc, &closing, shared, whole, booted, side,
     );
     match driven {
-        Ok((loops, talked)) => after_console(rt, alloc, (whole, bus), loops, talked, boot, room),
+        Ok((loops, talked)) => after_console(rt, (whole, bus), loops, talked, boot, room),
         Err(back) => without_console(alloc, (whole, bus), back.loops, back.parts, back.side, boot),
     }
 }
@@ -358,7 +358,6 @@ fn drive_beside_console<
 /// the bus ends with it.
 fn after_console<'c, R: Wait, D: Disk + Drop, J: Threaded, I: Read + Drop, W: Write + Drop>(
     rt: &R,
-    alloc: Global,
     shared: (Unshared<D, J>, SharedBus<J>),
     loops: Vec<Rested<'c, J>>,
     talked: Talked<'c, J, I, W>,
@@ -376,8 +375,8 @@ fn after_console<'c, R: Wait, D: Disk + Drop, J: Threaded, I: Read + Drop, W: Wr
     ensures none_out { IsIdle (D.facts result.disk) }
     ensures life { (life : IsOfLife J.size J.found J.issued J.failures J.earlier J.moment result.moments.at
         talked.entry.side.part.told talked.entry.side.heard.doubt (D.facts result.disk))
-        × AreByLast life.journal result.harts.items
-        × HasHistory J.size J.machine J.turns J.found life.journal life.doubt talked.entry.side.heard.woken
+        × AreOfLife life.acknowledged.harts life.journal (Some talked.entry.left) result.harts.items
+        × HasHistory J.size J.machine J.turns life.journal life.doubt talked.entry.side.heard.woken
         (Some talked.entry.left) result.harts.items }
     ensures streams { result.streams ≡ talked.entry.side.streams }
     ensures heard { result.heard ≡ talked.entry.side.heard }
@@ -394,7 +393,7 @@ fn after_console<'c, R: Wait, D: Disk + Drop, J: Threaded, I: Read + Drop, W: Wr
         heard,
     } = side;
     let told = ConsoleHeard::of(&heard);
-    let (disk, moments, runs) = disk_of(whole, Vec::new(alloc), Vec::new(alloc), part, heard, boot);
+    let (disk, moments, runs) = disk_of(whole, part, heard, boot);
     end_history(bus, runs);
     SessionEnd {
         disk,
@@ -427,9 +426,7 @@ fn without_console<D: Disk + Drop, J: Threaded, I: Read + Drop, W: Write + Drop>
     ensures none_out { IsIdle (D.facts result.disk) }
     ensures life { (life : IsOfLife J.size J.found J.issued J.failures J.earlier J.moment result.moments.at side.part.told
         result.heard.doubt (D.facts result.disk))
-        × AreByLast life.journal result.harts.items
-        × HasHistory J.size J.machine J.turns J.found life.journal life.doubt result.heard.woken result.console_left
-        result.harts.items }
+        × HasHistory J.size J.machine J.turns life.journal life.doubt result.heard.woken None result.harts.items }
     ensures streams { result.streams ≡ side.streams }
     ensures heard { result.heard ≡ heard_nothing }
     ensures console_left { result.console_left ≡ None }
@@ -441,8 +438,10 @@ fn without_console<D: Disk + Drop, J: Threaded, I: Read + Drop, W: Write + Drop>
         part,
         heard,
     } = side;
-    let (whole, bus) = shared;
-    let (disk, moments, runs) = disk_of(whole, loops, parts, part, heard, boot);
+    let (mut whole, bus) = shared;
+    gather_loops(&mut whole, loops);
+    gather_parts(&mut whole, parts);
+    let (disk, moments, runs) = disk_of(whole, part, heard, boot);
     end_history(bus, runs);
     unbegun(alloc, disk, moments, Refusal::Memory, streams)
 }
@@ -584,7 +583,7 @@ pub fn session<R: Threads + Wait + Sync, D: Disk + Drop + Send, I: Read + Drop, 
     // hart, and no other was; and the memory of its suspension was a moment of the one history of its bus. A
     // command is in doubt only where the disk failed, and it was asked for by the console, which was answered 6, or by a hart.
     // Each hart went from where the power-on left it by its own turns: it made all of them, or one of them ended the life
-    // by the last command of its journal, or the console left so that they were halted. It is then refused by why the console
+    // by the last command of its journal, whose receipt it was told, or the console left so that they were halted. It is then refused by why the console
     // left alone. The moments given back are those at which its boot was over and its receipts were made: from each on a crash has
     // left a state that all commands have made which had been acknowledged by then.
     ensures ended { (RefusesSession options.now.new options.now.shape options.now.mode payloads.now (D.facts disk)

@@ -1,4 +1,4 @@
--- How a loop ends: the reasons, and what its end says of the hart as the loop left it.
+-- How a loop ends, and what its end says of the hart as the loop left it.
 use Rattle.std.proofs.Common.{◌≡◌, ◌∙◌, ℕ, ◌+◌, ◌<◌, ◌≤◌, Bool, true, false, List, [], ◌∷◌, ◌++◌, All, Option, Some, None, IsTrue, arith, refl, ap, sym, subst}
 use Rattle.std.specs.Prelude.{is_some}
 use Rattle.std.proofs.lemmas.List.Elements.{All-push}
@@ -22,44 +22,6 @@ use Rattle.susp.specs.declared.buses.Doze.{Doze}
 use Rattle.hart_threads.specs.Dozes.{is_woken}
 use Rattle.hart_threads.specs.Threads.{Seated, ComesOnce, DozeOnce, TurnOnceBy, TurnOnce, LoopOnce, is_end, ends_life}
 use Rattle.hart_threads.specs.declared.loops.Why.{Why}
-use Rattle.hart_threads.specs.declared.loops.Why.TheVariants as whys
-
--- ---- the reasons differ
-pub closed_not_life : whys.Closed ≡ whys.Life → ⊥
-closed_not_life e = cc
-
-pub closed_not_gate : whys.Closed ≡ whys.Gate → ⊥
-closed_not_gate e = cc
-
-pub closed_not_turns : whys.Closed ≡ whys.Turns → ⊥
-closed_not_turns e = cc
-
-pub gate_not_life : whys.Gate ≡ whys.Life → ⊥
-gate_not_life e = cc
-
-pub gate_not_closed : whys.Gate ≡ whys.Closed → ⊥
-gate_not_closed e = cc
-
-pub gate_not_turns : whys.Gate ≡ whys.Turns → ⊥
-gate_not_turns e = cc
-
-pub life_not_closed : whys.Life ≡ whys.Closed → ⊥
-life_not_closed e = cc
-
-pub life_not_gate : whys.Life ≡ whys.Gate → ⊥
-life_not_gate e = cc
-
-pub life_not_turns : whys.Life ≡ whys.Turns → ⊥
-life_not_turns e = cc
-
-pub turns_not_life : whys.Turns ≡ whys.Life → ⊥
-turns_not_life e = cc
-
-pub turns_not_closed : whys.Turns ≡ whys.Closed → ⊥
-turns_not_closed e = cc
-
-pub turns_not_gate : whys.Turns ≡ whys.Gate → ⊥
-turns_not_gate e = cc
 
 -- ---- how often it asked
 pub as_often : (n m : ℕ) → m ≡ n → n ≤ m

@@ -13,7 +13,7 @@ use Rattle.tallies.specs.declared.book_views.PartView.{PartView}
 use Rattle.turns.specs.declared.readies.Ready.{Ready}
 use Rattle.turns.specs.declared.readies.Ready.TheVariants as readies
 use Rattle.hart_threads.specs.Bused.{TakesBus, TurnsBus, part_of_hart}
-use Rattle.hart_threads.specs.Ends.{IsOfHart, AnyAnswer, AnyWord}
+use Rattle.hart_threads.specs.Ends.{IsOfHart, AnyAnswer, AnyWord, own_receipt}
 use Rattle.hart_threads.specs.Threads.{Seated, ComesOnce, LoopOnce, OwnOnce, TurnOnce, TurnOnceBy, TurnsOn}
 use Rattle.hart_threads.specs.declared.bus_turns.BusTurn.{BusTurn}
 use Rattle.hart_threads.specs.declared.ends.HartEnd.{HartEnd}
@@ -62,8 +62,8 @@ module _ (size : Size) (answers : ℕ → Bool → Type 0) (hears : ℕ → Type
 -- of a hart that its end is told of
 pub hart_whose : (m : Machine) (turns : ℕ) (took : PartView BusTurn) (e : HartEnd) → IsOfHart m turns took e → took.who ≡ part_of_hart e.hart.id
 hart_whose m turns took e p =
-    let gone = p.2 in
-    sym (ap (λ (d : PartView BusTurn). d.who) p.3)
-    ∙ loop_whose m.size AnyAnswer AnyWord turns e.made gone.0 p.0 e.why p.1 gone.2
+    let gone = p.1 in
+    sym (ap (λ (d : PartView BusTurn). d.who) p.2)
+    ∙ loop_whose m.size AnyAnswer AnyWord turns e.made gone.0 p.0 e.why (own_receipt e) gone.2
     ∙ ap (λ (d : PartView BusTurn). d.who) gone.1.took
-    ∙ ap (λ (s : ArchState). part_of_hart s.id) (sym p.5)
+    ∙ ap (λ (s : ArchState). part_of_hart s.id) (sym p.4)

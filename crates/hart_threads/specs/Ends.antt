@@ -1,7 +1,6 @@
 -- How a hart's loop ended, and where the hart then stood. Source: docs/THREADS.md, "The end of a loop"; SBI specification
 -- 2.0, chapter HSM.
 use Rattle.std.specs.Prelude.{◌≡◌, ℕ, suc, Bool, true, List, [], ◌∷◌, Option, Some, None}
-use Rattle.board_model.specs.Durable.{DurableState}
 use Rattle.board_model.specs.declared.durable.Entry.{Entry}
 use Rattle.hsm.specs.Calls.{KeepsAll, StandsBy}
 use Rattle.hsm.specs.declared.state.State.{State}
@@ -10,28 +9,35 @@ use Rattle.machine.specs.Machine.{Machine}
 use Rattle.tallies.specs.declared.book_views.PartView.{PartView}
 use Rattle.hart_threads.specs.declared.bus_turns.BusTurn.{BusTurn}
 use Rattle.hart_threads.specs.Begun.{BeginsAs}
-use Rattle.hart_threads.specs.Threads.{Seated, EndsLife, LoopOnce}
+use Rattle.hart_threads.specs.Threads.{Seated, LoopOnce, is_end}
 use Rattle.hart_threads.specs.declared.closing.AfterConsole.{AfterConsole}
 use Rattle.hart_threads.specs.declared.closing.AfterConsole.TheVariants.{Halt}
 use Rattle.hart_threads.specs.declared.ends.HartEnd.{HartEnd}
-use Rattle.hart_threads.specs.declared.ends.ShutBy.{ShutBy}
-use Rattle.hart_threads.specs.declared.ends.ShutBy.TheVariants.{Life, Console}
 use Rattle.hart_threads.specs.declared.loops.Why.{Why}
 use Rattle.hart_threads.specs.declared.loops.Why.TheVariants as whys
 
--- what ended all loops: such a command, or a console that halted the harts when it left
-abbrev pub IsShutBy : DurableState → AfterConsole → Option ShutBy → Type 0
-IsShutBy found parting None = ⊥
-IsShutBy found parting (Some (Life n entry)) = EndsLife found n entry
-IsShutBy found parting (Some Console) = parting ≡ Halt
+-- what ended all loops: a command of another hart, which ends a life; or else the console, which halted the harts when it left
+abbrev pub IsClosedBy : AfterConsole → Option (ℕ × Entry) → Type 0
+IsClosedBy parting (Some t) = is_end t.1 ≡ true
+IsClosedBy parting None = parting ≡ Halt
 
--- why a loop may end: its hart ended the life; something ended all loops; the gate, where it may; or with the turns that
--- each hart is given
-abbrev pub EndsBy : ℕ → DurableState → Bool → AfterConsole → ℕ → Option ShutBy → Why → Type 0
-EndsBy turns found gated parting made by whys.Life = (n : ℕ) × (entry : Entry) × EndsLife found n entry
-EndsBy turns found gated parting made by whys.Closed = IsShutBy found parting by
-EndsBy turns found gated parting made by whys.Gate = gated ≡ true
-EndsBy turns found gated parting made by whys.Turns = made ≡ turns
+-- why a loop may end, by the command that ended the life where one ended it: its own hart's; something ended all loops; the gate, where
+-- it may; or with the turns that each hart is given
+abbrev pub EndsBy : ℕ → Bool → AfterConsole → ℕ → Option (ℕ × Entry) → Why → Type 0
+EndsBy turns gated parting made over whys.Life = (t : ℕ × Entry) × (over ≡ Some t) × (is_end t.1 ≡ true)
+EndsBy turns gated parting made over whys.Closed = IsClosedBy parting over
+EndsBy turns gated parting made over whys.Gate = (gated ≡ true) × (over ≡ None)
+EndsBy turns gated parting made over whys.Turns = (made ≡ turns) × (over ≡ None)
+
+-- the receipt that its hart was told: that of the command with which it ended the life itself
+abbrev pub receipt_by : Why → Option (ℕ × Entry) → Option (ℕ × Entry)
+receipt_by whys.Life over = over
+receipt_by whys.Closed over = None
+receipt_by whys.Gate over = None
+receipt_by whys.Turns over = None
+
+abbrev pub own_receipt : HartEnd → Option (ℕ × Entry)
+own_receipt e = receipt_by e.why e.over
 
 -- ---- how it came there
 -- nothing is said of its gate
@@ -51,10 +57,11 @@ HasGone m turns made b why told =
 abbrev pub IsStateOf : State → ℕ → List HartView → Type 0
 IsStateOf state h vs = (later : List HartView) × KeepsAll vs later × StandsBy state h later
 
--- it is told of a hart that has gone so, with that part of the history of the bus: its registers, its state, and its copy of its doze
+-- it is told of a hart that has gone so, with that part of the history of the bus: its registers, its state, and its copy of its doze;
+-- and the receipt that it was told
 abbrev pub IsOfHart : Machine → ℕ → PartView BusTurn → HartEnd → Type 0
 IsOfHart m turns took e =
-    (b : Seated) × (told : Option (ℕ × Entry)) × HasGone m turns e.made b e.why told × (b.took ≡ took)
+    (b : Seated) × HasGone m turns e.made b e.why (own_receipt e) × (b.took ≡ took)
     × IsStateOf e.state b.hart.id b.known.harts × (e.hart ≡ b.hart) × (e.doze ≡ b.doze)
 
 -- they are of the harts from that number on, one after another
@@ -64,6 +71,6 @@ AreNumberedFrom first (e ∷ es) = (e.hart.id ≡ first) × AreNumberedFrom (suc
 
 -- It ended for such a reason. What is told is of a hart of that board, which made just so many turns since the boot left it, with that
 -- part of the history of the bus.
-abbrev pub IsEnding : Machine → ℕ → DurableState → Bool → AfterConsole → PartView BusTurn → HartEnd → Type 0
-IsEnding m turns found gated parting took e =
-    EndsBy turns found gated parting e.made e.by e.why × ∥ IsOfHart m turns took e ∥₁
+abbrev pub IsEnding : Machine → ℕ → Bool → AfterConsole → PartView BusTurn → HartEnd → Type 0
+IsEnding m turns gated parting took e =
+    EndsBy turns gated parting e.made e.over e.why × ∥ IsOfHart m turns took e ∥₁

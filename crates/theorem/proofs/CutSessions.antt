@@ -68,30 +68,30 @@ module _ (one : OneStanding) (size : Size) (s : DurableState) (old : Facts) (onl
 
   -- of a session
   pub cut_anywhere : ((x : Content) → old.since old.moment x → old.may_leave x) → (issued : List Change) (moments : List ℕ) (heard : Hearing) (disk : Facts) (kept : KeepsJournal size s issued old disk moments heard)
-      → IsCutAnywhere size s (sent kept.1.journal kept.1.doubt) old disk
+      → IsCutAnywhere size s (sent kept.life.journal kept.life.doubt) old disk
   cut_anywhere only_now issued moments heard disk kept =
-      let doubted = option_to_list kept.1.doubt in
-      let is = ap (λ (js : List Change). js ++ doubted) kept.1.begun.1 ∙ append_assoc issued kept.1.begun.0 doubted in
-      at_any_moment issued (sent kept.1.journal kept.1.doubt) (kept.1.begun.0 ++ doubted) disk is only_now kept.1.kept.ever
+      let doubted = option_to_list kept.life.doubt in
+      let is = ap (λ (js : List Change). js ++ doubted) kept.life.begun.1 ∙ append_assoc issued kept.life.begun.0 doubted in
+      at_any_moment issued (sent kept.life.journal kept.life.doubt) (kept.life.begun.0 ++ doubted) disk is only_now kept.life.kept.ever
 
 -- ---- over a file
 module _ (size : Size) (s : DurableState) (issued : List Change) (old disk : Facts) (moments : List ℕ) (heard : Hearing) where
   -- what the file has left, the disk might have left
-  pub keeps_session : (file : FileKnown) (kept : KeepsJournal size s issued old disk moments heard) → IsCutAnywhere size s (sent kept.1.journal kept.1.doubt) old disk
+  pub keeps_session : (file : FileKnown) (kept : KeepsJournal size s issued old disk moments heard) → IsCutAnywhere size s (sent kept.life.journal kept.life.doubt) old disk
       → ((t : ℕ) (x : Content) → t ≤ disk.moment → disk.may_leave x → disk.since t x) → IfKnown file (LeavesNoMore disk) → IfKnown file (AllowedSince disk)
-      → IfKnown file (KeepsSession size s (sent kept.1.journal kept.1.doubt) (length issued) (length kept.1.journal) old.moment disk moments)
+      → IfKnown file (KeepsSession size s (sent kept.life.journal kept.life.doubt) (length issued) (length kept.life.journal) old.moment disk moments)
   keeps_session Unknown kept cut counts now since = tt
   keeps_session (Known f) kept cut counts now since =
-      let many = kept.1.kept.many in
-      let some = kept.1.kept.first.0 in
-      let first = kept.1.kept.first.1 in
-      let at = kept.1.kept.passed 0 some in
+      let many = kept.life.kept.many in
+      let some = kept.life.kept.first.0 in
+      let first = kept.life.kept.first.1 in
+      let at = kept.life.kept.passed 0 some in
       let last = length moments - 1 in
       let under : last < length moments = omega (arith, some) in
-      let all : length issued + last ≡ length kept.1.journal = omega (arith, many, some) in
+      let all : length issued + last ≡ length kept.life.journal = omega (arith, many, some) in
       record {
-        now = λ c may. subst (λ (n : ℕ). ∥ IsOfFirst size s (sent kept.1.journal kept.1.doubt) n c ∥₁) all
-            (kept.1.kept.kept last under c (counts (slice_index moments last) c (kept.1.kept.passed last under) (now c may)));
+        now = λ c may. subst (λ (n : ℕ). ∥ IsOfFirst size s (sent kept.life.journal kept.life.doubt) n c ∥₁) all
+            (kept.life.kept.kept last under c (counts (slice_index moments last) c (kept.life.kept.passed last under) (now c may)));
         ever = λ c was. ∥∥₁_elim (since old.moment c (omega (arith, first, at)) was) ∥∥₁_prop (λ is. cut c is);
-        kept = λ i less c was. ∥∥₁_elim (since (slice_index moments i) c (kept.1.kept.passed i less) was) ∥∥₁_prop (λ is. kept.1.kept.kept i less c is);
+        kept = λ i less c was. ∥∥₁_elim (since (slice_index moments i) c (kept.life.kept.passed i less) was) ∥∥₁_prop (λ is. kept.life.kept.kept i less c is);
       }

@@ -1,16 +1,17 @@
 -- What a session promises over a disk that stands for one state, and what an open then finds.
-use Rattle.std.proofs.Common.{◌≡◌, ◌⊎◌, ◌∙◌, ℕ, List, Bool, false, Option, Some, None, inl, inr, refl, subst}
-use Rattle.board_model.specs.Durable.{DurableState, Change, after, fold}
+use Rattle.std.proofs.Common.{◌≡◌, ◌⊎◌, ◌∙◌, ℕ, List, Bool, false, Option, Some, None, inl, inr, refl, sym, subst}
+use Rattle.board_model.specs.Durable.{DurableState, Change, after, fold, refusal_of}
 use Rattle.board_model.specs.Shapes.{Size}
 use Rattle.board_model.specs.declared.boot_mode.BootMode.{BootMode}
 use Rattle.board_model.specs.declared.durable.Entry.{Entry}
-use Rattle.disk.specs.Facts.{Facts, IsLeft}
+use Rattle.disk.specs.Facts.{Facts, IsLeft, Failed}
 use Rattle.store.specs.Leaves.{Leaves}
 use Rattle.store.specs.Standing.{StandsFor}
 use Rattle.board.specs.Begins.{IsBegun}
 use Rattle.board.specs.Moments.{commands_by}
 use Rattle.machine.specs.Machine.{Machine}
 use Rattle.board.specs.Unbooted.{LeavesLife}
+use Rattle.hart_threads.specs.Doubts.{IsDoubtOf}
 use Rattle.hart_threads.specs.Heard.{Hearing}
 use Rattle.board_session.specs.Commands.{party}
 use Rattle.board_session.specs.Dialogues.{DialogueEnds, dialogue_ends}
@@ -45,11 +46,11 @@ module _ (one : OneStanding) (new : Bool) (shape : Size) (mode : BootMode) (payl
 -- what it keeps, and what was read and answered
 abbrev pub IsKept : Size → DurableState → BootMode → Facts → Facts → List ℕ → Option Left → DialogueEnds → Option (List ℕ) → Option (List ℕ) → Hearing → Type 0
 IsKept size s mode old disk moments left a input output heard =
-    (kept : KeepsJournal size s (commands_by mode s) old disk moments heard) × TalksIf s (commands_by mode s) left a (dialogue_ends input output (party kept.0 heard))
+    (kept : KeepsJournal size s (commands_by mode s) old disk moments heard) × TalksIf s (commands_by mode s) left a (dialogue_ends input output (party kept.console heard))
 
 pub keeps : (size : Size) (s : DurableState) (mode : BootMode) (payloads : List (List ℕ)) (old disk : Facts) (moments : List ℕ) (left : Option Left) (a : DialogueEnds) (input output : Option (List ℕ)) (heard : Hearing)
     → IsSession size s mode payloads old disk moments left a input output heard → IsKept size s mode old disk moments left a input output heard
-keeps size s mode payloads old disk moments left a input output heard session = ((session.2, session.3), session.4)
+keeps size s mode payloads old disk moments left a input output heard session = (record { console = session.2; life = session.3 }, session.4)
 
 -- what a crash left of that disk stands for
 read_after : (doubt : Option Change) (disk given : Facts) (size z : Size) (t found : DurableState) → LeavesLife doubt disk size t → IsLeft disk given → StandsFor given.content z found
@@ -63,15 +64,32 @@ read_after (Some c) disk given size z t found only gone reads =
     ]
 
 finds : (size z : Size) (s found : DurableState) (mode : BootMode) (payloads : List (List ℕ)) (old : Facts) (next : ℕ) (disk given : Facts) (moments : List ℕ) (left : Option Left) (a : DialogueEnds) (input output : Option (List ℕ)) (heard : Hearing) → IsSession size s mode payloads old disk moments left a input output heard
-    → IsLeft disk given → StandsFor given.content z found → next ≡ given.failures → FindsSession size s mode old next left a input output heard found
+    → IsLeft disk given → StandsFor given.content z found → next ≡ given.failures → FindsSession size s mode old.failures next left a input output heard found
 finds size z s found mode payloads old next disk given moments left a input output heard session gone reads counts =
-    let life = session.3 in
-    (disk, moments, (session.2, life), counts ∙ gone.failures, session.4, read_after life.doubt disk given size z (fold s life.journal) found life.leaves gone reads)
+    let life = session.3 in record {
+      journal = life.journal;
+      console = session.2;
+      acknowledged = life.acknowledged;
+      taken = life.taken;
+      talks = session.4;
+      is = by (read_after life.doubt disk given size z (fold s life.journal) found life.leaves gone reads);
+    }
+  where
+    by : (found ≡ fold s session.3.journal) ⊎ ((c : Change) × (session.3.doubt ≡ Some c) × (found ≡ after (fold s session.3.journal) c))
+        → (found ≡ fold s session.3.journal) ⊎ ((c : Change) × (refusal_of (fold s session.3.journal) c ≡ None) × Failed old.failures next × IsDoubtOf size (Some c) heard.doubt × (found ≡ after (fold s session.3.journal) c))
+    by (inl is) = inl is
+    by (inr (c, doubt, is)) = inr (
+      c,
+      session.3.allowed c doubt,
+      subst (λ (n : ℕ). Failed old.failures n) (sym (counts ∙ gone.failures)) (session.3.failed c doubt),
+      subst (λ (o : Option Change). IsDoubtOf size o heard.doubt) doubt session.3.asked,
+      is,
+    )
 
 -- and what the next open finds then
 pub left_by : (one : OneStanding) (new : Bool) (shape : Size) (mode : BootMode) (payloads : List (List ℕ)) (turns : ℕ) (old disk : Facts) (moments : List ℕ) (left : Option Left) (a : DialogueEnds) (input output : Option (List ℕ)) (heard : Hearing) (ends : List HartEnd)
     → (R S : Type 0) → (R × (left ≡ None)) ⊎ (RanOver new shape mode payloads turns old disk moments left a input output heard ends × S) → (left ≡ None → ⊥) → (size : Size) (s : DurableState) → new ≡ false → StandsFor old.content size s
-    → (z : Size) (found : DurableState) (given : Facts) (next : ℕ) → IsLeft disk given → StandsFor given.content z found → next ≡ given.failures → FindsSession size s mode old next left a input output heard found
+    → (z : Size) (found : DurableState) (given : Facts) (next : ℕ) → IsLeft disk given → StandsFor given.content z found → next ≡ given.failures → FindsSession size s mode old.failures next left a input output heard found
 left_by one new shape mode payloads turns old disk moments left a input output heard ends R S ended some size s is stands z found given next gone reads counts =
     finds size z s found mode payloads old next disk given moments left a input output heard
     (begun one new shape mode payloads turns old disk moments left a input output heard ends R S ended some size s is stands) gone reads counts

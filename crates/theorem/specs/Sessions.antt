@@ -1,35 +1,40 @@
 -- A session over a disk, in the words of the headline. Source: docs/CONSOLE.md.
-use Rattle.std.specs.Prelude.{◌≡◌, ◌⊎◌, ℕ, ◌+◌, ◌<◌, false, List, Option, Some, length, slice_index}
-use Rattle.board_model.specs.Durable.{DurableState, Change, after, fold}
+use Rattle.std.specs.Prelude.{◌≡◌, ◌⊎◌, ℕ, ◌+◌, ◌<◌, true, false, List, Option, None, Some, length, slice_index}
+use Rattle.board_model.specs.Durable.{DurableState, Change, after, fold, refusal_of}
 use Rattle.board_model.specs.Shapes.{Size}
 use Rattle.board_model.specs.declared.durable.Entry.{Entry}
+use Rattle.store.specs.Taken.{are_taken}
 use Rattle.board.specs.Moments.{commands_by}
 use Rattle.board_model.specs.declared.boot_mode.BootMode.{BootMode}
-use Rattle.disk.specs.Facts.{Content, Facts}
+use Rattle.disk.specs.Facts.{Content, Facts, Failed}
 use Rattle.board_files.specs.Files.{FileFacts, sync_of}
+use Rattle.hart_threads.specs.Doubts.{IsDoubtOf}
 use Rattle.hart_threads.specs.Heard.{Hearing}
 use Rattle.hart_threads.specs.Since.{IsOfFirst}
 use Rattle.board_session.specs.Commands.{party}
 use Rattle.board_session.specs.Dialogues.{DialogueEnds, dialogue_ends}
 use Rattle.board_session.specs.declared.talks.Left.{Left}
-use Rattle.board_session.specs.Sessions.{IsOfLife, LeftBefore, TalksIf}
+use Rattle.board_session.specs.Sessions.{IsAcknowledged, IsOfLife, LeftBefore, TalksIf}
 
 -- What a session keeps whose disk old stood for the state s, and whose boot issued those commands: its disk now is that of a life which
 -- began in s (`IsOfLife`), and the console was told these receipts of its journal.
-abbrev pub KeepsJournal : Size → DurableState → List Change → Facts → Facts → List ℕ → Hearing → Type 0
-KeepsJournal size s issued old disk moments heard =
-    (console : List (ℕ × Entry))
-    × IsOfLife size s issued old.failures (LeftBefore false old size s issued) old.moment moments console heard.doubt disk
+pub record KeepsJournal (size : Size) (s : DurableState) (issued : List Change) (old disk : Facts) (moments : List ℕ) (heard : Hearing) : Type 0 where
+  pub console : List (ℕ × Entry)
+  pub life : IsOfLife size s issued old.failures (LeftBefore false old size s issued) old.moment moments console heard.doubt disk
 
--- What an open finds after a session over the disk old, which began in the state s by that mode, where the disk had so many failures after
--- it: what the commands of its journal make of s, or these and the one in doubt. What was read and answered is of that journal.
-abbrev pub FindsSession : Size → DurableState → BootMode → Facts → ℕ → Option Left → DialogueEnds → Option (List ℕ) → Option (List ℕ) → Hearing
-    → DurableState → Type 0
-FindsSession size s mode old after_it left a input output heard found =
-    (disk : Facts) × (moments : List ℕ) × (kept : KeepsJournal size s (commands_by mode s) old disk moments heard)
-    × (after_it ≡ disk.failures) × TalksIf s (commands_by mode s) left a (dialogue_ends input output (party kept.0 heard))
-    × ((found ≡ fold s kept.1.journal)
-    ⊎ ((c : Change) × (kept.1.doubt ≡ Some c) × (found ≡ after (fold s kept.1.journal) c)))
+-- What an open finds after a session that began in the state s by that mode: what the commands of a journal make of s,
+-- just those that were acknowledged to the boot, the console and the harts; or these and the one in doubt. There is one
+-- only where the disk failed, by how often it had failed before the session and after it. It is the console's, which was
+-- answered 6, or one that a durable call of a hart asks for. What was read and answered is of that journal.
+pub record FindsSession (size : Size) (s : DurableState) (mode : BootMode) (before after_it : ℕ) (left : Option Left) (a : DialogueEnds)
+    (input output : Option (List ℕ)) (heard : Hearing) (found : DurableState) : Type 0 where
+  pub journal : List Change
+  pub console : List (ℕ × Entry)
+  pub acknowledged : IsAcknowledged size (commands_by mode s) journal console
+  pub taken : are_taken s journal ≡ true
+  pub talks : TalksIf s (commands_by mode s) left a (dialogue_ends input output (party console heard))
+  pub is : (found ≡ fold s journal)
+      ⊎ ((c : Change) × (refusal_of (fold s journal) c ≡ None) × Failed before after_it × IsDoubtOf size (Some c) heard.doubt × (found ≡ after (fold s journal) c))
 
 -- What any crash has left at a moment of a session over the disk old, within a command and within a call of the disk too, stands for what
 -- some first ones of these commands make of s.

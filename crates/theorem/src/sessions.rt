@@ -78,7 +78,7 @@ pub fn a_session_answers<
         × TalksIf s (commands_by options.now.mode s) result.console_left
         (dialogue_ends (I.remaining streams.input) (W.contents streams.out) (party [] heard_nothing))
         (dialogue_ends (I.remaining result.streams.input) (W.contents result.streams.out)
-        (party kept.0 result.heard)) }
+        (party kept.console result.heard)) }
 {
     content_determines_state();
     session(rt, alloc, options, disk, payloads, streams)
@@ -108,8 +108,8 @@ pub fn a_session_cut_anywhere<
         × TalksIf s (commands_by options.now.mode s) result.console_left
         (dialogue_ends (I.remaining streams.input) (W.contents streams.out) (party [] heard_nothing))
         (dialogue_ends (I.remaining result.streams.input) (W.contents result.streams.out)
-        (party kept.0 result.heard))
-        × IsCutAnywhere size s (sent kept.1.journal kept.1.doubt) (D.facts disk) (D.facts result.disk) }
+        (party kept.console result.heard))
+        × IsCutAnywhere size s (sent kept.life.journal kept.life.doubt) (D.facts disk) (D.facts result.disk) }
 {
     content_determines_state();
     crashes_now(&disk);
@@ -142,9 +142,9 @@ pub fn a_session_in_a_file_cut_anywhere<
         × TalksIf s (commands_by options.now.mode s) result.console_left
         (dialogue_ends (I.remaining streams.input) (W.contents streams.out) (party [] heard_nothing))
         (dialogue_ends (I.remaining result.streams.input) (W.contents result.streams.out)
-        (party kept.0 result.heard))
-        × IfKnown (⟦<FileDisk<F> as Filed>⟧.file result.disk) (KeepsSession size s (sent kept.1.journal kept.1.doubt)
-        (length (commands_by options.now.mode s)) (length kept.1.journal) (⟦<FileDisk<F> as Disk>⟧.facts disk).moment
+        (party kept.console result.heard))
+        × IfKnown (⟦<FileDisk<F> as Filed>⟧.file result.disk) (KeepsSession size s (sent kept.life.journal kept.life.doubt)
+        (length (commands_by options.now.mode s)) (length kept.life.journal) (⟦<FileDisk<F> as Disk>⟧.facts disk).moment
         (⟦<FileDisk<F> as Disk>⟧.facts result.disk) result.moments.at) }
 {
     let end = a_session_cut_anywhere(rt, alloc, options, disk, payloads, streams);
@@ -212,7 +212,7 @@ pub fn power_lost_between_sessions<R: Threads + Wait + Sync, I: Read + Drop, W: 
     ensures { (size : Size) (s : DurableState) → options.now.new ≡ false
         → StandsFor (⟦<SimDisk as Disk>⟧.facts disk).content size s → (result.0.console_left ≡ None → ⊥)
         → IfOk result.1 (λ next. FindsSession size s options.now.mode
-        (⟦<SimDisk as Disk>⟧.facts disk) (disk_of next).failures result.0.console_left
+        (⟦<SimDisk as Disk>⟧.facts disk).failures (disk_of next).failures result.0.console_left
         (dialogue_ends (I.remaining streams.input) (W.contents streams.out) (party [] heard_nothing))
         (I.remaining result.0.streams.input) (W.contents result.0.streams.out) result.0.heard (found_state next)) }
 {

@@ -1,22 +1,42 @@
-use Rattle.std.proofs.Common.{◌∙◌, ◌∷◌, List, length, arith, sym, ap, subst, All}
+use Rattle.std.proofs.Common.{◌≡◌, ◌∙◌, ◌∷◌, List, length, map, arith, refl, sym, ap, subst, All}
 use Rattle.std.proofs.lemmas.List.Elements.{All-push}
 use Rattle.board_model.specs.declared.durable.Entry.{Entry}
 use Rattle.tallies.specs.declared.book_views.PartView.{PartView}
 use Rattle.hart_threads.specs.declared.ends.HartEnd.{HartEnd}
+use Rattle.hart_threads.specs.Ends.{AreNumberedFrom, own_receipt}
 use Rattle.hart_threads.specs.Views.{bus_parts, parts_with}
 use Rattle.hart_threads.specs.declared.bus_turns.BusTurn.{BusTurn}
 use Rattle.board_session.specs.Backs.{AreBack}
 use Rattle.board_session.specs.Histories.{EndsWith}
-use Rattle.board_session.specs.Sessions.{IsBy}
-use Rattle.board_session.proofs.Backing.{one_back}
+use Rattle.board_session.specs.Sessions.{IsOver}
+use Rattle.board_session.proofs.Backing.{none_there, none_told, told_back, told_more}
 use Rattle.board_session.proofs.Historied.{ends_with, one_with}
 use Rattle.board_session.proofs.Numbering.{numbered_next}
 use Rattle.board_session.proofs.life_end.ends_of.Goals as goal
+
+pub loop-rested-init : goal.loop-rested-init
+loop-rested-init g c =
+    let t = g.J.Threaded in
+    let none = none_there c.args.room.items (sym c.args.room.ok.0 ∙ c.requires.empty) in
+    let back = none_told (parts_with c.args.whole.now) c.requires.none in
+    let empty = c.requires.empty in
+    record {
+      store = refl;
+      moments = refl;
+      back = (back.0, back.1 ∙ sym (ap (λ (es : List HartEnd). map own_receipt es) none));
+      parts = c.requires.none ∙ sym empty;
+      made = omega (arith, empty);
+      room = refl;
+      numbered = subst (λ (es : List HartEnd). AreNumberedFrom 0 es) (sym none) tt;
+      well = subst (λ (es : List HartEnd). All (EndsWith t.machine t.turns t.gated c.args.parted.now.token.value (bus_parts c.args.bus.now)) es) (sym none) (λ k e lt. absurd (omega (arith, lt)));
+      over = subst (λ (es : List HartEnd). All (IsOver c.args.last.now) es) (sym none) (λ k e lt. absurd (omega (arith, lt)));
+    }
 
 pub loop-rested-preserved-in-Some : goal.loop-rested-preserved-in-Some
 loop-rested-preserved-in-Some g c =
     let i = c.loop-rested.invariant in
     let t = g.J.Threaded in
+    let parting = c.args.parted.now.token.value in
     let e = c.in-Some.rested.ended in
     let gathered = c.gather.ensures.parts in
     let long = ap (λ (ps : List (PartView Entry)). length ps) gathered in
@@ -24,28 +44,32 @@ loop-rested-preserved-in-Some g c =
     let made = i.made in
     let fewer = c.in-Some.ensures.cases in
     let pushed = c.push_reserved.ensures.len in
+    let grown = c.push_reserved.ensures.items in
     let before = bus_parts c.loop-rested.bus in
-    let P = EndsWith t.machine t.turns g.J.Journal.found t.gated c.args.parted.now.token.value (e.local.run ∷ before) in
+    let back = told_back e.local.part (parts_with c.loop-rested.whole) e.told e.ends e.noted i.back.0 in
+    let told = told_more c.loop-rested.ends.items c.push_reserved.new.self.items _ i.back.0.harts e.told grown c.end_of.ensures.told i.back.1 in
+    let P = EndsWith t.machine t.turns t.gated parting (e.local.run ∷ before) in
     record {
       store = c.gather.ensures.store ∙ i.store;
       moments = c.gather.ensures.moments ∙ i.moments;
-      back = subst (λ (ps : List (PartView Entry)). AreBack ps) (sym gathered) (one_back e.local.part (parts_with c.loop-rested.whole) e.told e.ends e.noted i.back);
+      back = subst (λ (ps : List (PartView Entry)). (now : AreBack ps) × (now.harts ≡ map own_receipt c.push_reserved.new.self.items)) (sym gathered) (back.0, back.1 ∙ told);
       parts = omega (arith, long, were, pushed);
       made = omega (arith, made, fewer, pushed);
       room = c.push_reserved.ensures.capacity ∙ i.room;
-      numbered = numbered_next c.loop-rested.ends.items _ _ _ i.numbered (sym c.loop-rested.ends.ok.0 ∙ sym c.len-number.ensures) c.end_of.ensures.number c.push_reserved.ensures.items;
-      well = subst (λ (ps : List (PartView BusTurn)). All (EndsWith t.machine t.turns g.J.Journal.found t.gated c.args.parted.now.token.value ps) c.push_reserved.new.self.items) (sym c.gather-in-Some.ensures.parts)
-          (subst (λ es. All P es) (sym c.push_reserved.ensures.items)
-          (All-push P c.loop-rested.ends.items _ (ends_with t.machine t.turns g.J.Journal.found t.gated c.args.parted.now.token.value e.local.run before c.loop-rested.ends.items i.well)
-          (one_with t.machine t.turns g.J.Journal.found t.gated c.args.parted.now.token.value e.local.run before _ c.end_of.ensures.well)));
-      by = subst (λ es. All (λ (x : HartEnd). IsBy c.args.last.now x.by) es) (sym c.push_reserved.ensures.items)
-          (All-push (λ (x : HartEnd). IsBy c.args.last.now x.by) c.loop-rested.ends.items _ i.by c.end_of.ensures.by);
+      numbered = numbered_next c.loop-rested.ends.items _ _ _ i.numbered (sym c.loop-rested.ends.ok.0 ∙ sym c.len-number.ensures) c.end_of.ensures.number grown;
+      well = subst (λ (ps : List (PartView BusTurn)). All (EndsWith t.machine t.turns t.gated parting ps) c.push_reserved.new.self.items) (sym c.gather-in-Some.ensures.parts)
+          (subst (λ es. All P es) (sym grown)
+          (All-push P c.loop-rested.ends.items _ (ends_with t.machine t.turns t.gated parting e.local.run before c.loop-rested.ends.items i.well)
+          (one_with t.machine t.turns t.gated parting e.local.run before _ c.end_of.ensures.well)));
+      over = subst (λ es. All (IsOver c.args.last.now) es) (sym grown)
+          (All-push (IsOver c.args.last.now) c.loop-rested.ends.items _ i.over c.end_of.ensures.over);
     }
 
 pub loop-rested-preserved : goal.loop-rested-preserved
 loop-rested-preserved g c =
     let i = c.loop-rested.invariant in
     let t = g.J.Threaded in
+    let parting = c.args.parted.now.token.value in
     let e = c.in-Some.rested.ended in
     let gathered = c.gather.ensures.parts in
     let long = ap (λ (ps : List (PartView Entry)). length ps) gathered in
@@ -53,20 +77,23 @@ loop-rested-preserved g c =
     let made = i.made in
     let fewer = c.in-Some.ensures.cases in
     let pushed = c.push_reserved.ensures.len in
+    let grown = c.push_reserved.ensures.items in
     let before = bus_parts c.loop-rested.bus in
-    let P = EndsWith t.machine t.turns g.J.Journal.found t.gated c.args.parted.now.token.value (e.local.run ∷ before) in
+    let back = told_back e.local.part (parts_with c.loop-rested.whole) e.told e.ends e.noted i.back.0 in
+    let told = told_more c.loop-rested.ends.items c.push_reserved.new.self.items _ i.back.0.harts e.told grown c.end_of.ensures.told i.back.1 in
+    let P = EndsWith t.machine t.turns t.gated parting (e.local.run ∷ before) in
     record {
       store = c.gather.ensures.store ∙ i.store;
       moments = c.gather.ensures.moments ∙ i.moments;
-      back = subst (λ (ps : List (PartView Entry)). AreBack ps) (sym gathered) (one_back e.local.part (parts_with c.loop-rested.whole) e.told e.ends e.noted i.back);
+      back = subst (λ (ps : List (PartView Entry)). (now : AreBack ps) × (now.harts ≡ map own_receipt c.push_reserved.new.self.items)) (sym gathered) (back.0, back.1 ∙ told);
       parts = omega (arith, long, were, pushed);
       made = omega (arith, made, fewer, pushed);
       room = c.push_reserved.ensures.capacity ∙ i.room;
-      numbered = numbered_next c.loop-rested.ends.items _ _ _ i.numbered (sym c.loop-rested.ends.ok.0 ∙ sym c.len-number.ensures) c.end_of.ensures.number c.push_reserved.ensures.items;
-      well = subst (λ (ps : List (PartView BusTurn)). All (EndsWith t.machine t.turns g.J.Journal.found t.gated c.args.parted.now.token.value ps) c.push_reserved.new.self.items) (sym c.gather-in-Some.ensures.parts)
-          (subst (λ es. All P es) (sym c.push_reserved.ensures.items)
-          (All-push P c.loop-rested.ends.items _ (ends_with t.machine t.turns g.J.Journal.found t.gated c.args.parted.now.token.value e.local.run before c.loop-rested.ends.items i.well)
-          (one_with t.machine t.turns g.J.Journal.found t.gated c.args.parted.now.token.value e.local.run before _ c.end_of.ensures.well)));
-      by = subst (λ es. All (λ (x : HartEnd). IsBy c.args.last.now x.by) es) (sym c.push_reserved.ensures.items)
-          (All-push (λ (x : HartEnd). IsBy c.args.last.now x.by) c.loop-rested.ends.items _ i.by c.end_of.ensures.by);
+      numbered = numbered_next c.loop-rested.ends.items _ _ _ i.numbered (sym c.loop-rested.ends.ok.0 ∙ sym c.len-number.ensures) c.end_of.ensures.number grown;
+      well = subst (λ (ps : List (PartView BusTurn)). All (EndsWith t.machine t.turns t.gated parting ps) c.push_reserved.new.self.items) (sym c.gather-in-Some.ensures.parts)
+          (subst (λ es. All P es) (sym grown)
+          (All-push P c.loop-rested.ends.items _ (ends_with t.machine t.turns t.gated parting e.local.run before c.loop-rested.ends.items i.well)
+          (one_with t.machine t.turns t.gated parting e.local.run before _ c.end_of.ensures.well)));
+      over = subst (λ es. All (IsOver c.args.last.now) es) (sym grown)
+          (All-push (IsOver c.args.last.now) c.loop-rested.ends.items _ i.over c.end_of.ensures.over);
     }

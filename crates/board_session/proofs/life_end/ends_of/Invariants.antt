@@ -1,22 +1,22 @@
-use Rattle.std.proofs.Common.{◌≡◌, ◌+◌, All, length, vec_len, vec_capacity}
-use Rattle.hart_threads.specs.Ends.{AreNumberedFrom}
+use Rattle.std.proofs.Common.{◌≡◌, ◌+◌, All, length, map, vec_len, vec_capacity}
+use Rattle.hart_threads.specs.Ends.{AreNumberedFrom, own_receipt}
 use Rattle.hart_threads.specs.Views.{bus_parts, inside, moments_with, parts_with}
 use Rattle.board_session.specs.Backs.{AreBack}
 use Rattle.board_session.specs.Histories.{EndsWith}
-use Rattle.board_session.specs.Sessions.{IsBy}
+use Rattle.board_session.specs.Sessions.{IsOver}
 use Rattle.board_session.proofs.life_end.ends_of.Given as goal
 
 abbrev pub invariant-loop-rested : goal.invariant-loop-rested
 invariant-loop-rested g l = record {
   store : inside l.whole ≡ inside l.fn.whole;
   moments : moments_with l.whole ≡ moments_with l.fn.whole;
-  back : AreBack (parts_with l.whole);
-  parts : length (parts_with l.whole) ≡ length (parts_with l.fn.whole) + vec_len l.ends;
+  back : (back : AreBack (parts_with l.whole)) × (back.harts ≡ map own_receipt l.ends.items);
+  parts : length (parts_with l.whole) ≡ vec_len l.ends;
   made : vec_len l.ends + vec_len l.loops ≡ vec_len l.fn.loops;
   room : vec_capacity l.ends ≡ vec_capacity l.fn.room;
   numbered : AreNumberedFrom 0 l.ends.items;
-  well : All (EndsWith g.J.Threaded.machine g.J.Threaded.turns g.J.Journal.found g.J.Threaded.gated l.parted.token.value (bus_parts l.bus)) l.ends.items;
-  by : All (λ e. IsBy l.last e.by) l.ends.items;
+  well : All (EndsWith g.J.Threaded.machine g.J.Threaded.turns g.J.Threaded.gated l.parted.token.value (bus_parts l.bus)) l.ends.items;
+  over : All (IsOver l.last) l.ends.items;
 }
 
 abbrev pub decreases-loop-rested : goal.decreases-loop-rested

@@ -8,7 +8,8 @@ use Rattle.hart_threads.specs.Seated.{IsSeated, StandsAfterTurn, StandsAfter}
 use Rattle.hart_threads.specs.Threads.{seated, TurnsOn}
 use Rattle.hart_threads.specs.declared.loops.Why.TheVariants as whys
 use Rattle.hart_threads.proofs.Looping.{gives_none, rests_on, stands_over, one_more, ended_life, kept_part}
-use Rattle.hart_threads.proofs.Ending.{few_asked, closed_not_life, closed_not_gate, closed_not_turns, gate_not_life, gate_not_closed, gate_not_turns, life_not_closed, life_not_gate, life_not_turns, turns_not_life, turns_not_closed, turns_not_gate, as_often, once_more, asked_before, as_it_was, as_both_were, seated_as, said_so, turn_told, none_noted, one_noted}
+use Rattle.hart_threads.proofs.Ending.{few_asked, as_often, once_more, asked_before, as_it_was, as_both_were, seated_as, said_so, turn_told, none_noted, one_noted}
+use Rattle.hart_threads.proofs.Told.{equals}
 use Rattle.hart_threads.proofs.loops.hart_loop.Goals as goal
 
 pub loop-made-init : goal.loop-made-init
@@ -59,23 +60,14 @@ pub whole_turn-end-requires-clause-allowed : goal.whole_turn-end-requires-clause
 whole_turn-end-requires-clause-allowed g c κs within = ap (λ (p : ℕ × ℕ). p.0) c.in-Some.ensures.turn ∙ c.id.ensures
 
 -- ---- something ended all loops
-pub end-requires-clause-receipt : goal.end-requires-clause-receipt
-end-requires-clause-receipt g c = λ e. absurd (closed_not_life e)
-
 pub end-requires-clause-noted : goal.end-requires-clause-noted
 end-requires-clause-noted g c = none_noted c.args.local.part c.loop-made.run.local.part c.loop-made.invariant.part c.requires.fresh
 
+pub end-requires-clause-ended : goal.end-requires-clause-ended
+end-requires-clause-ended g c = refl
+
 pub end-requires-clause-ends : goal.end-requires-clause-ends
 end-requires-clause-ends g c = refl
-
-pub end-requires-clause-whole : goal.end-requires-clause-whole
-end-requires-clause-whole g c = λ e. absurd (closed_not_turns e)
-
-pub end-requires-clause-closed : goal.end-requires-clause-closed
-end-requires-clause-closed g c = λ e. refl
-
-pub end-requires-clause-gated : goal.end-requires-clause-gated
-end-requires-clause-gated g c = λ e. absurd (closed_not_gate e)
 
 pub end-requires-clause-looked : goal.end-requires-clause-looked
 end-requires-clause-looked g c = as_often c.loop-made.made _ (c.in-Err.ensures ∙ c.loop-made.invariant.asked)
@@ -102,23 +94,14 @@ returns-in-Err-clause-once g c =
     (c.loop-made.invariant.turns, c.loop-made-test.true, refl)
 
 -- ---- the gate did
-pub end-requires-in_default-clause-receipt : goal.end-requires-in_default-clause-receipt
-end-requires-in_default-clause-receipt g c = λ e. absurd (gate_not_life e)
-
 pub end-requires-in_default-clause-noted : goal.end-requires-in_default-clause-noted
 end-requires-in_default-clause-noted g c = none_noted c.args.local.part c.loop-made.run.local.part c.loop-made.invariant.part c.requires.fresh
 
+pub end-requires-in_default-clause-ended : goal.end-requires-in_default-clause-ended
+end-requires-in_default-clause-ended g c = c.requires.gated _ _ c.in_default.ensures.asked
+
 pub end-requires-in_default-clause-ends : goal.end-requires-in_default-clause-ends
 end-requires-in_default-clause-ends g c = refl
-
-pub end-requires-in_default-clause-whole : goal.end-requires-in_default-clause-whole
-end-requires-in_default-clause-whole g c = λ e. absurd (gate_not_turns e)
-
-pub end-requires-in_default-clause-closed : goal.end-requires-in_default-clause-closed
-end-requires-in_default-clause-closed g c = λ e. absurd (gate_not_closed e)
-
-pub end-requires-in_default-clause-gated : goal.end-requires-in_default-clause-gated
-end-requires-in_default-clause-gated g c = λ e. c.requires.gated _ _ c.in_default.ensures.asked
 
 pub end-requires-in_default-clause-looked : goal.end-requires-in_default-clause-looked
 end-requires-in_default-clause-looked g c = asked_before c.loop-made.made _ _ c.in-Ok.ensures c.loop-made.invariant.asked
@@ -145,27 +128,18 @@ returns-in_default-clause-once g c =
     (c.loop-made.invariant.turns, c.loop-made-test.true, refl, subst (λ (k : ℕ). g.G.Gate.answers gate k c.loop-made.made false) (c.id.ensures ∙ c.loop-made.invariant.id) c.in_default.ensures.asked)
 
 -- ---- its last turn ended the life
-pub end-requires-then-not-goes_on-clause-receipt : goal.end-requires-then-not-goes_on-clause-receipt
-end-requires-then-not-goes_on-clause-receipt g c =
-    let t = c.whole_turn-end in let r = c.loop-made.run in let b = t.result.0.local in λ e.
-    (turn_told c.args.board.shape.now (seated r.hart (known r.local.seats) r.local.doze r.local.run) (seated t.new.hart (known b.seats) b.doze b.run) t.result.0.word t.result.0.told t.ensures.once (sym c.goes_on.ensures ∙ c.if-not-goes_on.true)).0
-
 pub end-requires-then-not-goes_on-clause-noted : goal.end-requires-then-not-goes_on-clause-noted
 end-requires-then-not-goes_on-clause-noted g c = let t = c.whole_turn-end in one_noted t.result.0.told c.args.local.part c.loop-made.run.local.part t.result.0.local.part t.ensures.noted c.loop-made.invariant.part c.requires.fresh
+
+pub end-requires-then-not-goes_on-clause-ended : goal.end-requires-then-not-goes_on-clause-ended
+end-requires-then-not-goes_on-clause-ended g c =
+    let t = c.whole_turn-end in let r = c.loop-made.run in let b = t.result.0.local in
+    (turn_told c.args.board.shape.now (seated r.hart (known r.local.seats) r.local.doze r.local.run) (seated t.new.hart (known b.seats) b.doze b.run) t.result.0.word t.result.0.told t.ensures.once (sym c.goes_on.ensures ∙ c.if-not-goes_on.true)).0
 
 pub end-requires-then-not-goes_on-clause-ends : goal.end-requires-then-not-goes_on-clause-ends
 end-requires-then-not-goes_on-clause-ends g c =
     let t = c.whole_turn-end in let r = c.loop-made.run in let b = t.result.0.local in
     (turn_told c.args.board.shape.now (seated r.hart (known r.local.seats) r.local.doze r.local.run) (seated t.new.hart (known b.seats) b.doze b.run) t.result.0.word t.result.0.told t.ensures.once (sym c.goes_on.ensures ∙ c.if-not-goes_on.true)).1
-
-pub end-requires-then-not-goes_on-clause-whole : goal.end-requires-then-not-goes_on-clause-whole
-end-requires-then-not-goes_on-clause-whole g c = λ e. absurd (life_not_turns e)
-
-pub end-requires-then-not-goes_on-clause-closed : goal.end-requires-then-not-goes_on-clause-closed
-end-requires-then-not-goes_on-clause-closed g c = λ e. absurd (life_not_closed e)
-
-pub end-requires-then-not-goes_on-clause-gated : goal.end-requires-then-not-goes_on-clause-gated
-end-requires-then-not-goes_on-clause-gated g c = λ e. absurd (life_not_gate e)
 
 pub end-requires-then-not-goes_on-clause-looked : goal.end-requires-then-not-goes_on-clause-looked
 end-requires-then-not-goes_on-clause-looked g c = once_more c.loop-made.made _ _ c.in-Ok.ensures c.loop-made.invariant.asked
@@ -206,23 +180,14 @@ returns-then-not-goes_on-clause-once g c =
     (ended_life c.args.board.shape.now (g.G.Gate.answers gate by) (g.G.Gate.hears gate by) c.args.turns c.loop-made.made begun (seated r.hart (known r.local.seats) r.local.doze r.local.run) now t.result.0.word t.result.0.told i.turns t.ensures.once off said heard)
 
 -- ---- it made all its turns
-pub end-requires-2-clause-receipt : goal.end-requires-2-clause-receipt
-end-requires-2-clause-receipt g c = λ e. absurd (turns_not_life e)
-
 pub end-requires-2-clause-noted : goal.end-requires-2-clause-noted
 end-requires-2-clause-noted g c = none_noted c.args.local.part c.loop-made.run.local.part c.loop-made.invariant.part c.requires.fresh
 
+pub end-requires-2-clause-ended : goal.end-requires-2-clause-ended
+end-requires-2-clause-ended g c = equals c.args.turns g.J.Threaded.turns c.requires.turns
+
 pub end-requires-2-clause-ends : goal.end-requires-2-clause-ends
 end-requires-2-clause-ends g c = refl
-
-pub end-requires-2-clause-whole : goal.end-requires-2-clause-whole
-end-requires-2-clause-whole g c = λ e. c.requires.turns
-
-pub end-requires-2-clause-closed : goal.end-requires-2-clause-closed
-end-requires-2-clause-closed g c = λ e. absurd (turns_not_closed e)
-
-pub end-requires-2-clause-gated : goal.end-requires-2-clause-gated
-end-requires-2-clause-gated g c = λ e. absurd (turns_not_gate e)
 
 pub end-requires-2-clause-looked : goal.end-requires-2-clause-looked
 end-requires-2-clause-looked g c = let all : c.loop-made.made ≡ c.args.turns = omega arith in as_often c.args.turns _ (c.loop-made.invariant.asked ∙ all)
