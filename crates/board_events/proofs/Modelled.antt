@@ -1,6 +1,6 @@
 -- What the store answers a hart of a board, as the model board has it.
-use Rattle.std.proofs.Common.{◌≡◌, ◌∙◌, ◌⊎◌, ⊎_elim, inl, inr, ℕ, zero, suc, Bool, true, false, not, List, Option, None, Some, Result, Ok, Err, refl, sym, ap, subst, ◌<◌, ◌≤◌, length, [], ◌∷◌, ◌++◌, arith}
-use Rattle.std.specs.Prelude.{IfOk, slice_set, get_or, is_some}
+use Rattle.std.proofs.Common.{◌≡◌, ◌∙◌, ◌⊎◌, ⊎_elim, inl, inr, ℕ, zero, suc, Bool, true, false, not, List, Option, None, Some, Result, Ok, Err, refl, sym, ap, subst, ◌<◌, length, [], ◌∷◌, ◌++◌, arith}
+use Rattle.std.specs.Prelude.{IfOk, slice_set, is_some}
 use Rattle.std.proofs.lemmas.Bool.{cases_eq}
 use Rattle.std.proofs.lemmas.List.{get_or-set_other, set-get_or, length-set}
 use Rattle.board.specs.Begins.{IsBegun, IsResumed}
@@ -28,17 +28,15 @@ use Rattle.sbi_abi.specs.declared.call.Call.TheVariants as calls
 use Rattle.sbi_abi.specs.declared.ret.SbiError.{SbiError}
 use Rattle.sbi_abi.specs.declared.ret.SbiError.TheVariants.{Failed, NotSupported, Denied}
 use Rattle.sbi_calls.specs.Both.{TableState}
-use Rattle.sbi_calls.specs.declared.words.Did.{Did}
-use Rattle.sbi_calls.specs.declared.words.Did.TheVariants.{Next, Dozing}
+use Rattle.sbi_calls.specs.declared.words.Did.TheVariants.{Next}
 use Rattle.sbi_calls.specs.declared.words.Turned.{Turned}
 use Rattle.sbi_calls.specs.declared.words.Turned.TheVariants.{Made, Durable}
-use Rattle.sbi.specs.Helds.{HeldIn, MakesReset, SleepsIn, EndsReset, EndsSleep, Refuses}
+use Rattle.sbi.specs.Helds.{HeldIn, MakesReset, EndsReset, EndsSleep, Refuses}
 use Rattle.sbi.specs.Resets.{reset_of}
 use Rattle.sbi.specs.declared.resets.ResetType.{ResetType}
 use Rattle.sbi.specs.declared.resets.ResetType.TheVariants.{Shutdown, ColdReboot}
-use Rattle.sbi.specs.declared.words.LifeEnd.TheVariants as ends
 use Rattle.sbi.specs.declared.words.Word.{Word}
-use Rattle.sbi.specs.declared.words.Word.TheVariants.{Goes, Over}
+use Rattle.sbi.specs.declared.words.Word.TheVariants.{Goes}
 use Rattle.store.specs.Answers.{StoreView}
 use Rattle.store.specs.Asked.{Asked}
 use Rattle.store.specs.Follows.{FitsBoard}
@@ -59,7 +57,7 @@ use Rattle.machine.specs.Machine.{Machine, hart_at, machine_begun, stopped_harts
 use Rattle.machine.specs.Turns.{moment_of, with_moment, DozeTurn, MakesTurn, TurnBy}
 use Rattle.model_board.specs.Boards as models
 use Rattle.model_board.specs.Boards.{Standing, Board, On, Off, image_of, powered, powered_by, standing_of}
-use Rattle.model_board.specs.Held.{HeldBy, AsksStore, IsAlone, Sleeps, SleptBy, after_reset, reset_by, refused, slept_by, with_hart}
+use Rattle.model_board.specs.Held.{HeldBy, AsksStore, IsAlone, Sleeps, after_reset, reset_by, refused, slept_by, with_hart}
 use Rattle.machine.proofs.Asking.{IsOneNumber}
 use Rattle.machine.specs.Held.{AreNumbered}
 use Rattle.board.specs.Turns.{TurnsHeld, Comes as ComesOf}
@@ -68,7 +66,7 @@ use Rattle.model_board.specs.Events.{Event, Turn, Refused, Cut, Does, TurnOn}
 use Rattle.disk.specs.Facts.{Content, Facts, LeavesSince}
 use Rattle.store.specs.Leaves.{IsKept, Leaves, LeavesOnly, StandsForEither}
 use Rattle.board_model.proofs.Table.{of_table}
-use Rattle.board_events.specs.Models.{image_kept, kept_of, shown_on, shown_over, shown_after, IsTurnOf, IsOfBoard, IsLeftBy, rule_by}
+use Rattle.board_events.specs.Models.{image_kept, kept_of, shown_on, shown_after, IsTurnOf, IsOfBoard, IsLeftBy, rule_by}
 
 fold_more : (s : DurableState) (cs : List Change) (c : Change) → fold s (cs ++ c ∷ []) ≡ after (fold s cs) c
 fold_more s [] c = refl

@@ -1,9 +1,9 @@
 -- A row of another space of the same layout stands for what the row stood for from which it was carried over.
-use Rattle.std.proofs.Common.{ℕ, List, [], ◌∷◌, ◌++◌, ◌≡◌, ◌+◌, ◌*◌, ◌/◌, ◌<◌, ◌≤◌, length, refl, sym, ap, subst, ◌∙◌, inl, inr, arith}
-use Rattle.std.specs.Prelude.{get_or, slice_index, slice_range, IsTrue}
+use Rattle.std.proofs.Common.{ℕ, List, [], ◌∷◌, ◌++◌, ◌≡◌, ◌+◌, ◌*◌, ◌/◌, ◌<◌, length, sym, ap, subst, ◌∙◌, inl, inr, arith}
+use Rattle.std.specs.Prelude.{get_or, slice_index, slice_range}
 use Rattle.std.proofs.lemmas.Bool.{cases_lt}
 use Rattle.board_model.specs.Shapes.{Size}
-use Rattle.hart.specs.State.{ArchState, never_started}
+use Rattle.hart.specs.State.{never_started}
 use Rattle.model_board.specs.Boards.{Board}
 use Rattle.model_board.specs.Maps.{Map}
 use Rattle.state_space.specs.Begins.{begin_of}
@@ -69,9 +69,6 @@ module _ (a b : Layout) (same : laid_by b ≡ laid_by a) where
       tracks h k (subst (λ (l : List ℕ). 8 * k < length l) same_base lt) may (λ at. none (tracked_too k at))
 
 -- ---- one number more
-pub records_none : {T : Type 0} (old : List T) (row : List ℕ) (from : ℕ) (new : List T) (out : List ℕ) (at : ℕ) → AreSameRecords old row from new out at 0
-records_none old row from new out at h x lt is = absurd (omega arith)
-
 pub records_more : {T : Type 0} (old : List T) (row : List ℕ) (from : ℕ) (mid new : List T) (first out : List ℕ) (n k : ℕ)
     → Extends first out n → Stays mid new → AreSameRecords old row from mid out (length first) n
     → ((x : T) → IsAt old (slice_index row (from + n)) x → IsAt new k x)
@@ -83,9 +80,6 @@ records_more {T} old row from mid new first out n k extends stays was same h x l
       subst (λ (m : ℕ). IsAt new (slice_index (out ++ k ∷ []) (length first + m)) x) (sym e)
       (subst (λ (m : ℕ). IsAt new m x) (sym (added_at first out n k extends)) (same x (subst (λ (m : ℕ). IsAt old (slice_index row (from + m)) x) e is))))
 ]
-
-pub words_none : (old : Interner) (row : List ℕ) (from : ℕ) (new : Interner) (out : List ℕ) (at : ℕ) → AreSameWords old row from new out at 0
-words_none old row from new out at s lt = absurd (omega arith)
 
 pub words_more : (old : Interner) (row : List ℕ) (from : ℕ) (mid new : Interner) (first out : List ℕ) (n k : ℕ)
     → Extends first out n → Grows mid new → AreSameWords old row from mid out (length first) n

@@ -2,12 +2,10 @@
 use Rattle.std.proofs.Common.{◌≡◌, ◌<◌, ℕ, zero, suc, Bool, true, false, List, [], refl, sym, ap, ◌∙◌, subst}
 use Rattle.std.specs.Prelude.{slice_range}
 use Rattle.board_model.specs.Shapes.{Size}
-use Rattle.hart.specs.State.{ArchState, reg}
-use Rattle.machine.specs.Machine.{Machine, hart_at}
 use Rattle.model_board.specs.Boards.{Board, Life, On, Off, Ended}
-use Rattle.model_board.specs.Events.{Event, Turn, TurnOn, Does, IsEnd}
+use Rattle.model_board.specs.Events.{Event, Turn, TurnOn, Does}
 use Rattle.model_board.specs.LeftOut.{IsLeftOut, StandsFor, ReadsNone, AreProbed}
-use Rattle.model_board.specs.Maps.{Map, Keeps, TurnKeeps, Local}
+use Rattle.model_board.specs.Maps.{Map, Keeps, Local}
 use Rattle.model_board.specs.Plain.{status_of}
 use Rattle.model_board.specs.declared.powers.Status.TheVariants as statuses
 use Rattle.model_board.proofs.Filling.{stands_on, life_for, off_filled, ended_filled}
@@ -19,7 +17,7 @@ use Rattle.board_space.specs.Rows.{Stands}
 use Rattle.board_space.specs.Shown.{Shows}
 use Rattle.board_space.specs.declared.outcomes.Outcome.{Outcome}
 use Rattle.board_space.specs.declared.outcomes.Outcome.TheVariants.{Rests, Ends}
-use Rattle.board_space.specs.Space.{Asked, Happens, KeepsEach, KeepsSure, IsFor, IsLocalTurn, IsSureTurn, ReadsKept, Settles, SettlesSure, Steps, board_rules, sure_rules}
+use Rattle.board_space.specs.Space.{Asked, IsFor, IsLocalTurn, IsSureTurn, ReadsKept, Settles, SettlesSure, board_rules, sure_rules}
 use Rattle.board_space.specs.Standing.{Standing}
 use Rattle.board_space.specs.declared.board_rows.BoardRows.{BoardRows}
 
@@ -34,10 +32,6 @@ for_on false b c d first later = later ∙ first
 pub for_stands : (leaves : Bool) (b c : Board) → IsFor leaves b c → StandsFor b c
 for_stands true b c is = is
 for_stands false b c is = (0, is)
-
-pub for_by : (leaves : Bool) (b c : Board) → leaves ≡ true → StandsFor b c → IsFor leaves b c
-for_by true b c is stands = stands
-for_by false b c is stands = absurd (cc)
 
 module _ (law : Standing) where
   for_event : (leaves : Bool) (payload : List ℕ) (size : Size) (e : Event) (b c d : Board) → IsFor leaves b d → ReadsKept leaves e b → Does payload size e b c → (f : Board) × Does payload size e d f × IsFor leaves c f

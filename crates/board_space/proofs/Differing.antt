@@ -1,5 +1,5 @@
 -- A board that a row stands for has what the row has.
-use Rattle.std.proofs.Common.{ℕ, List, [], Bool, true, false, Option, Some, None, ⊎_elim, ◌≡◌, ◌+◌, ◌*◌, ◌<◌, ◌≤◌, length, refl, sym, ap, subst, ◌∙◌, arith}
+use Rattle.std.proofs.Common.{ℕ, List, [], Bool, false, Option, Some, None, ⊎_elim, ◌≡◌, ◌+◌, ◌*◌, ◌<◌, ◌≤◌, length, refl, sym, ap, subst, ◌∙◌, arith}
 use Rattle.std.specs.Prelude.{get_or, slice_index, take}
 use Rattle.std.proofs.lemmas.List.{get_or-map, get_or-take, get_or_read, length-take, length-take-le}
 use Rattle.board_model.specs.Shapes.{Size}

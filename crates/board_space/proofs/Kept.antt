@@ -30,24 +30,6 @@ module _ (old new : WordPool) (key : List ℕ) (counted : segment_count new ≡ 
         }
       ]
 
-  pub told_kept : (k : ℕ) → IsTracked new k → IsKept old key k
-  told_kept k t =
-      elim (cases_lt t.number (segment_count old)) [
-        | inl below ↦ (
-            let same : segment new t.number ≡ segment old t.number = stay t.number below in
-            inl (record {
-              number = t.number;
-              place = t.place;
-              known = below;
-              within = subst (λ (s : List ℕ). t.place < length s) same t.within;
-              is = sym (ap (λ (s : List ℕ). slice_index s t.place) same) ∙ t.is;
-            }))
-        | inr from ↦ (
-            let last : t.number ≡ segment_count old = omega (arith, counted, t.known, from) in
-            let same : segment new t.number ≡ key = ap (λ (n : ℕ). segment new n) last ∙ added in
-            inr (t.place, subst (λ (s : List ℕ). t.place < length s) same t.within, sym (ap (λ (s : List ℕ). slice_index s t.place) same) ∙ t.is))
-      ]
-
 -- the words of a segment lie within
 pub segment_within : (tracked : WordPool) (bytes s : ℕ) → AreWithin tracked bytes → s < segment_count tracked → (j : ℕ) → j < length (segment tracked s) → 8 * slice_index (segment tracked s) j + 8 ≤ bytes
 segment_within tracked bytes s within known j low =

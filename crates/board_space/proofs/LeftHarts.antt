@@ -73,41 +73,6 @@ pub put_id : (k : ℕ) (s : ArchState) → (put s k LEFT_OUT).id ≡ s.id
 put_id k s = id_by (nat_eq k 0) k s
 
 -- ---- probes
-shown_sized : (rest : Rest) (b : Sized) → IsRest rest b → b.board ≡ board_shown b.power b.reason b.down b.machine
-shown_sized rest b is =
-    ap (λ (s : Sized). s.board) is ∙ sym (ap (λ (s : Sized). board_shown s.power s.reason s.down s.machine) is)
-
-probe_shown : (power : Power) (reason : Reason) (down : Bool) (m : Machine) (h k v : ℕ) → statuses.On ≡ status_of (board_shown power reason down m) → board_shown power reason down (with_hart h m (with_register k v (hart_at m h))) ≡ board_holding h k v (board_shown power reason down m)
-probe_shown powers.On reason down m h k v is = refl
-probe_shown (powers.Off at) reason down m h k v is = absurd (cc)
-probe_shown powers.Ended reason down m h k v is = absurd (cc)
-
-pub probe_sized : (rest : Rest) (b : Sized) (h k v : ℕ) → IsRest rest b → statuses.On ≡ status_of b.board → (with_machine (with_hart h b.machine (with_register k v (hart_at b.machine h))) b).board ≡ board_holding h k v b.board
-probe_sized rest b h k v is on =
-    let shown = shown_sized rest b is in
-    probe_shown b.power b.reason b.down b.machine h k v (subst (λ (x : Board). statuses.On ≡ status_of x) shown on)
-    ∙ ap (λ (x : Board). board_holding h k v x) (sym shown)
-
-left_shown : (power : Power) (reason : Reason) (down : Bool) (m : Machine) (h k : ℕ) → statuses.On ≡ status_of (board_shown power reason down m) → h < length m.harts → k < 32 → reg (hart_at m h) k ≡ LEFT_OUT → IsLeftOut h k (board_shown power reason down m)
-left_shown powers.On reason down m h k is has low left = (has, low, left)
-left_shown (powers.Off at) reason down m h k is has low left = absurd (cc)
-left_shown powers.Ended reason down m h k is has low left = absurd (cc)
-
-pub left_at_sized : (rest : Rest) (b : Sized) (h k : ℕ) → IsRest rest b → statuses.On ≡ status_of b.board → h < length b.machine.harts → k < 32 → reg (hart_at b.machine h) k ≡ LEFT_OUT → IsLeftOut h k b.board
-left_at_sized rest b h k is on has low left =
-    let shown = shown_sized rest b is in
-    subst (λ (x : Board). IsLeftOut h k x) (sym shown)
-    (left_shown b.power b.reason b.down b.machine h k (subst (λ (x : Board). statuses.On ≡ status_of x) shown on) has low left)
-
-held_shown : (power : Power) (reason : Reason) (down : Bool) (m : Machine) (h k : ℕ) → IsLeftOut h k (board_shown power reason down m) → reg (hart_at m h) k ≡ LEFT_OUT
-held_shown powers.On reason down m h k left = left.2
-held_shown (powers.Off at) reason down m h k left = absurd left
-held_shown powers.Ended reason down m h k left = absurd left
-
-pub held_at_sized : (rest : Rest) (b : Sized) (h k : ℕ) → IsRest rest b → IsLeftOut h k b.board → reg (hart_at b.machine h) k ≡ LEFT_OUT
-held_at_sized rest b h k is left =
-    held_shown b.power b.reason b.down b.machine h k (subst (λ (x : Board). IsLeftOut h k x) (shown_sized rest b is) left)
-
 pub none_off : (h k : ℕ) (b : Board) → statuses.Off ≡ status_of b → IsLeftOut h k b → ⊥
 none_off h k (On l) is left = cc
 none_off h k (Off s) is left = left
@@ -118,18 +83,6 @@ none_ended h k (On l) is left = cc
 none_ended h k (Off s) is left = left
 none_ended h k (Ended s) is left = left
 
--- x0 holds 0
-left_some : (z : Bool) (v : ℕ) → (if z then 0 else v) ≡ LEFT_OUT → z ≡ false
-left_some true v e = absurd (omega (arith, e))
-left_some false v e = refl
-
-put_by_other : (z : Bool) (k v : ℕ) (s : ArchState) → z ≡ false → (if z then s else record s { regs = slice_set s.regs k v }) ≡ with_register k v s
-put_by_other true k v s is = absurd (cc)
-put_by_other false k v s is = refl
-
-pub put_left_out : (k v : ℕ) (s : ArchState) → reg s k ≡ LEFT_OUT → put s k v ≡ with_register k v s
-put_left_out k v s left = put_by_other (nat_eq k 0) k v s (left_some (nat_eq k 0) (slice_index s.regs k) left)
-
 held_by : (z : Bool) (v : ℕ) → (if z then 0 else v) ≡ PROBE → v ≡ PROBE
 held_by true v e = absurd (omega (arith, e))
 held_by false v e = e
@@ -139,10 +92,3 @@ held_on (On l) m h k is at held =
     held_by (nat_eq k 0) (slice_index (hart_at l.machine h).regs k) (subst (λ (n : Machine). reg (hart_at n h) k ≡ PROBE) (at l refl) held)
 held_on (Off s) m h k is at held = absurd (cc)
 held_on (Ended s) m h k is at held = absurd (cc)
-
-id_by_any : (z : Bool) (k v : ℕ) (s : ArchState) → (if z then s else record s { regs = slice_set s.regs k v }).id ≡ s.id
-id_by_any true k v s = refl
-id_by_any false k v s = refl
-
-pub put_any_id : (k v : ℕ) (s : ArchState) → (put s k v).id ≡ s.id
-put_any_id k v s = id_by_any (nat_eq k 0) k v s

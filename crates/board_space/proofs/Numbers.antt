@@ -1,5 +1,5 @@
 -- Records by their numbers, and rows that grow.
-use Rattle.std.proofs.Common.{ℕ, zero, suc, List, [], ◌∷◌, ◌++◌, ◌≡◌, ◌+◌, ◌<◌, length, refl, sym, ap, subst, ◌∙◌, inl, inr, arith, length-append}
+use Rattle.std.proofs.Common.{ℕ, zero, suc, List, [], ◌∷◌, ◌++◌, ◌≡◌, ◌+◌, ◌<◌, length, sym, ap, subst, ◌∙◌, inl, inr, arith, length-append}
 use Rattle.std.specs.Prelude.{get_or, slice_index}
 use Rattle.std.proofs.lemmas.Bool.{cases_lt}
 use Rattle.std.proofs.lemmas.List.{get_or_append_left}
@@ -8,7 +8,6 @@ use Rattle.hart.specs.State.{ArchState, never_started}
 use Rattle.machine.specs.Machine.{stopped_harts}
 use Rattle.machine.proofs.Opening.{long}
 use Rattle.state_space.specs.Numbered.{word_count, words_of}
-use Rattle.state_space.specs.Pools.{IsPut, Stay}
 use Rattle.state_space.specs.declared.interner.Interner.{Interner}
 use Rattle.board_space.specs.Layouts.{tracked_of}
 use Rattle.board_space.specs.Records.{IsAt, Stays}
@@ -18,10 +17,6 @@ use Rattle.board_space.specs.declared.row_layout.Layout.{Layout}
 
 pub at_same : {T : Type 0} (xs : List T) (n : ℕ) (x y : T) → IsAt xs n x → x ≡ y → IsAt xs n y
 at_same {T} xs n x y a e = subst (λ (z : T). IsAt xs n z) e a
-
-pub at_stays : {T : Type 0} (xs : List T) (z : T) → Stays xs (xs ++ z ∷ [])
-at_stays xs z = λ n x a.
-    (omega (arith, a.0, length-append xs (z ∷ [])), a.1 ∙ sym (get_or_append_left xs (z ∷ []) x n a.0))
 
 pub at_last : {T : Type 0} (xs : List T) (x : T) → IsAt (xs ++ x ∷ []) (length xs) x
 at_last xs x = (omega (arith, length-append xs (x ∷ [])), sym (get_or-append_seam xs x [] x))
@@ -39,9 +34,6 @@ stopped_at (suc n) h d lt =
     ]
 
 -- ---- rows
-pub extends_none : (row : List ℕ) → Extends row row 0
-extends_none row = record { long = omega arith; same = λ i within. refl }
-
 pub extends_more : (old row : List ℕ) (n x : ℕ) → Extends old row n → Extends old (row ++ x ∷ []) (n + 1)
 extends_more old row n x e = record {
   long = omega (arith, e.long, length-append row (x ∷ []));
@@ -86,13 +78,6 @@ segments_more layout words now old row n x memory e are grows within hold s low 
           subst (λ (i : ℕ). P i (slice_index (row ++ x ∷ []) (length old + i))) same
           (subst (λ (k : ℕ). P n k) (sym (added_at old row n x e)) (within, hold)))
     ]
-
-pub grows_put : (old new : Interner) (key : List ℕ) (number : ℕ) → IsPut (words_of old) (word_count old) (words_of new) (word_count new) key number → Stay (words_of old) (word_count old) (words_of new) → Grows old new
-grows_put old new key number put stay k low =
-    (elim put.added [ inl same ↦ omega (arith, same, low) | inr more ↦ omega (arith, more.0, low) ], stay k low)
-
-pub grows_same : (old new : Interner) → word_count new ≡ word_count old → Stay (words_of old) (word_count old) (words_of new) → Grows old new
-grows_same old new same stay k low = (omega (arith, same, low), stay k low)
 
 pub grows_both : (old mid new : Interner) → Grows old mid → Grows mid new → Grows old new
 grows_both old mid new a b k low =

@@ -1,7 +1,7 @@
 -- A row is put where another one was.
 use Rattle.std.proofs.Common.{ℕ, List, Bool, ◌≡◌, ◌+◌, ◌*◌, ◌/◌, ◌<◌, ◌≤◌, length, refl, sym, ap, subst, ◌∙◌, inl, inr, arith}
 use Rattle.std.specs.Prelude.{slice_index, slice_set, get_or}
-use Rattle.std.proofs.lemmas.Bool.{cases_lt, cases_eq}
+use Rattle.std.proofs.lemmas.Bool.{cases_lt}
 use Rattle.std.proofs.lemmas.List.{get_or-set_other}
 use Rattle.board_model.specs.declared.durable.Reason.{Reason}
 use Rattle.hart.specs.State.{ArchState, never_started}
@@ -45,22 +45,6 @@ others_more records row old now new count x others low at is e =
           ap (λ (hs : List ArchState). get_or hs h (never_started h)) harts
           ∙ (get_or-set_other now.machine.harts count h x (never_started h) other ∙ others.left h (omega (arith, from)));
     }
-
--- both rows have that hart
-pub others_same : (records : List ArchState) (from row : List ℕ) (old now : Sized) (count total : ℕ) → AreOthersPut records row old now count → count < total → AreHarts records from 1 total old.machine.harts → slice_index from (1 + count) ≡ slice_index row (1 + count) → AreOthersPut records row old now (count + 1)
-others_same records from row old now count total others low there same = record {
-  put = record {
-    harts = λ h below. elim (cases_eq h count) [
-      | inl is ↦ subst (λ (k : ℕ). IsAt records (slice_index row (1 + k)) (get_or now.machine.harts k (never_started k))) (sym is)
-          (subst (λ (s : ArchState). IsAt records (slice_index row (1 + count)) s) (sym (others.left count (omega arith)))
-          (subst (λ (n : ℕ). IsAt records n (get_or old.machine.harts count (never_started count))) same (there count low)))
-      | inr other ↦ others.put.harts h (omega (arith, below, other))
-    ];
-    many = others.put.many;
-    others = others.put.others;
-  };
-  left = λ h from_there. others.left h (omega (arith, from_there));
-}
 
 -- ---- segments
 -- the first ones are put, and each word that is as some memory of the row has it is so still

@@ -139,12 +139,6 @@ values_more words values old now new count put low small stored others = record 
   others = memory_framed old now new put.others others;
 }
 
-pub values_hold : (words values : List ℕ) (old now : Sized) (count : ℕ) → AreValuesPut words values old now count → length words ≤ count → (m : List ℕ) → Hold m words values → Hold now.machine.memory words values
-values_hold words values old now count put all m hold = record {
-  long = hold.long;
-  each = λ j low. hold.each j low ∙ sym (put.there m hold j (omega arith));
-}
-
 -- ---- segments
 -- the first segments are put
 pub record AreSegmentsPut (layout : Layout) (words : Interner) (from : ℕ) (row : List ℕ) (old now : Sized) (count : ℕ) : Type 0 where
@@ -216,18 +210,6 @@ segments_hold layout words from row old now count put all m are s low =
 module _ (rows : BoardRows) (row : List ℕ) (known : Board) (x : Stands rows row known) (old : Sized) (based : IsBased rows.layout old) where
   same_harts : x.machine.size.harts ≡ old.machine.size.harts
   same_harts = ap (λ (s : Size). s.harts) (x.is.size ∙ sym based.size)
-
-  pub fits_put : (rest : Rest) → IsAt rows.rests.records.items (slice_index row 0) rest → Fits old.machine.size.harts rest
-  fits_put rest at =
-      subst (λ (r : Rest). Fits old.machine.size.harts r) (one_at rows.rests.records.items (slice_index row 0) x.rest rest x.rested at) (subst (λ (n : ℕ). Fits n x.rest) same_harts x.fits)
-
-  pub known_hart : (h : ℕ) → h < (size_of rows.layout).harts → slice_index row (1 + h) < length rows.harts.records.items
-  known_hart h low = (x.is.harts h low).0
-
-  pub numbered_hart : (h : ℕ) (y : ArchState) → h < (size_of rows.layout).harts → IsAt rows.harts.records.items (slice_index row (1 + h)) y → y.id ≡ h
-  numbered_hart h y low at =
-      ap (λ (s : ArchState). s.id) (one_at rows.harts.records.items (slice_index row (1 + h)) y (hart_at x.machine h) at (x.is.harts h low))
-      ∙ x.is.numbered h (subst (λ (s : Size). h < s.harts) (sym x.is.size) low)
 
   pub known_segments : (m : List ℕ) × AreSegments rows.layout rows.words row (1 + (size_of rows.layout).harts) m
   known_segments = (x.machine.memory, x.is.memory.segments)
@@ -310,6 +292,3 @@ module _ (rows : BoardRows) (row : List ℕ) (known : Board) (x : Stands rows ro
 
   pub is_board : (b : Board) → Stands rows row b → b3.board ≡ b
   is_board b y = one_board rows row b3.board b stands y
-
-  pub stays_based : IsBased rows.layout b3
-  stays_based = record { size = size; memory = on_base }

@@ -34,31 +34,6 @@ awake_by rows row b rest at on none x =
     )
 
 -- ---- off
-abbrev pub IsOffBy : Power → Type 0
-IsOffBy powers.On = ⊥
-IsOffBy (powers.Off at) = Unit {0}
-IsOffBy powers.Ended = ⊥
-
-shown_away : (power : Power) (reason : Reason) (down : Bool) (m : Machine) → IsOffBy power → IsAway (board_shown power reason down m)
-shown_away powers.On reason down m off = off
-shown_away (powers.Off at) reason down m off = tt
-shown_away powers.Ended reason down m off = off
-
-away_shown : (power : Power) (reason : Reason) (down : Bool) (m : Machine) → IsAway (board_shown power reason down m) → IsOffBy power
-away_shown powers.On reason down m away = away
-away_shown (powers.Off at) reason down m away = tt
-away_shown powers.Ended reason down m away = away
-
-pub off_by : (rows : BoardRows) (row : List ℕ) (b : Board) (rest : Rest) → IsAt rows.rests.records.items (slice_index row 0) rest → IsOffBy rest.power → Stands rows row b → IsAway b
-off_by rows row b rest at off x =
-    let same : x.rest ≡ rest = one_at rows.rests.records.items (slice_index row 0) x.rest rest x.rested at in
-    subst IsAway (sym x.shown) (shown_away x.rest.power x.rest.reason x.rest.down x.machine (subst (λ (r : Rest). IsOffBy r.power) (sym same) off))
-
-pub not_off_by : (rows : BoardRows) (row : List ℕ) (b : Board) (rest : Rest) → IsAt rows.rests.records.items (slice_index row 0) rest → (IsOffBy rest.power → ⊥) → Stands rows row b → IsAway b → ⊥
-not_off_by rows row b rest at other x away =
-    let same : x.rest ≡ rest = one_at rows.rests.records.items (slice_index row 0) x.rest rest x.rested at in
-    other (subst (λ (r : Rest). IsOffBy r.power) same (away_shown x.rest.power x.rest.reason x.rest.down x.machine (subst IsAway x.shown away)))
-
 -- the same of each board for which it stands
 pub away_for : (leaves : Bool) (b d : Board) → IsFor leaves b d → IsAway b → IsAway d
 away_for leaves (On l) d is away = absurd away

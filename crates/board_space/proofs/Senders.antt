@@ -1,5 +1,5 @@
 -- The senders of a hart's pending interrupts, read off a machine's table.
-use Rattle.std.proofs.Common.{ℕ, zero, suc, List, [], Bool, true, false, ◌≡◌, ◌<◌, ◌≤◌, ◌^◌, length, refl, sym, ap, subst, ◌∙◌, arith}
+use Rattle.std.proofs.Common.{ℕ, zero, suc, List, [], Bool, true, false, ◌≡◌, ◌<◌, ◌^◌, length, refl, sym, ap, subst, ◌∙◌, arith}
 use Rattle.std.specs.Prelude.{◌==◌, get_or, take}
 use Rattle.std.specs.Int.{bit_at}
 use Rattle.std.proofs.lemmas.List.{get_or-map, get_or-take}

@@ -1,8 +1,8 @@
 -- Looks, one after the other.
-use Rattle.std.proofs.Common.{◌≡◌, ◌∙◌, ℕ, ◌+◌, ◌<◌, List, [], ◌∷◌, ◌++◌, length, get_or, take, drop, refl, sym, ap, subst, append_assoc, append-nil, IfSome}
+use Rattle.std.proofs.Common.{◌≡◌, ◌∙◌, ℕ, ◌+◌, ◌<◌, List, [], ◌∷◌, ◌++◌, length, get_or, take, drop, refl, sym, ap, append_assoc, append-nil}
 use Rattle.std.specs.Prelude.{slice_range}
 use Rattle.std.proofs.lemmas.List.{drop_more, take_more}
-use Rattle.kernel_check.specs.Shown.{Meet, looked}
+use Rattle.kernel_check.specs.Shown.{looked}
 use Rattle.kernel_check.specs.declared.looks.Look.{Look}
 
 -- a list from an element on begins with it
@@ -24,15 +24,6 @@ pub looked_more : (looks : List Look) (memory : List ℕ) (i : ℕ) (look : Look
 looked_more looks memory i look h e =
     ap (λ (ls : List Look). looked ls memory) (take_at looks i look h e) ∙ looked_append (take i looks) (look ∷ []) memory
     ∙ ap (λ (r : List ℕ). looked (take i looks) memory ++ r) (append-nil (slice_range memory look.start (look.start + look.bytes)))
-
--- what is left to compare, one look on
-pub meets_on : (looks : List Look) (i : ℕ) (look : Look) (rest : List ℕ) → i < length looks → look ≡ get_or looks i look
-    → Meet (drop i looks) rest → IfSome look.expected (λ expected. take look.bytes rest ≡ expected.items) × Meet (drop (i + 1) looks) (drop look.bytes rest)
-meets_on looks i look rest h e m = subst (λ (ls : List Look). Meet ls rest) (drop_at looks i look h e) m
-
-pub meets_back : (looks : List Look) (i : ℕ) (look : Look) (rest : List ℕ) → i < length looks → look ≡ get_or looks i look
-    → IfSome look.expected (λ expected. take look.bytes rest ≡ expected.items) → Meet (drop (i + 1) looks) (drop look.bytes rest) → Meet (drop i looks) rest
-meets_back looks i look rest h e one m = subst (λ (ls : List Look). Meet ls rest) (sym (drop_at looks i look h e)) (one, m)
 
 -- one look more is compared
 pub told_more : (looks : List Look) (memory : List ℕ) (i : ℕ) (look : Look) → i < length looks → look ≡ get_or looks i look

@@ -1,5 +1,5 @@
 -- A board that stands for others goes where they go.
-use Rattle.std.proofs.Common.{ℕ, zero, suc, Bool, true, false, ◌≡◌, ◌⊎◌, ⊎_elim, inl, inr, ◌+◌, ◌<◌, ◌≤◌, List, length, length-set, refl, sym, ap, ◌∙◌, subst, if◌then◌else◌, arith}
+use Rattle.std.proofs.Common.{ℕ, zero, suc, Bool, true, false, ◌≡◌, ◌⊎◌, ⊎_elim, inl, inr, ◌<◌, ◌≤◌, List, length, length-set, refl, sym, ap, ◌∙◌, subst, if◌then◌else◌, arith}
 use Rattle.std.specs.Prelude.{slice_index, slice_set, get_or, nat_eq, not}
 use Rattle.std.proofs.lemmas.Bool.{cases_lt, eqb-true}
 use Rattle.std.proofs.lemmas.List.{set-set, set-get_or, set_comm, set_past, get_or-set_same, get_or-set_other}
@@ -11,9 +11,9 @@ use Rattle.hart.proofs.Obeyed.{HasOne}
 use Rattle.rv_decode.specs.Spells.{Reads}
 use Rattle.machine.specs.Machine.{Machine, hart_at}
 use Rattle.model_board.specs.Boards.{Standing, Life, Board, On, Off, Ended}
-use Rattle.model_board.specs.Events.{Event, Turn, Refused, Wake, Cut, PowerOn, Does, TurnOn, IsEnd}
+use Rattle.model_board.specs.Events.{Event, Turn, Refused, Wake, Cut, PowerOn, Does, TurnOn}
 use Rattle.model_board.specs.Maps.{Map, Keeps, Local}
-use Rattle.model_board.specs.Registers.{with_register, machine_holding, board_holding, IsUnread, TurnUnread, TurnsUnread, EventUnread, KnowsHart, MovesPc}
+use Rattle.model_board.specs.Registers.{with_register, machine_holding, board_holding, TurnUnread, TurnsUnread, EventUnread, KnowsHart, MovesPc}
 use Rattle.model_board.specs.LeftOut.{LEFT_OUT, PROBE, IsLeftOut, Filled, StandsFor, ReadsNone, HartFor, LifeFor, held_at, IsProbed, AreProbed}
 use Rattle.model_board.proofs.Once.{event_determines_board}
 use Rattle.model_board.proofs.Swaps.{IsOneTurn, turns, one}
@@ -443,9 +443,6 @@ left_at h k (Ended s) left = absurd left
 module _ (law : HasOne) (single : IsOneTurn) (payload : List ℕ) (size : Size) (g : ℕ) where
   abbrev Turns : Board → Board → Type 0
   Turns b c = Does payload size (Turn g) b c
-
-  turn_on : (b c : Board) → TurnOn g b c → Turns b c
-  turn_on b c did = did
 
   -- the probe of another register stays
   probed_apart : (h k x j : ℕ) (b : Board) → IsLeftOut h k b → ReadsNone (Turn g) b → KnowsHart g b → Apart h k g j → IsProbed g j b → IsProbed g j (board_holding h k x b)

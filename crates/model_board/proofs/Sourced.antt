@@ -1,14 +1,10 @@
 -- A register that is none of an instruction's sources is not read.
-use Rattle.std.proofs.Common.{ℕ, ◌≡◌, ◌<◌, List, Option, Some, None, arith}
-use Rattle.hart.specs.State.{ArchState, reg}
-use Rattle.hart.specs.Means.{word_at}
-use Rattle.rv_decode.specs.Spells.{Reads}
+use Rattle.std.proofs.Common.{ℕ, Option, Some, None}
 use Rattle.rv_decode.specs.declared.instr.Instr.{Instr}
 use Rattle.rv_decode.specs.declared.instr.Instr.TheVariants as instr
 use Rattle.rv_decode.specs.declared.ops.SystemOp.TheVariants as system
-use Rattle.model_board.specs.LeftOut.{LEFT_OUT}
 use Rattle.model_board.specs.Registers.{IsUnread}
-use Rattle.model_board.specs.Sources.{sources_read, IsAmong, IsUnreadAt}
+use Rattle.model_board.specs.Sources.{sources_read, IsAmong}
 
 pub unread_by : (o : Option Instr) (k : ℕ) → (IsAmong (sources_read o) k → ⊥) → IsUnread o k
 unread_by None k none = tt
@@ -31,7 +27,3 @@ unread_by (Some (instr.System system.Ecall)) k none = none
 unread_by (Some (instr.System system.Ebreak)) k none = λ is. is
 unread_by (Some (instr.System system.Sret)) k none = λ is. is
 unread_by (Some (instr.System system.Wfi)) k none = λ is. is
-
-pub unread_at : (o : Option Instr) (s : ArchState) (m : List ℕ) → Reads o (word_at m s.pc) → ((k : ℕ) → IsAmong (sources_read o) k → reg s k ≡ LEFT_OUT → ⊥) → (k : ℕ) → reg s k ≡ LEFT_OUT → IsUnreadAt k s m
-unread_at o s m reads none k is =
-    (o, reads, unread_by o k (λ among. none k among is))

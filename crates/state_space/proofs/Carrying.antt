@@ -1,5 +1,5 @@
 -- What was found by a system beside the one that is searched is carried over, and entered.
-use Rattle.std.proofs.Common.{◌≡◌, ⊎_elim, ℕ, ◌+◌, ◌<◌, ◌≤◌, Bool, true, false, if◌then◌else◌, List, [], ◌∷◌, ◌++◌, length, get_or, take, drop, refl, sym, ap, subst, ◌∙◌, arith, length-append}
+use Rattle.std.proofs.Common.{◌≡◌, ⊎_elim, ℕ, ◌+◌, ◌<◌, Bool, true, false, if◌then◌else◌, List, [], ◌∷◌, ◌++◌, length, get_or, take, drop, refl, sym, ap, subst, ◌∙◌, arith, length-append}
 use Rattle.std.specs.Prelude.{All, ◌↔◌, ◌≢◌, slice_index}
 use Rattle.std.proofs.lemmas.Bool.{cases_lt}
 use Rattle.std.proofs.lemmas.List.{take_at}
@@ -110,15 +110,6 @@ module _ {State : Type 0} (rules : Rules State) where
         (λ b has. made_is.known is_known b (subst (λ k. main (row_at old k) b) (sym is) has))
         (λ b has. made_is.ended b (subst (λ k. main (row_at old k) b) (sym is) has))
 
-    pub later_added : Stay main main' → IsAdded old new found made.is_end → IsLater main main' old new
-    later_added stays added = record {
-      stays = stays;
-      rows = added.rows;
-      grown = added.grown;
-      more = omega (arith, added.one);
-      width = added.width;
-    }
-
 -- ---- one row more that is known, or not
 pub targets_none : (graph : Graph) (found : Successors) (targets : List ℕ) → targets ≡ [] → AreTargets graph found targets
 targets_none graph found targets none i lt within some = let long : length targets ≡ 0 = ap length none in absurd (omega (arith, long, within))
@@ -141,13 +132,6 @@ targets_more graph found targets now n k is long are one i lt within some =
     (cases_lt i (length targets))
 
 module _ {State : Type 0} where
-  pub carried_none : (own main : List ℕ → State → Type 0) (from to : Successors) → found_count to ≡ 0 → IsCarried own main from to 0
-  carried_none own main from to none = record {
-    count = none;
-    events = λ i lt. absurd (omega arith);
-    rows = λ i b lt. absurd (omega arith);
-  }
-
   pub carried_more : (own main main' : List ℕ → State → Type 0) (from old new : Successors) (n : ℕ)
       → Stay main main' → n < found_count from → IsCarried own main from old n
       → IsPushed own main' old new (found_event from n) (found_row from n)
@@ -172,14 +156,6 @@ module _ {State : Type 0} where
   }
 
   -- ---- later and later
-  pub later_same : (main : List ℕ → State → Type 0) (graph : Graph) → IsLater main main graph graph
-  later_same main graph = record {
-    stays = stays_same main;
-    rows = λ k lt. refl;
-    grown = omega arith;
-    more = omega arith;
-    width = refl;
-  }
 
   pub later_on : (a b c : List ℕ → State → Type 0) (first mid last : Graph) → IsLater a b first mid → IsLater b c mid last → IsLater a c first last
   later_on a b c first mid last one two = record {
@@ -206,6 +182,3 @@ module _ {X : Type 0} (new old items : List X) (n : ℕ) (as_many : length new �
 
   pub all_back : (P : X → Type 0) → All P new → All P (take n (new ++ drop (length new) items))
   all_back P all = All-same P (take n (new ++ drop (length new) items)) new put_back all
-
-  pub long_back : length (take n (new ++ drop (length new) items)) ≡ length items
-  long_back = ap (λ (l : List X). length l) put_back ∙ as_many ∙ ap (λ (l : List X). length l) value

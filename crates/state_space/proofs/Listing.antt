@@ -6,12 +6,6 @@ use Rattle.state_space.specs.Successors.{found_count, found_event, found_row}
 use Rattle.state_space.specs.declared.found.Successors.{Successors}
 
 module _ {Left : Type 0} (priced : ℕ → Left → Type 0) (with_left : Left → List ℕ → List ℕ) (inner : Successors) where
-  pub listed_none : (found : Successors) → found_count found ≡ 0 → ListsAll priced with_left inner found 0
-  listed_none found none = record {
-    complete = λ i u lt pays. absurd (omega arith);
-    sound = λ k lt. absurd (omega (arith, none));
-  }
-
   kept : (old new : Successors) (i k : ℕ) (u : Left) → found_count old ≤ found_count new → ((j : ℕ) → j < found_count old → (found_event new j ≡ found_event old j) × (found_row new j ≡ found_row old j)) → ListsOne with_left inner old i u k → ListsOne with_left inner new i u k
   kept old new i k u le grown is = record {
     within = omega (arith, le, is.within);

@@ -12,10 +12,6 @@ use Rattle.state_space.specs.declared.systems.Expansion.TheVariants.{Goes, Ends,
 use Rattle.state_space.specs.declared.found.Successors.{Successors}
 
 -- ---- one number stands for one process
-same_budget : (u v : Budget) → u.last ≡ v.last → u.left ≡ v.left → u ≡ v
-same_budget u v last left =
-    ap (λ (o : Option ℕ). record { last = o; left = u.left }) last ∙ ap (λ (n : ℕ). record { last = v.last; left = n }) left
-
 last_one : (a b : Option ℕ) → last_number a ≡ last_number b → a ≡ b
 last_one None None is = refl
 last_one None (Some q) is = absurd (omega (arith, is))
@@ -61,17 +57,6 @@ can_pay waits free w b (Some p) v said pays = by free refl
               (λ x. (v, (pays.0, inr (is, (λ own. let e : Some g.0 ≡ Some p = sym g.1 ∙ own in let k : g.0 ≡ p = cc in other k), x)), (refl, omega arith)))
               pays.1
         ]
-
--- ---- one budget at most is the price
-pub one_price : (free : Bool) (w : Budget) (who : Option ℕ) (u v : Budget) → IsPriced free w who u → IsPriced free w who v → v ≡ u
-one_price free w None u v a b = b ∙ sym a
-one_price free w (Some p) u v a b = same_budget v u (b.0 ∙ sym a.0) (⊎_elim
-    (λ x. ⊎_elim (λ y. y.1 ∙ sym x.1) (λ y. absurd (clash x.0 y.0 y.1)) b.1)
-    (λ x. ⊎_elim (λ y. absurd (clash y.0 x.0 x.1)) (λ y. omega (arith, x.2, y.2)) b.1)
-    a.1)
-  where
-    clash : (free ≡ true) ⊎ (w.last ≡ Some p) → free ≡ false → (w.last ≡ Some p → ⊥) → ⊥
-    clash so was other = ⊎_elim (λ is. true_false free is was) other so
 
 -- ---- all of them
 pub expanded_within : {State : Type 0} (rules : Rules State) (by : ℕ → Option ℕ) (waits : ℕ → State → Type 0) (switches : ℕ) (stands : List ℕ → State → Type 0) (free : Bool) (w : Budget) (b : State) (inner found : Successors)

@@ -1,5 +1,5 @@
 -- A system within a number of events of a kind: its states, each with how many of them are left.
-use Rattle.std.specs.Prelude.{◌≡◌, ℕ, zero, suc, Bool, true, false, List, [], ◌∷◌}
+use Rattle.std.specs.Prelude.{◌≡◌, ℕ, suc, Bool, true, false, List, [], ◌∷◌}
 use Rattle.state_space.specs.Listed.{ListsAll, ListsNext}
 use Rattle.state_space.specs.Systems.{Rules}
 use Rattle.state_space.specs.declared.found.Successors.{Successors}

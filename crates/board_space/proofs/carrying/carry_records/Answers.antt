@@ -1,7 +1,5 @@
 use Rattle.std.proofs.Common.{rules, List, ℕ, [], ◌∷◌, ◌++◌, ◌≡◌, ◌+◌, length, sym, subst}
-use Rattle.std.specs.Prelude.{slice_index}
 use Rattle.board_space.specs.Carried.{AreSameRecords}
-use Rattle.board_space.specs.Records.{IsAt, Stays}
 use Rattle.board_space.specs.Rows.{Extends}
 use Rattle.board_space.proofs.Carried.{records_more}
 use Rattle.board_space.proofs.Numbers.{extends_more}

@@ -1,6 +1,5 @@
 use Rattle.std.proofs.Common.{◌∙◌}
 use Rattle.model_board.proofs.Filling.{stands_on}
-use Rattle.board_space.proofs.Covered.{for_by}
 use Rattle.board_space.proofs.leaving.leave_all.Goals as goal
 use Rattle.board_space.proofs.leaving.leave_all.Goals.{in-Some, in_default}
 

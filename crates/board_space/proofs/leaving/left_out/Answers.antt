@@ -1,4 +1,4 @@
-use Rattle.std.proofs.Common.{◌≡◌, ◌<◌, ◌∙◌, ap, sym, subst, arith}
+use Rattle.std.proofs.Common.{◌<◌, ◌∙◌, ap, sym, subst, arith}
 use Rattle.hart.specs.State.{ArchState}
 use Rattle.board_space.specs.Leaving.{IsLeft}
 use Rattle.board_space.proofs.LeftHarts.{left_more, put_id}

@@ -1,11 +1,4 @@
-use Rattle.std.proofs.Common.{◌≡◌, ◌∙◌, ◌<◌, ℕ, length, ap, sym, subst}
-use Rattle.hart.specs.State.{ArchState, reg, put}
-use Rattle.machine.specs.Machine.{Machine, hart_at}
-use Rattle.model_board.specs.Held.{with_hart}
-use Rattle.model_board.specs.LeftOut.{LEFT_OUT, PROBE}
-use Rattle.model_board.specs.Plain.{Sized, with_machine}
-use Rattle.model_board.specs.Registers.{with_register, board_holding}
-use Rattle.board_space.proofs.LeftHarts.{probe_sized, left_at_sized, held_at_sized, none_off, none_ended, put_left_out, put_any_id}
+use Rattle.board_space.proofs.LeftHarts.{none_off, none_ended}
 use Rattle.board_space.proofs.leaving.put_probe.Goals as goal
 
 pub returns-in-Off-clause-other : goal.returns-in-Off-clause-other

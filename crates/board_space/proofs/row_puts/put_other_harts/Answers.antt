@@ -1,6 +1,4 @@
-use Rattle.std.proofs.Common.{rules, ◌≡◌, ◌+◌, ◌<◌, length}
-use Rattle.std.specs.Prelude.{slice_index}
-use Rattle.board_space.proofs.PutOver.{others_none, others_more, others_same}
+use Rattle.board_space.proofs.PutOver.{others_none}
 use Rattle.board_space.proofs.row_puts.put_other_harts.Goals as goal
 
 pub loop-place-init : goal.loop-place-init

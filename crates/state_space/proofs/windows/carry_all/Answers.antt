@@ -1,6 +1,6 @@
 use Rattle.std.proofs.Common.{◌∙◌, List, ℕ, subst, sym, arith}
 use Rattle.state_space.specs.Carried.{IsPushed}
-use Rattle.state_space.specs.Successors.{found_event, found_row}
+use Rattle.state_space.specs.Successors.{found_row}
 use Rattle.state_space.proofs.Carrying.{carried_more}
 use Rattle.state_space.proofs.Priced.{stays_on}
 use Rattle.state_space.proofs.windows.carry_all.Goals as goal

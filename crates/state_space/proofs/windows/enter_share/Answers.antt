@@ -1,4 +1,4 @@
-use Rattle.std.proofs.Common.{◌≡◌, ◌∙◌, sym, subst, arith}
+use Rattle.std.proofs.Common.{◌∙◌, sym, subst, arith}
 use Rattle.state_space.specs.Carried.{IsMade}
 use Rattle.state_space.proofs.Carrying.{are_later, later_on}
 use Rattle.state_space.proofs.windows.enter_share.Goals as goal

@@ -1,7 +1,6 @@
 use Rattle.std.proofs.Common.{◌∙◌, ◌≡◌, refl, subst}
 use Rattle.std.specs.Prelude.{IfSome}
 use Rattle.state_space.specs.Carried.{IsCarried}
-use Rattle.state_space.specs.Numbered.{row_width}
 use Rattle.state_space.specs.Successors.{found_count, found_width}
 use Rattle.state_space.proofs.Carrying.{made_carried, made_known}
 use Rattle.state_space.proofs.workers.known_made.Goals as goal

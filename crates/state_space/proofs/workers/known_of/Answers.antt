@@ -1,6 +1,6 @@
 use Rattle.std.proofs.Common.{◌∙◌, List, ℕ, subst, sym, arith}
 use Rattle.state_space.specs.Carried.{IsPushed}
-use Rattle.state_space.specs.Successors.{found_event, found_row}
+use Rattle.state_space.specs.Successors.{found_row}
 use Rattle.state_space.proofs.Carrying.{carried_more, stays_same}
 use Rattle.state_space.proofs.workers.known_of.Goals as goal
 

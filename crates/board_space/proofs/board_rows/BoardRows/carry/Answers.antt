@@ -1,6 +1,4 @@
-use Rattle.std.proofs.Common.{ℕ, ◌≡◌, ◌+◌, ◌<◌, ◌≤◌, List, length, refl, sym, ap, subst, arith}
-use Rattle.std.specs.Prelude.{slice_index}
-use Rattle.state_space.specs.Numbered.{word_count}
+use Rattle.std.proofs.Common.{ℕ, ◌+◌, List, length, refl, ap, subst}
 use Rattle.board_space.specs.Carried.{AreSameRecords, AreSameWords}
 use Rattle.board_space.specs.Layouts.{tracked_of}
 use Rattle.board_space.specs.Rows.{Extends}

@@ -1,5 +1,4 @@
-use Rattle.std.proofs.Common.{ℕ, List, ◌≡◌, ◌∙◌, ◌+◌, length, sym, ap, arith}
-use Rattle.board_space.specs.Tracked.{segment_count}
+use Rattle.std.proofs.Common.{ℕ, List, ◌≡◌, ◌∙◌, ◌+◌, length, sym, ap}
 use Rattle.board_space.proofs.Carried.{pool_count, pool_tracked}
 use Rattle.board_space.proofs.row_layout.Layout.copy.Goals as goal
 

@@ -1,5 +1,4 @@
-use Rattle.std.proofs.Common.{◌≡◌, ◌∙◌, ◌<◌, ℕ, Bool, sym, subst}
-use Rattle.model_board.specs.Boards.{Board}
+use Rattle.std.proofs.Common.{◌∙◌, ◌<◌, ℕ, sym, subst}
 use Rattle.model_board.specs.Events.{Event}
 use Rattle.board_space.specs.Covering.{StandsAll}
 use Rattle.board_space.specs.Expanding.{AreTold, AsksNone}

@@ -1,15 +1,13 @@
-use Rattle.std.proofs.Common.{List, ℕ, [], ◌≡◌, ◌∙◌, ◌<◌, refl, sym, subst, ap}
-use Rattle.std.proofs.lemmas.Result.{IfOk-weaker}
+use Rattle.std.proofs.Common.{ℕ, ◌<◌, refl, sym, subst}
 use Rattle.board_model.specs.Shapes.{Size}
 use Rattle.model_board.specs.Boards.{Board}
 use Rattle.model_board.specs.Events.{Turn, TurnOn}
 use Rattle.board_space.specs.Covering.{StandsAll}
 use Rattle.board_space.specs.Expanding.{IsPushed}
-use Rattle.board_space.specs.Layouts.{size_of}
 use Rattle.board_space.specs.Mapped.{map_in}
 use Rattle.board_space.specs.Rows.{Stands}
 use Rattle.board_space.specs.Settings.{Setting, asked_of}
-use Rattle.board_space.specs.Space.{Happens, IsFor}
+use Rattle.board_space.specs.Space.{Happens}
 use Rattle.board_space.specs.declared.board_rows.BoardRows.{BoardRows}
 use Rattle.board_space.proofs.Covered.{change_for}
 use Rattle.board_space.proofs.Moves.{teller_by}

@@ -1,9 +1,8 @@
-use Rattle.std.proofs.Common.{List, ℕ, Bool, ◌≡◌, ◌∙◌, ◌<◌, ◌≤◌, ◌+◌, ⊎_elim, inl, inr, refl, sym, subst, ap, arith}
+use Rattle.std.proofs.Common.{ℕ, ◌≡◌, ◌≤◌, ⊎_elim, subst, arith}
 use Rattle.std.proofs.lemmas.Bool.{cases_lt}
-use Rattle.model_board.specs.Boards.{Board}
-use Rattle.model_board.specs.Events.{Event, Turn, IsEnd}
+use Rattle.model_board.specs.Events.{Turn}
 use Rattle.board_space.specs.Covering.{StandsAll}
-use Rattle.board_space.specs.Expanding.{AsksNone, AreTold, IsTeller}
+use Rattle.board_space.specs.Expanding.{AsksNone, IsTeller}
 use Rattle.board_space.specs.Mapped.{map_in}
 use Rattle.board_space.specs.Settings.{asked_of}
 use Rattle.board_space.proofs.Moves.{told_more, told_other}

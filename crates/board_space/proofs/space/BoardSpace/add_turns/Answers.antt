@@ -1,5 +1,4 @@
-use Rattle.std.proofs.Common.{List, ℕ, Bool, ◌≡◌, ◌∙◌, ◌<◌, ◌+◌, refl, sym, subst, arith}
-use Rattle.model_board.specs.Boards.{Board}
+use Rattle.std.proofs.Common.{ℕ, ◌≡◌, ◌∙◌, ◌<◌, ◌+◌, refl, sym, subst, arith}
 use Rattle.model_board.specs.Events.{IsEnd}
 use Rattle.board_space.specs.Covering.{StandsAll}
 use Rattle.board_space.specs.Expanding.{AreTold, AsksNone}

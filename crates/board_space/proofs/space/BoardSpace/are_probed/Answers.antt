@@ -1,4 +1,4 @@
-use Rattle.std.proofs.Common.{◌≡◌, ◌∙◌, ◌<◌, ℕ, true, sym, subst, arith}
+use Rattle.std.proofs.Common.{◌≡◌, ◌∙◌, ◌<◌, true, sym, subst, arith}
 use Rattle.model_board.specs.Boards.{Board}
 use Rattle.model_board.specs.LeftOut.{IsLeftOut, IsProbed}
 use Rattle.board_space.specs.Rows.{Stands}

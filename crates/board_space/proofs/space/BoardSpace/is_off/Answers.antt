@@ -1,4 +1,3 @@
-use Rattle.std.proofs.Common.{rules}
 use Rattle.board_space.proofs.Seen.{away_for, for_away}
 use Rattle.board_space.proofs.space.BoardSpace.is_off.Goals as goal
 

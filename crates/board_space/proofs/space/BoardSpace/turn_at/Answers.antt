@@ -1,4 +1,4 @@
-use Rattle.std.proofs.Common.{List, ℕ, [], false, ◌≡◌, sym, subst}
+use Rattle.std.proofs.Common.{List, ℕ, [], false, sym, subst}
 use Rattle.model_board.specs.Boards.{Board}
 use Rattle.model_board.specs.Events.{TurnOn, RefusedOn}
 use Rattle.model_board.specs.Maps.{TurnKeeps}
