@@ -156,7 +156,6 @@ module _ {State : Type 0} where
   }
 
   -- ---- later and later
-
   pub later_on : (a b c : List ℕ → State → Type 0) (first mid last : Graph) → IsLater a b first mid → IsLater b c mid last → IsLater a c first last
   later_on a b c first mid last one two = record {
     stays = stays_on a b c one.stays two.stays;

@@ -125,9 +125,8 @@ impl<S: Counts> System for Counting<S> {
     ghost stands = { λ s. StandsCounted (S.stands s.system) };
 
     fn start(&mut self) -> Result<Vec<u32>, Refused> {
-        let first = self.system.start()?;
-        let mut row = vec![in self.alloc; self.most]?;
-        row.extend_from_slice(&first)?;
+        let mut row = self.system.start()?;
+        row.insert(0, self.most)?;
         Ok(row)
     }
 
@@ -171,13 +170,10 @@ impl<S: Counts + Carries> Carries for Counting<S> {
         row: &[u32],
         out: &mut Vec<u32>,
     ) -> Result<bool, Refused> {
-        let mut inner = Vec::new(self.alloc);
-        if !self.system.find(&from.system, memo, &row[1..], &mut inner)? {
+        if !self.system.find(&from.system, memo, &row[1..], out)? {
             return Ok(false);
         }
-        out.clear();
-        out.push(row[0])?;
-        out.extend_from_slice(&inner)?;
+        out.insert(0, row[0])?;
         Ok(true)
     }
 
@@ -189,11 +185,8 @@ impl<S: Counts + Carries> Carries for Counting<S> {
         row: &[u32],
         out: &mut Vec<u32>,
     ) -> Result<(), Refused> {
-        self.system
-            .carry(&from.system, memo, &row[1..], &mut self.row)?;
-        out.clear();
-        out.push(row[0])?;
-        out.extend_from_slice(&self.row)?;
+        self.system.carry(&from.system, memo, &row[1..], out)?;
+        out.insert(0, row[0])?;
         Ok(())
     }
 }

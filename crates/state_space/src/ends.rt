@@ -102,6 +102,23 @@ fn go_over<S: System>(system: &S, graph: &Graph, goals: &[bool], marks: &mut [bo
     any
 }
 
+/// Goes over all rows again and again, until none is marked by it. Whether it came so far: each time marks a row at least, so it does.
+fn go_on<S: System>(system: &S, graph: &Graph, goals: &[bool], marks: &mut [bool]) -> bool
+    requires whole { IsWhole graph.now }
+    requires goals { length goals.now ≡ count_of graph.now }
+    requires marks { length marks.old ≡ count_of graph.now }
+    requires reaching { AreReaching (S.rules (S.setting system.now)).goes graph.now goals.now marks.old }
+    ensures reaching { AreReaching (S.rules (S.setting system.now)).goes graph.now goals.now marks.new }
+    ensures stuck { result ≡ true → AreStuck (S.rules (S.setting system.now)).goes graph.now goals.now marks.new }
+{
+    for pass in 0..graph.count() {
+        if !go_over(system, graph, goals, marks) {
+            return true;
+        }
+    }
+    !go_over(system, graph, goals, marks)
+}
+
 /// Of each row whether some steps lead from it to a goal. Steps by failures do not count.
 #[tactic(auto, using(crate::proofs::Dead::reaching_none))]
 pub fn reaching<S: System>(
@@ -117,12 +134,7 @@ pub fn reaching<S: System>(
     ensures stuck { IfOk result (λ marks. AreStuck (S.rules (S.setting system.now)).goes graph.now goals.now marks.items) }
 {
     let mut marks = vec![in alloc; false; graph.count()]?;
-    for pass in 0..graph.count() {
-        if !go_over(system, graph, goals, &mut marks) {
-            return Ok(marks);
-        }
-    }
-    if go_over(system, graph, goals, &mut marks) {
+    if !go_on(system, graph, goals, &mut marks) {
         return Err(Refused::Numbers);
     }
     Ok(marks)

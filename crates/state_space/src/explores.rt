@@ -1,6 +1,6 @@
 //! The search, breadth first.
 
-ghost use Rattle.std.specs.Prelude.{◌≡◌, ◌<◌, ◌≤◌, ◌+◌, ℕ, IfOk, OnOk, IfSome, true, false};
+ghost use Rattle.std.specs.Prelude.{◌≡◌, ◌<◌, ◌≤◌, ◌+◌, ℕ, All, IfOk, OnOk, IfSome, IfNone, true, false};
 ghost use Rattle.state_space.specs.Graphs.{IsSearched, count_of, expanded_of};
 ghost use Rattle.state_space.specs.Numbered.{row_width};
 ghost use Rattle.state_space.specs.Searches.{IsVerdict};
@@ -63,6 +63,38 @@ pub(crate) fn reached<S: System>(system: &S, graph: &Graph, limits: Limits) -> O
     None
 }
 
+/// Expands the next row, and then those of a window side by side. Why the search ends here, if it does.
+fn advance<R: Threads + Sync, S: Carries>(
+    rt: &R,
+    system: &mut S,
+    graph: &mut Graph,
+    found: &mut Successors,
+    workers: &mut Workers<S>,
+    limits: Limits,
+) -> Result<Option<Verdict>, Refused>
+    requires next { expanded_of graph.old < count_of graph.old }
+    requires searched { IsSearched (S.rules (S.setting system.old)) (S.stands system.old) graph.old }
+    requires width { row_width graph.old.rows ≡ S.width (S.setting system.old) }
+    requires found_width { found_width found.old ≡ S.width (S.setting system.old) }
+    requires workers { All (λ worker. S.setting worker.system ≡ S.setting system.old) workers.old.workers.items }
+    ensures setting { S.setting system.new ≡ S.setting system.old }
+    ensures searched { OnOk result (IsSearched (S.rules (S.setting system.new)) (S.stands system.new) graph.new) }
+    ensures width { OnOk result (row_width graph.new.rows ≡ row_width graph.old.rows) }
+    ensures found_width { found_width found.new ≡ found_width found.old }
+    ensures workers { OnOk result (All (λ worker. S.setting worker.system ≡ S.setting system.new) workers.new.workers.items) }
+    ensures verdict { IfOk result (λ ended. IfSome ended (λ verdict. IsVerdict verdict (expanded_of graph.new) (count_of graph.new))) }
+    ensures more { IfOk result (λ ended. IfNone ended (expanded_of graph.old < expanded_of graph.new)) }
+{
+    if let Some(verdict) = reached(system, graph, limits) {
+        return Ok(Some(verdict));
+    }
+    if !expand_next(system, graph, found)? {
+        return Ok(Some(Verdict::Halted));
+    }
+    workers.expand_window(rt, system, graph, limits, found)?;
+    Ok(None)
+}
+
 /// How many systems there are beside the one that is searched: none where one thread does all.
 fn workers_of(threads: usize) -> usize {
     if threads <= 1 { 0 } else { threads }
@@ -87,13 +119,9 @@ pub fn explore_by<R: Threads + Sync, S: Carries>(
     let mut found = Successors::new(alloc, start.len());
     let mut workers = Workers::new(alloc, system, workers_of(threads))?;
     'rows: while graph.expanded() < graph.count() {
-        if let Some(verdict) = reached(system, &graph, limits) {
+        if let Some(verdict) = advance(rt, system, &mut graph, &mut found, &mut workers, limits)? {
             return Ok((graph, verdict));
         }
-        if !expand_next(system, &mut graph, &mut found)? {
-            return Ok((graph, Verdict::Halted));
-        }
-        workers.expand_window(rt, system, &mut graph, limits, &mut found)?;
     }
     Ok((graph, Verdict::Closed))
 }

@@ -1,6 +1,6 @@
 //! A system within a number of switches from one process to another, as a system of its own.
 
-ghost use Rattle.std.specs.Prelude.{◌≡◌, ◌≤◌, ◌<◌, ◌+◌, ℕ, List, IfSome, IfNone, IfOk, Ok, true, false, length};
+ghost use Rattle.std.specs.Prelude.{◌≡◌, ◌≤◌, ◌<◌, ◌+◌, ◌∷◌, ℕ, List, IfSome, IfNone, IfOk, OnOk, Ok, true, false, length};
 ghost use Rattle.state_space.specs.Bounded.{Budget, Waits};
 ghost use Rattle.state_space.specs.Successors.{found_count, found_event, found_width};
 ghost use Rattle.state_space.specs.Switched.{last_number, StandsWithin, IsPriced, AreListed, IsTold, Switched};
@@ -58,6 +58,15 @@ fn paid(is_free: bool, last: u32, left: u32, process: Option<u8>) -> Option<(u32
         return Some((number, left));
     }
     Some((number, left.checked_sub(1)?))
+}
+
+/// Puts two numbers before those of a row.
+fn put_first(one: u32, other: u32, row: &mut Vec<u32>) -> Result<(), Refused>
+    ensures { OnOk result (row.new.items ≡ one ∷ other ∷ row.old.items) }
+{
+    row.insert(0, other)?;
+    row.insert(0, one)?;
+    Ok(())
 }
 
 /// Adds the successor of that number, with what is left after it, where it can be paid.
@@ -187,9 +196,8 @@ impl<S: Preempted> System for Switching<S> {
     ghost stands = { λ s. StandsWithin (S.stands s.system) };
 
     fn start(&mut self) -> Result<Vec<u32>, Refused> {
-        let first = self.system.start()?;
-        let mut row = vec![in self.alloc; 0, self.switches]?;
-        row.extend_from_slice(&first)?;
+        let mut row = self.system.start()?;
+        put_first(0, self.switches, &mut row)?;
         Ok(row)
     }
 
@@ -234,14 +242,10 @@ impl<S: Preempted + Carries> Carries for Switching<S> {
         row: &[u32],
         out: &mut Vec<u32>,
     ) -> Result<bool, Refused> {
-        let mut inner = Vec::new(self.alloc);
-        if !self.system.find(&from.system, memo, &row[2..], &mut inner)? {
+        if !self.system.find(&from.system, memo, &row[2..], out)? {
             return Ok(false);
         }
-        out.clear();
-        out.push(row[0])?;
-        out.push(row[1])?;
-        out.extend_from_slice(&inner)?;
+        put_first(row[0], row[1], out)?;
         Ok(true)
     }
 
@@ -253,12 +257,8 @@ impl<S: Preempted + Carries> Carries for Switching<S> {
         row: &[u32],
         out: &mut Vec<u32>,
     ) -> Result<(), Refused> {
-        self.system
-            .carry(&from.system, memo, &row[2..], &mut self.row)?;
-        out.clear();
-        out.push(row[0])?;
-        out.push(row[1])?;
-        out.extend_from_slice(&self.row)?;
+        self.system.carry(&from.system, memo, &row[2..], out)?;
+        put_first(row[0], row[1], out)?;
         Ok(())
     }
 }

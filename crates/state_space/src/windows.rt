@@ -1,9 +1,9 @@
 //! The rows of a window, which several systems expand side by side, and which are entered in their order.
 
-ghost use Rattle.std.specs.Prelude.{◌≡◌, ◌<◌, ◌+◌, ℕ, All, length, IfOk, OnOk, true, slice_index_or};
+ghost use Rattle.std.specs.Prelude.{◌≡◌, ◌<◌, ◌≤◌, ◌+◌, ℕ, All, length, IfOk, OnOk, true, slice_index_or};
 ghost use Rattle.std.specs.Thread.{IsSync};
 ghost use Rattle.state_space.specs.Carried.{AreMade, IsCarried, IsLater, IsMade, IsPushed};
-ghost use Rattle.state_space.specs.Graphs.{IsSearched, count_of, row_at};
+ghost use Rattle.state_space.specs.Graphs.{IsSearched, count_of, expanded_of, row_at};
 ghost use Rattle.state_space.specs.Numbered.{row_width};
 ghost use Rattle.state_space.specs.Successors.{found_count, found_row, found_width};
 ghost use Rattle.state_space.specs.Systems.{Stay};
@@ -22,7 +22,7 @@ use std::thread::Threads;
 /// The fewest rows that each system expands in a window, but for the last ones of it.
 const ROWS_EACH: usize = 16;
 /// The most rows that each system expands in a window.
-const MOST_EACH: usize = 1024;
+const MOST_EACH: usize = 4096;
 
 /// Carries a successor over to the tables of another system.
 fn carry_one<S: Carries>(
@@ -199,6 +199,23 @@ fn worker_at<S: Carries>(workers: &[Worker<S>], index: usize) -> &Worker<S>
     &workers[index]
 }
 
+/// Adds one more system beside that one, and what that one remembers of its numbers: nothing yet.
+fn add_one<S: Carries>(
+    alloc: Global,
+    system: &S,
+    workers: &mut Vec<Worker<S>>,
+    memos: &mut Vec<S::Memo>,
+) -> Result<(), Refused>
+    requires one_each { length memos.old.items ≡ length workers.old.items }
+    requires setting { All (λ worker. S.setting worker.system ≡ S.setting system.now) workers.old.items }
+    ensures one_each { OnOk result (length memos.new.items ≡ length workers.new.items) }
+    ensures setting { OnOk result (All (λ worker. S.setting worker.system ≡ S.setting system.now) workers.new.items) }
+{
+    workers.push(Worker::new(alloc, system)?)?;
+    memos.push(system.memo())?;
+    Ok(())
+}
+
 /// The systems beside the one that is searched.
 #[derive(Drop)]
 pub struct Workers<S: Carries> {
@@ -218,8 +235,7 @@ impl<S: Carries> Workers<S> {
         let mut workers = Vec::new(alloc);
         let mut memos = Vec::new(alloc);
         for _ in 0..count {
-            workers.push(Worker::new(alloc, system)?)?;
-            memos.push(system.memo())?;
+            add_one(alloc, system, &mut workers, &mut memos)?;
         }
         Ok(Workers {
             workers,
@@ -290,7 +306,7 @@ impl<S: Carries> Workers<S> {
         ensures setting { S.setting system.new ≡ S.setting system.old }
         ensures workers { All (λ worker. S.setting worker.system ≡ S.setting system.new) self.new.workers.items }
         ensures searched { OnOk result (IsSearched (S.rules (S.setting system.new)) (S.stands system.new) graph.new) }
-        ensures later { OnOk result (IsLater (S.stands system.old) (S.stands system.new) graph.old graph.new) }
+        ensures more { OnOk result (expanded_of graph.old ≤ expanded_of graph.new) }
         ensures width { OnOk result (row_width graph.new.rows ≡ row_width graph.old.rows) }
         ensures found_width { found_width found.new ≡ found_width found.old }
     {

@@ -12,6 +12,7 @@ use crate::graph::{Graph, NO_ROW};
 use crate::refusal::Refused;
 use crate::systems::Expansion;
 use std::alloc::Global;
+use std::mem;
 
 /// What a row of a graph leads to.
 #[derive(Drop)]
@@ -39,6 +40,50 @@ pub struct Worker<S: Carries> {
     row: Vec<u32>,
     /// What it found, in the order of the rows.
     pub(crate) made: Vec<Made>,
+    /// What it found before, whose memory is used again.
+    spare: Vec<Made>,
+}
+
+/// Nothing yet, in the memory of what was found before, where some is left: of a row of that width.
+fn blank(alloc: Global, spare: &mut Vec<Made>, width: usize) -> Made
+    ensures none { found_count result.found ≡ 0 }
+    ensures width { found_width result.found ≡ width }
+    ensures targets { result.targets.items ≡ [] }
+    ensures own { result.is_known ≡ false }
+{
+    match spare.pop() {
+        Some(made) if made.found.width() == width => cleared(made),
+        _ => Made {
+            row: 0,
+            found: Successors::new(alloc, width),
+            is_known: false,
+            targets: Vec::new(alloc),
+            is_end: false,
+        },
+    }
+}
+
+/// The same with nothing in it.
+fn cleared(made: Made) -> Made
+    ensures none { found_count result.found ≡ 0 }
+    ensures width { found_width result.found ≡ found_width made.found }
+    ensures targets { result.targets.items ≡ [] }
+    ensures own { result.is_known ≡ false }
+{
+    let Made {
+        mut found,
+        mut targets,
+        ..
+    } = made;
+    found.clear();
+    targets.clear();
+    Made {
+        row: 0,
+        found,
+        is_known: false,
+        targets,
+        is_end: false,
+    }
 }
 
 /// The number of a row in a graph, where it is found, else the number of no row.
@@ -54,15 +99,15 @@ fn target_of(graph: &Graph, row: &[u32]) -> u32
     }
 }
 
-/// The numbers of successors in a graph, as far as they are found.
-fn targets_of(alloc: Global, graph: &Graph, found: &Successors) -> Result<Vec<u32>, Refused>
-    ensures { IfOk result (λ targets. AreTargets graph.now found.now targets.items) }
+/// Puts the numbers of successors in a graph, as far as they are found, in place of what was in `targets`.
+fn find_targets(graph: &Graph, found: &Successors, targets: &mut Vec<u32>) -> Result<(), Refused>
+    ensures { IfOk result (λ _. AreTargets graph.now found.now targets.new.items) }
 {
-    let mut targets = Vec::new(alloc);
+    targets.clear();
     for index in 0..found.count() {
         targets.push(target_of(graph, found.row(index)))?;
     }
-    Ok(targets)
+    Ok(())
 }
 
 /// Adds a successor in the numbers of the system that is searched, where that one knows the row. Whether it does.
@@ -88,30 +133,29 @@ fn know_one<S: Carries>(
     Ok(true)
 }
 
-/// Successors in the numbers of the system that is searched, as rows of that width, where that one knows them all.
-fn known_of<S: Carries>(
+/// Adds successors in the numbers of the system that is searched, as far as that one knows them. Whether it knows them all.
+fn know_all<S: Carries>(
     main: &S,
     system: &S,
     back: &S::Memo,
     found: &Successors,
     out: &mut Vec<u32>,
-    known: Successors,
-) -> Result<Option<Successors>, Refused>
+    known: &mut Successors,
+) -> Result<bool, Refused>
     requires setting { S.setting main.now ≡ S.setting system.now }
     requires stands { (i : ℕ) → i < found_count found.now → (b : S.State) × S.stands system.now (found_row found.now i) b }
-    requires none { found_count known ≡ 0 }
-    ensures carried { IfOk result (λ all. IfSome all
-        (λ x. IsCarried (S.stands system.now) (S.stands main.now) found.now x (found_count found.now))) }
-    ensures width { IfOk result (λ all. IfSome all (λ x. found_width x ≡ found_width known)) }
+    requires none { found_count known.old ≡ 0 }
+    ensures carried { result ≡ Ok true
+        → IsCarried (S.stands system.now) (S.stands main.now) found.now known.new (found_count found.now) }
+    ensures width { found_width known.new ≡ found_width known.old }
 {
-    let mut known = known;
     for index in 0..found.count() {
         let event = found.event(index);
-        if !know_one(main, system, back, event, found.row(index), out, &mut known)? {
-            return Ok(None);
+        if !know_one(main, system, back, event, found.row(index), out, known)? {
+            return Ok(false);
         }
     }
-    Ok(Some(known))
+    Ok(true)
 }
 
 #[tactic(auto, using(crate::proofs::Carrying::targets_none))]
@@ -121,6 +165,7 @@ fn made_of<S: Carries>(
     system: &mut S,
     memo: &mut S::Memo,
     row: &mut Vec<u32>,
+    spare: &mut Vec<Made>,
     main: &S,
     graph: &Graph,
     number: usize,
@@ -135,18 +180,16 @@ fn made_of<S: Carries>(
     ensures own { IfOk result (λ found. IfSome found (λ made. made.is_known ≡ false)) }
 {
     system.carry(main, memo, graph.row(number), row)?;
-    let mut found = Successors::new(alloc, row.len());
-    let is_end = match system.expand(row, &mut found)? {
+    let mut made = blank(alloc, spare, row.len());
+    let is_end = match system.expand(row, &mut made.found)? {
         Expansion::Halts => return Ok(None),
         Expansion::Goes => false,
         Expansion::Ends => true,
     };
     Ok(Some(Made {
         row: number,
-        found,
-        is_known: false,
-        targets: Vec::new(alloc),
         is_end,
+        ..made
     }))
 }
 
@@ -159,6 +202,7 @@ fn known_made<S: Carries>(
     back: &S::Memo,
     made: Made,
     out: &mut Vec<u32>,
+    spare: &mut Vec<Made>,
 ) -> Result<Made, Refused>
     requires setting { S.setting main.now ≡ S.setting system.now }
     requires known { (k : ℕ) → k < count_of graph.now → (b : S.State) × S.stands main.now (row_at graph.now k) b }
@@ -166,17 +210,16 @@ fn known_made<S: Carries>(
     requires own { made.is_known ≡ false }
     ensures { IfOk result (IsMade (S.rules (S.setting main.now)) (S.stands main.now) (S.stands system.now) graph.now) }
 {
-    let none = Successors::new(alloc, graph.row(made.row).len());
-    let Some(found) = known_of(main, system, back, &made.found, out, none)? else {
+    let mut known = blank(alloc, spare, graph.row(made.row).len());
+    if !know_all(main, system, back, &made.found, out, &mut known.found)? {
         return Ok(made);
-    };
-    let targets = targets_of(alloc, graph, &found)?;
-    Ok(Made {
-        found,
-        is_known: true,
-        targets,
-        ..made
-    })
+    }
+    find_targets(graph, &known.found, &mut known.targets)?;
+    known.row = made.row;
+    known.is_end = made.is_end;
+    known.is_known = true;
+    spare.push(made)?;
+    Ok(known)
 }
 
 impl<S: Carries> Worker<S> {
@@ -192,6 +235,7 @@ impl<S: Carries> Worker<S> {
             memo,
             row: Vec::new(alloc),
             made: Vec::new(alloc),
+            spare: Vec::new(alloc),
         })
     }
 
@@ -232,6 +276,7 @@ impl<S: Carries> Worker<S> {
             &mut self.system,
             &mut self.memo,
             &mut self.row,
+            &mut self.spare,
             main,
             graph,
             number,
@@ -246,6 +291,7 @@ impl<S: Carries> Worker<S> {
                 back,
                 made,
                 &mut self.row,
+                &mut self.spare,
             )?)),
         }
     }
@@ -267,11 +313,12 @@ impl<S: Carries> Worker<S> {
         }
     }
 
-    /// Forgets what it found.
+    /// Forgets what it found, and keeps the memory.
     pub fn forget(&mut self)
         ensures system { self.new.system ≡ self.old.system }
         ensures none { self.new.made.items ≡ [] }
     {
+        mem::swap(&mut self.made, &mut self.spare);
         self.made.clear();
     }
 
@@ -284,7 +331,7 @@ impl<S: Carries> Worker<S> {
         ensures made { All (IsMade (S.rules (S.setting main.now)) (S.stands main.now) (S.stands self.new.system) graph.now)
             self.new.made.items }
     {
-        self.made.clear();
+        self.forget();
         for number in from..to.min(graph.count()) {
             if !self.make(main, graph, back, number) {
                 return;

@@ -1,10 +1,10 @@
 use Rattle.std.proofs.Common.{◌≡◌}
 use Rattle.state_space.specs.Carried.{IsCarried}
 use Rattle.state_space.specs.Successors.{found_width}
-use Rattle.state_space.proofs.workers.known_of.Given as goal
+use Rattle.state_space.proofs.workers.know_all.Given as goal
 
 abbrev pub invariant-loop-index : goal.invariant-loop-index
 invariant-loop-index g l = record {
-  width : found_width l.known ≡ found_width l.initial.known;
+  width : found_width l.known ≡ found_width l.fn.known;
   carried : IsCarried (g.S.System.stands l.system) (g.S.System.stands l.main) l.found l.known l.index;
 }

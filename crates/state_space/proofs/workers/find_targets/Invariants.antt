@@ -1,6 +1,6 @@
 use Rattle.std.proofs.Common.{◌≡◌, length}
 use Rattle.state_space.specs.Carried.{AreTargets}
-use Rattle.state_space.proofs.workers.targets_of.Given as goal
+use Rattle.state_space.proofs.workers.find_targets.Given as goal
 
 abbrev pub invariant-loop-index : goal.invariant-loop-index
 invariant-loop-index l = record {

@@ -2,7 +2,7 @@ use Rattle.std.proofs.Common.{◌∙◌, List, ℕ, subst, sym, arith}
 use Rattle.state_space.specs.Carried.{IsPushed}
 use Rattle.state_space.specs.Successors.{found_row}
 use Rattle.state_space.proofs.Carrying.{carried_more, stays_same}
-use Rattle.state_space.proofs.workers.known_of.Goals as goal
+use Rattle.state_space.proofs.workers.know_all.Goals as goal
 
 pub know_one-requires-clause-stands : goal.know_one-requires-clause-stands
 know_one-requires-clause-stands g c κs within =
