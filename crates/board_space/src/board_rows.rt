@@ -1,6 +1,6 @@
 //! Boards to rows of numbers and back.
 
-ghost use Rattle.std.specs.Prelude.{◌≡◌, ◌<◌, ◌≤◌, ◌+◌, ◌*◌, ◌/◌, ℕ, List, length, slice_index, get_or, true, false, None, IfOk};
+ghost use Rattle.std.specs.Prelude.{◌≡◌, ◌<◌, ◌≤◌, ◌+◌, ◌*◌, ◌/◌, ℕ, List, length, slice_index, get_or, true, false, None, IfNone, IfOk, IfSome};
 ghost use Rattle.hart.specs.State.{ArchState, never_started};
 ghost use Rattle.model_board.specs.Boards.{Board as AnyBoard};
 ghost use Rattle.model_board.specs.Plain.{with_machine};
@@ -324,6 +324,28 @@ impl BoardRows {
             Some(_) => false,
             None => true,
         }
+    }
+
+    /// What the board of a row is beside its harts and its memory.
+    #[inline]
+    pub fn rest_of(&self, row: &[u32]) -> &Rest
+        requires { (b : AnyBoard) × Stands self.now row.now b }
+        ensures { IsAt self.now.rests.records.items (slice_index row.now 0) result.now }
+    {
+        self.rests.get(row[0])
+    }
+
+    /// A hart of the board of a row, where the board has it.
+    #[inline]
+    pub fn hart_of(&self, row: &[u32], number: usize) -> Option<&Hart>
+        requires { (b : AnyBoard) × Stands self.now row.now b }
+        ensures some { IfSome result (λ hart. IsAt self.now.harts.records.items (slice_index row.now (1 + number)) hart.now) }
+        ensures none { IfNone result ((size_of self.now.layout).harts ≤ number) }
+    {
+        if self.layout.harts() <= number {
+            return None;
+        }
+        Some(self.harts.get(row[1 + number]))
     }
 
     /// Whether the board of a row is off.

@@ -15,7 +15,7 @@ ghost use Rattle.board_space.specs.declared.bounds.Bound.TheVariants.{Unbounded,
 
 use crate::bounds::Bound;
 use crate::followed::{last_rows, open_rows};
-use crate::guesses::Guess;
+use crate::guesses::{Broke, Guess};
 use crate::happenings::Happening;
 use crate::orders::{StandsFor, every_order};
 use crate::outcomes::Outcome;
@@ -24,7 +24,8 @@ use crate::settling::settle_one;
 use crate::showing::{board_part, shown_at, shown_by_all};
 use crate::space::{BoardSpace, Failures};
 use board_model::{HartId, Reason, Shape};
-use model_board::{Board, TouchMap};
+use hart::Hart;
+use model_board::{Board, Rest, TouchMap};
 use state_space::{
     Counting, Graph, Limits, Refused, Switching, Verdict, explore_by, first_dead, way_to,
 };
@@ -172,6 +173,61 @@ fn leaves_out(bound: Bound) -> bool {
     !matches!(bound, Bound::Preemptions(_))
 }
 
+/// The space in which the boards of a question are searched, by a guess.
+fn space_of(alloc: Global, question: &Question, guess: Guess) -> Result<BoardSpace, Refused>
+    requires { length question.now.payload.now ≤ ram_bytes_of question.now.shape }
+    ensures { IfOk result (λ space. asked_of space ≡ record {
+      size = question.now.shape;
+      payload = question.now.payload.now;
+      reason = question.now.reason;
+      cuts = question.now.failures.cuts;
+      refusals = question.now.failures.refusals;
+    }) }
+{
+    BoardSpace::new(
+        alloc,
+        &question.shape,
+        question.payload,
+        question.reason,
+        question.failures,
+        guess,
+        leaves_out(question.bound),
+    )
+}
+
+/// A guess, mended by what a search found wrong of it.
+fn mended(
+    alloc: Global,
+    question: &Question,
+    space: BoardSpace,
+    broke: Broke,
+) -> Result<Guess, Refused>
+    requires fits { length question.now.payload.now ≤ ram_bytes_of question.now.shape }
+    requires size { space.shape ≡ question.now.shape }
+{
+    let (wrong, mut board) = space.into_guess();
+    let mut guess = wrong;
+    guess.widen(broke);
+    seed_on(alloc, question, &mut board, &mut guess)?;
+    Ok(guess)
+}
+
+/// What a search found by a guess that held.
+fn explored_of(alloc: Global, bound: Bound, searched: Searched) -> Result<Explored, Refused>
+    requires { IfOk searched.found (λ found. IsSearchOf searched.space bound found.0) }
+    ensures { IfOk result (λ e. e ≡ record { asked = asked_of searched.space; bound = bound }) }
+{
+    let Searched { space, found } = searched;
+    let (graph, verdict) = found?;
+    Ok(Explored {
+        alloc,
+        graph,
+        space,
+        bound,
+        verdict,
+    })
+}
+
 /// Explores a kernel. Refused where there is no room, and where more than 10,000 guesses were tried.
 pub fn explore_board<R: Threads + Sync>(
     rt: &R,
@@ -193,30 +249,14 @@ pub fn explore_board<R: Threads + Sync>(
     let mut guess = Guess::new(alloc, &question.shape)?;
     seed(alloc, question, &mut guess)?;
     for _round in 0..MOST_MAPS {
-        let space = BoardSpace::new(
-            alloc,
-            &question.shape,
-            question.payload,
-            question.reason,
-            question.failures,
-            guess,
-            leaves_out(question.bound),
-        )?;
-        let Searched { space, found } = search(rt, alloc, question, space);
-        let Some(broke) = space.broke() else {
-            let (graph, verdict) = found?;
-            return Ok(Explored {
-                alloc,
-                graph,
-                space,
-                bound: question.bound,
-                verdict,
-            });
+        let space = space_of(alloc, question, guess)?;
+        let searched = search(rt, alloc, question, space);
+        let Some(broke) = searched.space.broke() else {
+            let explored = explored_of(alloc, question.bound, searched)?;
+            return Ok(explored);
         };
-        let (wrong, mut board) = space.into_guess();
-        guess = wrong;
-        guess.widen(broke);
-        seed_on(alloc, question, &mut board, &mut guess)?;
+        let Searched { space, .. } = searched;
+        guess = mended(alloc, question, space, broke)?;
     }
     Err(Refused::Numbers)
 }
@@ -319,6 +359,25 @@ impl Explored {
         }
         self.space.show(board_part(self.graph.row(row), self.bound));
         true
+    }
+
+    /// What the board of a row is beside its harts and its memory. `None` where there is no such row.
+    pub fn rest_of(&self, row: usize) -> Option<&Rest> {
+        if self.graph.count() <= row {
+            return None;
+        }
+        let numbers = board_part(self.graph.row(row), self.bound);
+        Some(self.space.rows.rest_of(numbers))
+    }
+
+    /// A hart of the board of a row: registers of it may be left out, which hold `LEFT_OUT` then. `None` where there is no such row, or no such
+    /// hart.
+    pub fn hart_of(&self, row: usize, number: usize) -> Option<&Hart> {
+        if self.graph.count() <= row {
+            return None;
+        }
+        let numbers = board_part(self.graph.row(row), self.bound);
+        self.space.rows.hart_of(numbers, number)
     }
 
     /// What an end shows in the bytes `from..to` of RAM: some events lead to a board that is at an end and shows it. `None` where the row is

@@ -17,12 +17,12 @@ use crate::given::FailureKind;
 use crate::looks::Look;
 use crate::own::end_shown;
 use crate::places::data_text;
-use crate::standing::{is_any_trapped, is_waited_for_ever};
+use crate::standing::{is_any_trapped, is_waited_for_ever, stays_trapped};
 use crate::told::holds;
 use crate::walks::{Setting, walk_to};
 use board_model::{RAM_BASE, Reason, Refusal};
 use board_space::{Bound, Explored};
-use model_board::{Board, Power, Status};
+use model_board::{Board, Power, Rest, Status};
 use std::alloc::{AllocError, Global};
 
 /// The ends of a search: those that show something, by what they show, and those that are failures by themselves.
@@ -150,23 +150,35 @@ struct Scanned {
     images: usize,
 }
 
-/// Goes over all boards of a search.
-fn scan(setting: Setting<'_>, explored: &mut Explored) -> Scanned
-    ensures { explored.new ≡ explored.old }
-{
+/// Whether a hart of the board of a row is trapped, of which that is what it is beside its harts and its memory.
+fn is_row_trapped(setting: Setting<'_>, explored: &Explored, row: usize, rest: &Rest) -> bool {
+    if rest.power != Power::On {
+        return false;
+    }
+    for number in 0..8usize {
+        if let Some(stands) = explored.hart_of(row, number)
+            && stays_trapped(setting.shape, rest.tables.states[number], stands)
+        {
+            return true;
+        }
+    }
+    false
+}
+
+/// Goes over all boards of a search, by what is told of each in its row: none is put.
+fn scan(setting: Setting<'_>, explored: &Explored) -> Scanned {
     let mut scan = Scanned {
         first_trap: None,
         images: 0,
     };
     for row in 0..explored.count() {
-        if !explored.show(row) {
+        let Some(rest) = explored.rest_of(row) else {
             continue;
-        }
-        let board = explored.current();
-        if scan.first_trap.is_none() && is_any_trapped(board) {
+        };
+        if scan.first_trap.is_none() && is_row_trapped(setting, explored, row, rest) {
             scan.first_trap = Some(row);
         }
-        if matches!(board.rest().power, Power::Off(Some(_))) {
+        if matches!(rest.power, Power::Off(Some(_))) {
             scan.images = scan.images.saturating_add(1);
         }
     }

@@ -2,13 +2,13 @@
 
 ghost use Rattle.std.specs.Prelude.{◌≡◌, ◌<◌, ℕ, IfSome, true};
 ghost use Rattle.hsm.specs.Copies.{state_told};
-ghost use Rattle.hsm.specs.States.{stopped, suspended};
+ghost use Rattle.hsm.specs.States.{started, stopped, suspended};
 ghost use Rattle.machine.specs.Machine.{state_at};
 ghost use Rattle.kernel_check.specs.Failures.{AwaitsNone, IsOnAs, IsOutside, IsTrapped, IsTrappedBy, IsWaiting};
 
 use crate::facts::HartState;
 use crate::places::is_in_ram;
-use board_model::HartId;
+use board_model::{HartId, Shape};
 use hart::Hart;
 use hsm::Standing;
 use model_board::{Board, Status};
@@ -55,16 +55,25 @@ pub fn state_of(board: &Board, hart: HartId) -> HartState
     }
 }
 
+/// Whether a hart in that state, of a board of that shape that is on, makes no instruction any more.
+pub fn stays_trapped(shape: &Shape, state: Standing, stands: &Hart) -> bool
+    ensures started { result ≡ true → state_told state ≡ started }
+    ensures stands { result ≡ true → IsOutside shape.now stands.now.pc }
+    ensures handler { result ≡ true → IsOutside shape.now stands.now.stvec }
+{
+    matches!(state, Standing::Started)
+        && !is_in_ram(shape, stands.pc())
+        && !is_in_ram(shape, handler_of(stands))
+}
+
 /// Whether a hart of a board that is on makes no instruction any more.
 fn is_trapped_by(board: &Board, hart: HartId) -> bool
     requires { hart < board.now.size.harts }
     ensures { result ≡ true → IsTrappedBy board.now.machine hart }
 {
     let machine = board.machine();
-    let stands = machine.hart(hart);
-    matches!(standing_of(board, hart), Standing::Started)
-        && !is_in_ram(machine.shape(), stands.pc())
-        && !is_in_ram(machine.shape(), handler_of(stands))
+    let state = standing_of(board, hart);
+    stays_trapped(machine.shape(), state, machine.hart(hart))
 }
 
 /// Whether a hart makes no instruction any more: it is started and stands outside of RAM, and each trap leads it there again.
