@@ -327,6 +327,30 @@ impl BoardSpace {
         self.add_some(row, 25, 26, found)
     }
 
+    /// Adds what all happenings but turns lead to from the board of a row: refusals only where some may be asked for.
+    fn add_happenings(
+        &mut self,
+        row: &[u32],
+        asks: bool,
+        found: &mut Successors,
+    ) -> Result<(), Refused>
+        requires known { (b : AnyBoard) × Stands self.old.rows row.now b }
+        requires keeps { (b : AnyBoard) → Stands self.old.rows row.now b → (e : Event) → KeepsEach (asked_of self.old) (map_in self.old.map) e b }
+        requires width { found_width found.old ≡ width_of self.old.rows.layout }
+        requires told { (b : AnyBoard) → Stands self.old.rows row.now b
+            → AreTold (asked_of self.old) (map_in self.old.map) self.old.leaves (StandsAll self.old.leaves self.old.rows) found.old b 8 }
+        requires asks { asks ≡ false → (b : AnyBoard) → Stands self.old.rows row.now b → (h : ℕ) → h < 8 → AsksNone (asked_of self.old) h b }
+        ensures told { IfOk result (λ _. (b : AnyBoard) → Stands self.old.rows row.now b
+            → AreTold (asked_of self.old) (map_in self.old.map) self.old.leaves (StandsAll self.old.leaves self.new.rows) found.new b 27) }
+        ensures stay { RowsStay self.old self.new }
+        ensures setting { setting_of self.new ≡ setting_of self.old }
+        ensures width { found_width found.new ≡ found_width found.old }
+    {
+        self.add_refusals(row, asks, found)?;
+        self.add_others(row, found)?;
+        Ok(())
+    }
+
     /// Adds what the happenings lead to from the board of a row. Whether a turn of a hart was shown to change the board.
     pub(crate) fn add_all(&mut self, row: &[u32], found: &mut Successors) -> Result<bool, Refused>
         requires at { Stands self.old.rows self.old.row.items self.old.board.board }
@@ -344,8 +368,7 @@ impl BoardSpace {
         ensures width { found_width found.new ≡ found_width found.old }
     {
         let seen = self.add_turns(row, found)?;
-        self.add_refusals(row, seen.asks, found)?;
-        self.add_others(row, found)?;
+        self.add_happenings(row, seen.asks, found)?;
         Ok(seen.moves)
     }
 }

@@ -330,6 +330,16 @@ impl BoardSpace {
         Some(Broke::Reads(pc, registers))
     }
 
+    /// Makes the row of the board with which the search begins.
+    fn tell_first(&mut self) -> Result<(), Refused>
+        ensures first { IfOk result (λ _. Stands self.new.rows self.new.row.items (Off (standing self.new.reason None))) }
+        ensures setting { setting_of self.new ≡ setting_of self.old }
+    {
+        let board = self.first_board()?;
+        self.rows.row_of(&board, &[], &mut self.row)?;
+        Ok(())
+    }
+
     /// What was guessed wrong of the next turn of some hart, where something was.
     fn first_break(&mut self) -> Option<Broke>
         ensures board { self.new.board ≡ self.old.board }
@@ -368,8 +378,7 @@ impl System for BoardSpace {
     ghost stands = { λ s. StandsAll s.leaves s.rows };
 
     fn start(&mut self) -> Result<Vec<u32>, Refused> {
-        let board = self.first_board()?;
-        self.rows.row_of(&board, &[], &mut self.row)?;
+        self.tell_first()?;
         Ok(self.row.as_slice().to_vec(self.alloc)?)
     }
 

@@ -32,15 +32,18 @@ with_board app =
 abbrev pub with_looks : App → App
 with_looks app = with_rule (with_rule app (several_rule (codes "look"))) (several_rule (codes "expect"))
 
+-- those that say which orders are followed
+abbrev pub with_orders : App → App
+with_orders app =
+    with_rule (with_rule (with_rule app (several_rule (codes "without"))) (value_rule (codes "preemptions") (Unsigned 0 1000))) (value_rule (codes "lives") (Unsigned 1 1000))
+
 -- those that bound the search
 abbrev pub with_bounds : App → App
-with_bounds app =
-    with_rule (with_rule (with_rule (with_rule (with_rule (with_rule app (several_rule (codes "without"))) (value_rule (codes "preemptions") (Unsigned 0 1000))) (value_rule (codes "lives") (Unsigned 1 1000))) (number_rule (codes "boards") 4000000000 (codes "10000000"))) memory_rule)
-    (value_rule (codes "jobs") (Unsigned 1 64))
+with_bounds app = with_rule (with_rule (with_rule app (number_rule (codes "boards") 4000000000 (codes "10000000"))) memory_rule) (value_rule (codes "jobs") (Unsigned 1 64))
 
 -- those that say how the verdict is written
 abbrev pub with_writing : App → App
 with_writing app = with_rule (with_rule (with_rule app (flag_rule (codes "json"))) (flag_rule (codes "tap"))) (option_rule (codes "show"))
 
 abbrev pub sbicheck : App
-sbicheck = with_writing (with_bounds (with_looks (with_board (with_rule (named_app (codes "sbicheck")) kernel_rule))))
+sbicheck = with_writing (with_bounds (with_orders (with_looks (with_board (with_rule (named_app (codes "sbicheck")) kernel_rule)))))

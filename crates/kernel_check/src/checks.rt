@@ -269,6 +269,47 @@ fn followed_all<R: Threads + Sync, W: Write>(
     followed_few(rt, task, own, judged, out)
 }
 
+/// Tells of the kernel and its own order, where all is told.
+fn tell_begin<W: Write>(task: Task<'_>, own: &OwnOrder, out: &mut W) -> Result<(), CheckFault> {
+    if !task.options.tells_all() {
+        return Ok(());
+    }
+    tell_kernel(
+        task.alloc,
+        out,
+        task.options,
+        task.kernel.payload.len(),
+        task.shape,
+    )?;
+    tell_own(task.alloc, out, task.options, own, task.looks)?;
+    out.flush().map_err(|error| unwritten(error))?;
+    Ok(())
+}
+
+/// Tells what was found of a kernel, or the script of a failure where one is asked for.
+fn tell_end<W: Write>(task: Task<'_>, judged: &Judged, out: &mut W) -> Result<(), CheckFault> {
+    let Some(kind) = task.options.show else {
+        tell_judged(task.alloc, out, task.options, task.looks, judged)?;
+        out.flush().map_err(|error| unwritten(error))?;
+        return Ok(());
+    };
+    let is_told = tell_script(
+        task.alloc,
+        out,
+        task.options,
+        task.kernel,
+        task.shape,
+        task.looks,
+        judged,
+        kind,
+    )?;
+    if !is_told {
+        return Err(CheckFault::NotFound(kind));
+    }
+    out.flush().map_err(|error| unwritten(error))?;
+    Ok(())
+}
+
 /// Checks a kernel, and writes what is told of it.
 fn tell_all<R: Threads + Sync, W: Write>(
     rt: &R,
@@ -282,35 +323,9 @@ fn tell_all<R: Threads + Sync, W: Write>(
         (asked_in task.entry.options.now task.entry.shape.now task.entry.kernel.now.payload.items) task.entry.looks.now) }
 {
     let own = own_of(task)?;
-    if task.options.tells_all() {
-        tell_kernel(
-            task.alloc,
-            out,
-            task.options,
-            task.kernel.payload.len(),
-            task.shape,
-        )?;
-        tell_own(task.alloc, out, task.options, &own, task.looks)?;
-        out.flush().map_err(|error| unwritten(error))?;
-    }
+    tell_begin(task, &own, out)?;
     let judged = followed_all(rt, task, &own, out)?;
-    if let Some(kind) = task.options.show {
-        if !tell_script(
-            task.alloc,
-            out,
-            task.options,
-            task.kernel,
-            task.shape,
-            task.looks,
-            &judged,
-            kind,
-        )? {
-            return Err(CheckFault::NotFound(kind));
-        }
-    } else {
-        tell_judged(task.alloc, out, task.options, task.looks, &judged)?;
-    }
-    out.flush().map_err(|error| unwritten(error))?;
+    tell_end(task, &judged, out)?;
     Ok(judged.verdict)
 }
 

@@ -122,13 +122,39 @@ fn names_of(
     Ok(names)
 }
 
+/// The way to the last board that was found.
+fn last_way(setting: Setting<'_>, explored: &Explored) -> Result<Vec<u8>, Refusal> {
+    match explored.way(explored.count().saturating_sub(1)) {
+        Ok(Some(way)) => Ok(way),
+        Ok(None) => Ok(Vec::new(setting.alloc)),
+        Err(_) => Err(Refusal::Memory),
+    }
+}
+
+/// Looks at the boards on a way, from time to time.
+fn look_along(
+    alloc: Global,
+    explored: &Explored,
+    board: &mut Board,
+    way: &[u8],
+    readings: &mut Readings,
+) -> Result<(), AllocError>
+    requires { board.old.size ≡ explored.now.asked.size }
+{
+    let apart = way.len() / LOOKS;
+    let mut next = apart;
+    for (made, event) in way.iter().enumerate() {
+        step(explored, board, *event);
+        if next <= made && board.status() == Status::On {
+            look(alloc, explored.map(), board, readings)?;
+            next = made.saturating_add(apart);
+        }
+    }
+    Ok(())
+}
+
 /// What counts on: words of memory and registers that are greater each time that the way to the last board is looked at.
 pub fn counting(setting: Setting<'_>, explored: &Explored) -> Result<Vec<String>, Refusal> {
-    let way = match explored.way(explored.count().saturating_sub(1)) {
-        Ok(Some(way)) => way,
-        Ok(None) => Vec::new(setting.alloc),
-        Err(_) => return Err(Refusal::Memory),
-    };
     let Ok(mut board) = explored.first_board() else {
         return Err(Refusal::Memory);
     };
@@ -137,15 +163,14 @@ pub fn counting(setting: Setting<'_>, explored: &Explored) -> Result<Vec<String>
         greater: Vec::new(setting.alloc),
         looks: 0,
     };
-    let apart = way.len() / LOOKS;
-    let mut next = apart;
-    for (made, event) in way.iter().enumerate() {
-        step(explored, &mut board, *event);
-        if next <= made && board.status() == Status::On {
-            look(setting.alloc, explored.map(), &board, &mut readings)?;
-            next = made.saturating_add(apart);
-        }
-    }
+    let way = last_way(setting, explored)?;
+    look_along(
+        setting.alloc,
+        explored,
+        &mut board,
+        way.as_slice(),
+        &mut readings,
+    )?;
     if readings.looks < LOOKS - 1 {
         return Ok(Vec::new(setting.alloc));
     }

@@ -4,7 +4,7 @@ ghost use Rattle.std.specs.Prelude.{◌≡◌, false, codes, IfOk};
 ghost use Rattle.clap.specs.Words.{app_of, rule_of};
 ghost use Rattle.clap.specs.declared.builder.value_parser.ValueParser.TheVariants.{Unsigned};
 ghost use Rattle.command_line.specs.Options.{value_rule};
-ghost use Rattle.kernel_check.specs.Usage.{sbicheck, kernel_rule, several_rule, reason_rule, memory_rule, with_board, with_looks, with_bounds, with_writing};
+ghost use Rattle.kernel_check.specs.Usage.{sbicheck, kernel_rule, several_rule, reason_rule, memory_rule, with_board, with_looks, with_orders, with_bounds, with_writing};
 
 use clap::builder::ValueParser;
 use clap::{Arg, ArgAction, Command};
@@ -245,17 +245,24 @@ fn with_looks<'a>(alloc: Global, command: Command<'a>) -> Result<Command<'a>, Al
         .arg(several(alloc, EXPECT, "BYTES", expect))
 }
 
+/// The command with the options that say which orders are followed.
+fn with_orders<'a>(alloc: Global, command: Command<'a>) -> Result<Command<'a>, AllocError>
+    ensures { IfOk result (λ c. app_of c ≡ with_orders (app_of command.entry)) }
+{
+    let without =
+        "Leaves out power cuts, or refused sleeps and resets [possible values: cuts, refusals]";
+    command
+        .arg(several(alloc, WITHOUT, "WHAT", without))?
+        .arg(preemptions(alloc))?
+        .arg(lives(alloc))
+}
+
 /// The command with the options that bound the search.
 fn with_bounds<'a>(alloc: Global, command: Command<'a>) -> Result<Command<'a>, AllocError>
     ensures { IfOk result (λ c. app_of c ≡ with_bounds (app_of command.entry)) }
 {
-    let without =
-        "Leaves out power cuts, or refused sleeps and resets [possible values: cuts, refusals]";
     let boards = "Stops at N boards";
     command
-        .arg(several(alloc, WITHOUT, "WHAT", without))?
-        .arg(preemptions(alloc))?
-        .arg(lives(alloc))?
         .arg(number(alloc, BOARDS, MOST_BOARDS, "10000000", boards))?
         .arg(memory(alloc))?
         .arg(jobs(alloc))
@@ -282,6 +289,7 @@ pub fn command<'a>(alloc: Global) -> Result<Command<'a>, AllocError>
     let command = program(alloc, "sbicheck", USAGE, ABOUT, STATUS).arg(kernel(alloc))?;
     let command = with_board(alloc, command)?;
     let command = with_looks(alloc, command)?;
+    let command = with_orders(alloc, command)?;
     let command = with_bounds(alloc, command)?;
     with_writing(alloc, command)
 }

@@ -1,8 +1,8 @@
 //! The verdict as lines of JSON, an object each (docs/CHECKING.md, "Statuses, and lines of JSON").
 
 use crate::facts::{
-    EndKind, EndShown, Failure, HartFacts, OrderStep, OwnEnd, OwnOrder, RunEnd, SearchFacts, Stop,
-    StoreCall, TrapFacts, Verdict,
+    EndKind, EndShown, Failure, HartFacts, OrderStep, OwnEnd, OwnOrder, RunEnd, SearchFacts,
+    SharedWord, Stop, StoreCall, TrapFacts, Verdict,
 };
 use crate::given::Asked;
 use crate::looks::Look;
@@ -51,15 +51,19 @@ fn looks_value(alloc: Global, looks: &[Look], bytes: &[u8]) -> Result<Value, All
     Ok(Value::Array(shown))
 }
 
-/// What an end shows: its looks, or null and the reason of its shutdown.
-fn shown_values(
-    alloc: Global,
-    looks: &[Look],
-    shown: &EndShown,
-) -> Result<(Value, Value), AllocError> {
+/// What an end shows in the looks; null where the kernel was shut down.
+fn looks_shown(alloc: Global, looks: &[Look], shown: &EndShown) -> Result<Value, AllocError> {
     match shown {
-        EndShown::On(bytes) => Ok((looks_value(alloc, looks, bytes.as_slice())?, Value::Null)),
-        EndShown::Shutdown(reason) => Ok((Value::Null, Value::from(reason.number()))),
+        EndShown::On(bytes) => looks_value(alloc, looks, bytes.as_slice()),
+        EndShown::Shutdown(_) => Ok(Value::Null),
+    }
+}
+
+/// The reason of the shutdown at an end; null where there was none.
+fn shutdown_shown(shown: &EndShown) -> Value {
+    match shown {
+        EndShown::On(_) => Value::Null,
+        EndShown::Shutdown(reason) => Value::from(reason.number()),
     }
 }
 
@@ -72,26 +76,40 @@ fn harts_value(alloc: Global, harts: &[HartFacts]) -> Result<Value, AllocError> 
     Ok(Value::Array(values))
 }
 
+/// What the kernel's own order shows at its end; null where it has none, or was shut down.
+fn own_looks(alloc: Global, own: &OwnOrder, looks: &[Look]) -> Result<Value, AllocError> {
+    match &own.end {
+        OwnEnd::Ends(shown) => looks_shown(alloc, looks, shown),
+        OwnEnd::Runs(_) => Ok(Value::Null),
+    }
+}
+
+/// The reason of its shutdown; null where there was none.
+fn own_shutdown(own: &OwnOrder) -> Value {
+    match &own.end {
+        OwnEnd::Ends(shown) => shutdown_shown(shown),
+        OwnEnd::Runs(_) => Value::Null,
+    }
+}
+
+/// The harts where it still runs; null where it ends.
+fn own_harts(alloc: Global, own: &OwnOrder) -> Result<Value, AllocError> {
+    match &own.end {
+        OwnEnd::Ends(_) => Ok(Value::Null),
+        OwnEnd::Runs(harts) => harts_value(alloc, harts.as_slice()),
+    }
+}
+
 /// The kernel's own order: the line "own".
 pub fn own_value(alloc: Global, own: &OwnOrder, looks: &[Look]) -> Result<Value, AllocError> {
-    let (looks, shutdown, harts) = match &own.end {
-        OwnEnd::Ends(shown) => {
-            let (looks, shutdown) = shown_values(alloc, looks, shown)?;
-            (looks, shutdown, Value::Null)
-        }
-        OwnEnd::Runs(harts) => {
-            let harts = harts_value(alloc, harts.as_slice())?;
-            (Value::Null, Value::Null, harts)
-        }
-    };
     json!(in alloc; {
         "line": "own",
         "turns": own.turns,
         "sleeps": own.sleeps,
         "reboots": own.reboots,
-        "looks": looks,
-        "shutdown": shutdown,
-        "harts": harts
+        "looks": own_looks(alloc, own, looks)?,
+        "shutdown": own_shutdown(own),
+        "harts": own_harts(alloc, own)?
     })
 }
 
@@ -133,27 +151,38 @@ fn lives_value(bound: Bound) -> Value {
     }
 }
 
+/// The words that harts share.
+fn shared_value(alloc: Global, shared: &[SharedWord]) -> Result<Value, AllocError> {
+    let mut values = Vec::new(alloc);
+    for word in shared {
+        let value = json!(in alloc; {
+            "address": hex_value(alloc, word.address)?,
+            "name": name_value(alloc, &word.name)?
+        })?;
+        values.push(value)?;
+    }
+    Ok(Value::Array(values))
+}
+
+/// The names of what counts on.
+fn names_value(alloc: Global, names: &[String]) -> Result<Value, AllocError> {
+    let mut values = Vec::new(alloc);
+    for name in names {
+        values.push(Value::from(name.as_str().to_string(alloc)?))?;
+    }
+    Ok(Value::Array(values))
+}
+
 /// How far a search went: a line "search".
 pub fn search_value(alloc: Global, search: &SearchFacts) -> Result<Value, AllocError> {
-    let mut shared = Vec::new(alloc);
-    for word in &search.shared {
-        let address = hex_value(alloc, word.address)?;
-        let name = name_value(alloc, &word.name)?;
-        shared.push(json!(in alloc; {"address": address, "name": name})?)?;
-    }
-    let mut counting = Vec::new(alloc);
-    for name in &search.counting {
-        counting.push(Value::from(name.as_str().to_string(alloc)?))?;
-    }
-    let stop = stop_value(alloc, search.stop)?;
     json!(in alloc; {
         "line": "search",
         "preemptions": preemptions_value(search.bound),
         "lives": lives_value(search.bound),
         "boards": search.boards,
-        "stopped": stop,
-        "counting": Value::Array(counting),
-        "shared": Value::Array(shared),
+        "stopped": stop_value(alloc, search.stop)?,
+        "counting": names_value(alloc, search.counting.as_slice())?,
+        "shared": shared_value(alloc, search.shared.as_slice())?,
         "images": search.images,
         "ends": search.ends
     })
@@ -161,14 +190,13 @@ pub fn search_value(alloc: Global, search: &SearchFacts) -> Result<Value, AllocE
 
 /// Ends that show the same: a line "end".
 pub fn end_value(alloc: Global, kind: &EndKind, looks: &[Look]) -> Result<Value, AllocError> {
-    let (looks, shutdown) = shown_values(alloc, looks, &kind.shown)?;
     json!(in alloc; {
         "line": "end",
         "ends": kind.count,
         "expected": kind.is_expected,
         "own": kind.is_own,
-        "looks": looks,
-        "shutdown": shutdown
+        "looks": looks_shown(alloc, looks, &kind.shown)?,
+        "shutdown": shutdown_shown(&kind.shown)
     })
 }
 
@@ -212,36 +240,41 @@ fn trap_value(alloc: Global, trap: &Option<TrapFacts>) -> Result<Value, AllocErr
     let Some(trap) = trap else {
         return Ok(Value::Null);
     };
-    let cause = hex_value(alloc, trap.cause)?;
-    let value = hex_value(alloc, trap.value)?;
-    json!(in alloc; {"scause": cause, "at": trap.place.as_str(), "stval": value})
+    json!(in alloc; {
+        "scause": hex_value(alloc, trap.cause)?,
+        "at": trap.place.as_str(),
+        "stval": hex_value(alloc, trap.value)?
+    })
 }
 
 /// A hart where a failure shows.
 fn hart_value(alloc: Global, hart: &HartFacts) -> Result<Value, AllocError> {
-    let trap = trap_value(alloc, &hart.trap)?;
     json!(in alloc; {
         "hart": hart.hart,
         "state": state_word(hart.state),
         "at": hart.place.as_str(),
         "pending": hart.is_pending,
-        "trap": trap
+        "trap": trap_value(alloc, &hart.trap)?
     })
+}
+
+/// The steps of an order.
+fn order_value(alloc: Global, order: &[OrderStep]) -> Result<Value, AllocError> {
+    let mut values = Vec::new(alloc);
+    for step in order {
+        values.push(step_value(alloc, step)?)?;
+    }
+    Ok(Value::Array(values))
 }
 
 /// A failure: a line "failure".
 pub fn failure_value(alloc: Global, failure: &Failure) -> Result<Value, AllocError> {
-    let mut order = Vec::new(alloc);
-    for step in &failure.order {
-        order.push(step_value(alloc, step)?)?;
-    }
-    let harts = harts_value(alloc, failure.harts.as_slice())?;
     json!(in alloc; {
         "line": "failure",
         "failure": failure_word(failure.kind),
         "ends": failure.ends,
-        "order": Value::Array(order),
-        "harts": harts
+        "order": order_value(alloc, failure.order.as_slice())?,
+        "harts": harts_value(alloc, failure.harts.as_slice())?
     })
 }
 

@@ -5,9 +5,6 @@ use Rattle.kernel_check.proofs.help.with_bounds.Goals as goal
 
 pub returns : goal.returns
 returns c =
-    let a1 = c.in_ok-arg.ensures.shape c.several.ensures.local ∙ ap₂ with_rule refl c.several.ensures.rule in
-    let a2 = c.in_ok-arg-2.ensures.shape c.preemptions.ensures.local ∙ ap₂ with_rule a1 c.preemptions.ensures.rule in
-    let a3 = c.in_ok-arg-3.ensures.shape c.lives.ensures.local ∙ ap₂ with_rule a2 c.lives.ensures.rule in
-    let a4 = c.in_ok-arg-4.ensures.shape c.number.ensures.local ∙ ap₂ with_rule a3 c.number.ensures.rule in
-    let a5 = c.in_ok-arg-5.ensures.shape c.memory.ensures.local ∙ ap₂ with_rule a4 c.memory.ensures.rule in
-    IfOk-weaker c.arg-6.result _ _ (λ r h. h.shape c.jobs.ensures.local ∙ ap₂ with_rule a5 c.jobs.ensures.rule) c.arg-6.ensures
+    let a1 = c.in_ok-arg.ensures.shape c.number.ensures.local ∙ ap₂ with_rule refl c.number.ensures.rule in
+    let a2 = c.in_ok-arg-2.ensures.shape c.memory.ensures.local ∙ ap₂ with_rule a1 c.memory.ensures.rule in
+    IfOk-weaker c.arg-3.result _ _ (λ r h. h.shape c.jobs.ensures.local ∙ ap₂ with_rule a2 c.jobs.ensures.rule) c.arg-3.ensures

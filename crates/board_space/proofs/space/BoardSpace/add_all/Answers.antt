@@ -1,4 +1,4 @@
-use Rattle.std.proofs.Common.{◌∙◌, ◌<◌, ℕ, sym, subst}
+use Rattle.std.proofs.Common.{◌<◌, ℕ, sym, subst}
 use Rattle.model_board.specs.Events.{Event}
 use Rattle.board_space.specs.Covering.{StandsAll}
 use Rattle.board_space.specs.Expanding.{AreTold, AsksNone}
@@ -9,54 +9,31 @@ use Rattle.board_space.proofs.Moves.{keeps_each}
 use Rattle.board_space.proofs.Seen.{held_on}
 use Rattle.board_space.proofs.space.BoardSpace.add_all.Goals as goal
 
-pub add_refusals-requires-clause-known : goal.add_refusals-requires-clause-known
-add_refusals-requires-clause-known c =
+pub add_happenings-requires-clause-known : goal.add_happenings-requires-clause-known
+add_happenings-requires-clause-known c =
     (c.requires.known.0, c.in_ok-seen.ensures.stay c.args.row.now c.requires.known.0 c.requires.known.1)
 
-pub add_refusals-requires-clause-keeps : goal.add_refusals-requires-clause-keeps
-add_refusals-requires-clause-keeps c =
+pub add_happenings-requires-clause-keeps : goal.add_happenings-requires-clause-keeps
+add_happenings-requires-clause-keeps c =
     let turns = c.in_ok-seen.ensures in
     held_on c.args.self.now.rows c.add_turns.new.self.rows c.args.row.now c.requires.known.0 (λ b. (e : Event) → KeepsEach (asked_of c.add_turns.new.self) (map_in c.add_turns.new.self.map) e b) c.requires.known.1 turns.stay
     (λ b stands. subst (λ (t : Setting). (e : Event) → KeepsEach t.asked t.map e b) (sym turns.setting)
     (keeps_each (asked_of c.args.self.now) (map_in c.args.self.now.map) b (λ h lt. (c.requires.keeps b stands h lt).0)))
 
-pub add_refusals-requires-clause-told : goal.add_refusals-requires-clause-told
-add_refusals-requires-clause-told c =
+pub add_happenings-requires-clause-told : goal.add_happenings-requires-clause-told
+add_happenings-requires-clause-told c =
     let turns = c.in_ok-seen.ensures in
     held_on c.args.self.now.rows c.add_turns.new.self.rows c.args.row.now c.requires.known.0 (λ b. AreTold (asked_of c.add_turns.new.self) (map_in c.add_turns.new.self.map) c.add_turns.new.self.leaves (StandsAll c.add_turns.new.self.leaves c.add_turns.new.self.rows) c.add_turns.new.found b 8) c.requires.known.1 turns.stay
     (λ b stands. subst (λ (t : Setting). AreTold t.asked t.map t.leaves (StandsAll t.leaves c.add_turns.new.self.rows) c.add_turns.new.found b 8) (sym turns.setting) (turns.told b stands))
 
-pub add_refusals-requires-clause-asks : goal.add_refusals-requires-clause-asks
-add_refusals-requires-clause-asks c is =
+pub add_happenings-requires-clause-asks : goal.add_happenings-requires-clause-asks
+add_happenings-requires-clause-asks c is =
     let turns = c.in_ok-seen.ensures in
     held_on c.args.self.now.rows c.add_turns.new.self.rows c.args.row.now c.requires.known.0 (λ b. (h : ℕ) → h < 8 → AsksNone (asked_of c.add_turns.new.self) h b) c.requires.known.1 turns.stay
     (λ b stands. subst (λ (t : Setting). (h : ℕ) → h < 8 → AsksNone t.asked h b) (sym turns.setting) (turns.asks is b stands))
 
-pub add_others-requires-clause-known : goal.add_others-requires-clause-known
-add_others-requires-clause-known c =
-    (c.requires.known.0, c.add_refusals.ensures.stay c.args.row.now c.requires.known.0 (c.in_ok-seen.ensures.stay c.args.row.now c.requires.known.0 c.requires.known.1))
-
-pub add_others-requires-clause-keeps : goal.add_others-requires-clause-keeps
-add_others-requires-clause-keeps c =
-    let turns = c.in_ok-seen.ensures in
-    let after = c.add_refusals.ensures in
-    held_on c.args.self.now.rows c.add_refusals.new.self.rows c.args.row.now c.requires.known.0 (λ b. (e : Event) → KeepsEach (asked_of c.add_refusals.new.self) (map_in c.add_refusals.new.self.map) e b) c.requires.known.1
-    (λ r b stands. after.stay r b (turns.stay r b stands))
-    (λ b stands. subst (λ (t : Setting). (e : Event) → KeepsEach t.asked t.map e b) (sym (after.setting ∙ turns.setting))
-    (keeps_each (asked_of c.args.self.now) (map_in c.args.self.now.map) b (λ h lt. (c.requires.keeps b stands h lt).0)))
-
-pub add_others-requires-clause-told : goal.add_others-requires-clause-told
-add_others-requires-clause-told c =
-    let turns = c.in_ok-seen.ensures in
-    let after = c.in_ok-add_refusals.ensures in
-    held_on c.args.self.now.rows c.add_refusals.new.self.rows c.args.row.now c.requires.known.0 (λ b. AreTold (asked_of c.add_refusals.new.self) (map_in c.add_refusals.new.self.map) c.add_refusals.new.self.leaves (StandsAll c.add_refusals.new.self.leaves c.add_refusals.new.self.rows) c.add_refusals.new.found b 24) c.requires.known.1
-    (λ r b stands. after.stay r b (turns.stay r b stands))
-    (λ b stands. subst (λ (t : Setting). AreTold t.asked t.map t.leaves (StandsAll t.leaves c.add_refusals.new.self.rows) c.add_refusals.new.found b 24) (sym after.setting)
-    (after.told b (turns.stay c.args.row.now b stands)))
-
 pub returns-clause-told : goal.returns-clause-told
 returns-clause-told c b stands =
     let turns = c.in_ok-seen.ensures in
-    let after = c.in_ok-add_refusals.ensures in
-    subst (λ (t : Setting). AreTold t.asked t.map t.leaves (StandsAll t.leaves c.add_others.new.self.rows) c.add_others.new.found b 27) (after.setting ∙ turns.setting)
-    (c.in_ok-add_others.ensures.told b (after.stay c.args.row.now b (turns.stay c.args.row.now b stands)))
+    subst (λ (t : Setting). AreTold t.asked t.map t.leaves (StandsAll t.leaves c.add_happenings.new.self.rows) c.add_happenings.new.found b 27) turns.setting
+    (c.in_ok-add_happenings.ensures.told b (turns.stay c.args.row.now b stands))
