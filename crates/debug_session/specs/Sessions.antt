@@ -1,5 +1,5 @@
 -- What a clause sees of a session.
-use Rattle.std.specs.Prelude.{ℕ, List, Option}
+use Rattle.std.specs.Prelude.{◌≡◌, ℕ, List, Option}
 use Rattle.board_model.specs.Shapes.{Size}
 use Rattle.machine.specs.Machine.{Machine}
 use Rattle.script_lang.specs.declared.line.Line.{Line}
@@ -51,3 +51,11 @@ module _ {C : Type 0} where
   -- how it goes on
   abbrev pub plan_of : Session C → SessionPlan
   plan_of s = s.plan
+
+  -- its board has the size that it had, and it goes on as it did
+  abbrev pub KeepsPlan : Session C → Session C → Type 0
+  KeepsPlan old new = (size_of new ≡ size_of old) × (plan_of new ≡ plan_of old)
+
+  -- its breakpoints and watchpoints are as they were too: nothing but its bench and history has changed
+  abbrev pub KeepsRest : Session C → Session C → Type 0
+  KeepsRest old new = KeepsPlan old new × (stops_of new ≡ stops_of old)

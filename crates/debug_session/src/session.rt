@@ -8,7 +8,7 @@ ghost use Rattle.debug_session.specs.Ats.{IsAt, Ran};
 ghost use Rattle.debug_session.specs.Steps.{AreNoted, IsStep, Went};
 ghost use Rattle.debug_session.specs.Lives.{register_in};
 ghost use Rattle.debug_session.specs.Texts.{state_text, history_text};
-ghost use Rattle.debug_session.specs.Sessions.{begins_of, bench_of, history_of, machine_of_session, plan_of, points_of, size_of, stops_of, timeline_of, watches_of};
+ghost use Rattle.debug_session.specs.Sessions.{begins_of, bench_of, history_of, machine_of_session, plan_of, points_of, size_of, stops_of, timeline_of, watches_of, KeepsPlan, KeepsRest};
 ghost use Rattle.debug_session.specs.Backs.{BackTo, StaysBack};
 ghost use Rattle.debug_session.specs.Firsts.{ToHalt};
 ghost use Rattle.debug_session.specs.Points.{with_point, with_watch, without_point, without_watch};
@@ -153,9 +153,7 @@ impl<'a, C: Crew> Session<'a, C> {
         requires range { IsLineInRange (size_of self.old) line }
         ensures at { OnOk result (IsAt (size_of self.new) (timeline_of self.new)) }
         ensures ran { IfOk result (λ answer. Ran (size_of self.old) line answer (timeline_of self.old) (timeline_of self.new)) }
-        ensures size { size_of self.new ≡ size_of self.old }
-        ensures stops { stops_of self.new ≡ stops_of self.old }
-        ensures plan { plan_of self.new ≡ plan_of self.old }
+        ensures rest { KeepsRest self.old self.new }
         ensures begins { begins_of self.new ≡ begins_of self.old }
     {
         self.order
@@ -174,8 +172,7 @@ impl<'a, C: Crew> Session<'a, C> {
         ensures unset { OnErr result (points_of self.new ≡ points_of self.old) }
         ensures watches { watches_of self.new ≡ watches_of self.old }
         ensures timeline { timeline_of self.new ≡ timeline_of self.old }
-        ensures size { size_of self.new ≡ size_of self.old }
-        ensures plan { plan_of self.new ≡ plan_of self.old }
+        ensures rest { KeepsPlan self.old self.new }
     {
         self.stops.set_point(address)
     }
@@ -185,8 +182,7 @@ impl<'a, C: Crew> Session<'a, C> {
         ensures points { points_of self.new ≡ without_point address (points_of self.old) }
         ensures watches { watches_of self.new ≡ watches_of self.old }
         ensures timeline { timeline_of self.new ≡ timeline_of self.old }
-        ensures size { size_of self.new ≡ size_of self.old }
-        ensures plan { plan_of self.new ≡ plan_of self.old }
+        ensures rest { KeepsPlan self.old self.new }
     {
         self.stops.clear_point(address);
     }
@@ -197,8 +193,7 @@ impl<'a, C: Crew> Session<'a, C> {
         ensures unset { OnErr result (watches_of self.new ≡ watches_of self.old) }
         ensures points { points_of self.new ≡ points_of self.old }
         ensures timeline { timeline_of self.new ≡ timeline_of self.old }
-        ensures size { size_of self.new ≡ size_of self.old }
-        ensures plan { plan_of self.new ≡ plan_of self.old }
+        ensures rest { KeepsPlan self.old self.new }
     {
         self.stops.set_watch(watch)
     }
@@ -208,8 +203,7 @@ impl<'a, C: Crew> Session<'a, C> {
         ensures watches { watches_of self.new ≡ without_watch watch (watches_of self.old) }
         ensures points { points_of self.new ≡ points_of self.old }
         ensures timeline { timeline_of self.new ≡ timeline_of self.old }
-        ensures size { size_of self.new ≡ size_of self.old }
-        ensures plan { plan_of self.new ≡ plan_of self.old }
+        ensures rest { KeepsPlan self.old self.new }
     {
         self.stops.clear_watch(watch);
     }
@@ -239,9 +233,7 @@ impl<'a, C: Crew> Session<'a, C> {
         ensures first { IfOk result (λ stop. ToHalt (size_of self.old) (stops_of self.old) hart (Some stop.halt)
             (timeline_of self.old) (timeline_of self.new)) }
         ensures there { IfOk result (λ stop. stop.hart ≡ hart) }
-        ensures size { size_of self.new ≡ size_of self.old }
-        ensures stops { stops_of self.new ≡ stops_of self.old }
-        ensures plan { plan_of self.new ≡ plan_of self.old }
+        ensures rest { KeepsRest self.old self.new }
         ensures begins { OnOk result (begins_of self.new ≡ begins_of self.old) }
     {
         forth::step(&self.setting, &self.stops, &mut self.timeline, hart, told)
@@ -268,9 +260,7 @@ impl<'a, C: Crew> Session<'a, C> {
             (within_plan first end (plan_of self.old)) hart stop.halt (timeline_of self.old)
             (timeline_of self.new)) }
         ensures there { IfOk result (λ stop. stop.hart ≡ hart) }
-        ensures size { size_of self.new ≡ size_of self.old }
-        ensures stops { stops_of self.new ≡ stops_of self.old }
-        ensures plan { plan_of self.new ≡ plan_of self.old }
+        ensures rest { KeepsRest self.old self.new }
     {
         let within = StepRange {
             first,
@@ -305,9 +295,7 @@ impl<'a, C: Crew> Session<'a, C> {
         ensures first { IfOk result (λ stop. ToHalt (size_of self.old) (stops_of self.old) stop.hart (Some stop.halt)
             (timeline_of self.old) (timeline_of self.new)) }
         ensures there { IfOk result (λ stop. stop.hart < (size_of self.old).harts) }
-        ensures size { size_of self.new ≡ size_of self.old }
-        ensures stops { stops_of self.new ≡ stops_of self.old }
-        ensures plan { plan_of self.new ≡ plan_of self.old }
+        ensures rest { KeepsRest self.old self.new }
     {
         let most = self.plan.most;
         self.go_few(first, *harts, most, interrupt, told)
@@ -329,9 +317,7 @@ impl<'a, C: Crew> Session<'a, C> {
         ensures first { IfOk result (λ stop. ToHalt (size_of self.old) (stops_of self.old) stop.hart (Some stop.halt)
             (timeline_of self.old) (timeline_of self.new)) }
         ensures there { IfOk result (λ stop. stop.hart < (size_of self.old).harts) }
-        ensures size { size_of self.new ≡ size_of self.old }
-        ensures stops { stops_of self.new ≡ stops_of self.old }
-        ensures plan { plan_of self.new ≡ plan_of self.old }
+        ensures rest { KeepsRest self.old self.new }
     {
         let round = Round {
             harts,
@@ -368,9 +354,7 @@ impl<'a, C: Crew> Session<'a, C> {
             (timeline_of self.new)) }
         ensures first { IfOk result (λ stop. ToHalt (size_of self.old) (stops_of self.old) stop.hart (Some stop.halt)
             (timeline_of self.old) (timeline_of self.new)) }
-        ensures size { size_of self.new ≡ size_of self.old }
-        ensures stops { stops_of self.new ≡ stops_of self.old }
-        ensures plan { plan_of self.new ≡ plan_of self.old }
+        ensures rest { KeepsRest self.old self.new }
     {
         let most = counts::turns_left(self.timeline.lines(), turns, self.plan.most);
         self.go_few(first, [true; 8], most, interrupt, told)
@@ -386,9 +370,7 @@ impl<'a, C: Crew> Session<'a, C> {
             × (((stop.halt ≡ HaltReason.Stepped) × IsBack hart (history_of self.old) (history_of self.new))
             ⊎ ((stop.halt ≡ HaltReason.Begin) × NoRow hart (history_of self.old) × (timeline_of self.new ≡ timeline_of self.old)))) }
         ensures there { IfOk result (λ stop. stop.hart < (size_of self.old).harts) }
-        ensures size { size_of self.new ≡ size_of self.old }
-        ensures stops { stops_of self.new ≡ stops_of self.old }
-        ensures plan { plan_of self.new ≡ plan_of self.old }
+        ensures rest { KeepsRest self.old self.new }
         ensures begins { begins_of self.new ≡ begins_of self.old }
     {
         let found = self.timeline.step_back(&self.setting, hart)?;
@@ -410,9 +392,7 @@ impl<'a, C: Crew> Session<'a, C> {
         ensures back { IfOk result (λ stop. BackTo (size_of self.old) (stops_of self.old) stop (timeline_of self.old) (timeline_of self.new)
             ⊎ StaysBack stop hart (timeline_of self.old) (timeline_of self.new)) }
         ensures there { IfOk result (λ stop. stop.hart < (size_of self.old).harts) }
-        ensures size { size_of self.new ≡ size_of self.old }
-        ensures stops { stops_of self.new ≡ stops_of self.old }
-        ensures plan { plan_of self.new ≡ plan_of self.old }
+        ensures rest { KeepsRest self.old self.new }
         ensures begins { OnOk result (begins_of self.new ≡ begins_of self.old) }
     {
         back::go_back(
@@ -430,9 +410,7 @@ impl<'a, C: Crew> Session<'a, C> {
         requires at { IsAt (size_of self.old) (timeline_of self.old) }
         ensures at { OnOk result (IsAt (size_of self.new) (timeline_of self.new)) }
         ensures went { IfOk result (λ found. WentTo turns found (timeline_of self.old) (timeline_of self.new)) }
-        ensures size { size_of self.new ≡ size_of self.old }
-        ensures stops { stops_of self.new ≡ stops_of self.old }
-        ensures plan { plan_of self.new ≡ plan_of self.old }
+        ensures rest { KeepsRest self.old self.new }
         ensures begins { begins_of self.new ≡ begins_of self.old }
     {
         counts::go_to(&self.setting, &mut self.timeline, turns)

@@ -2,7 +2,7 @@
 
 ghost use Rattle.std.specs.Prelude.{◌≡◌, ◌<◌, [], codes, map, IfOk, OnOk};
 ghost use Rattle.debug_session.specs.Ats.{IsAt};
-ghost use Rattle.debug_session.specs.Sessions.{plan_of, size_of, stops_of, timeline_of};
+ghost use Rattle.debug_session.specs.Sessions.{size_of, timeline_of, KeepsRest};
 ghost use Rattle.debug_talk.specs.Kept.{IsTalk, StaysOpen};
 ghost use Rattle.debug_talk.specs.Moved.{IsTold, MovedBy, ResumedBy, SteppedOnce, WentAlone, WentBack, WentFarBack, WentOn};
 ghost use Rattle.debug_talk.specs.Talks.{runs_in};
@@ -55,10 +55,8 @@ impl<'a, C: Crew> Talk<'a, C> {
         requires at { IsAt (size_of self.old.session) (timeline_of self.old.session) }
         requires none { out.old.items ≡ [] }
         ensures at { OnOk result (IsAt (size_of self.new.session) (timeline_of self.new.session)) }
-        ensures size { size_of self.new.session ≡ size_of self.old.session }
+        ensures rest { KeepsRest self.old.session self.new.session }
         ensures moved { IfOk result (λ v. MovedBy asked packet.now self.old self.new (map (λ v. v.items) out.new.items) v.items) }
-        ensures plan { plan_of self.new.session ≡ plan_of self.old.session }
-        ensures stops { stops_of self.new.session ≡ stops_of self.old.session }
         ensures talk { IsTalk self.new.last self.old.runner self.old.takes_swbreak self.old.acknowledges self.old.is_over self.new }
     {
         match asked {
@@ -86,11 +84,9 @@ impl<'a, C: Crew> Talk<'a, C> {
     fn step_back(&mut self) -> Result<Vec<u8>, AllocError>
         requires at { IsAt (size_of self.old.session) (timeline_of self.old.session) }
         ensures at { OnOk result (IsAt (size_of self.new.session) (timeline_of self.new.session)) }
-        ensures size { size_of self.new.session ≡ size_of self.old.session }
+        ensures rest { KeepsRest self.old.session self.new.session }
         ensures moved { OnOk result (WentBack (runs_in self.old) self.new.last self.old.session self.new.session) }
         ensures told { IfOk result (λ v. IsTold self.old self.new v.items) }
-        ensures plan { plan_of self.new.session ≡ plan_of self.old.session }
-        ensures stops { stops_of self.new.session ≡ stops_of self.old.session }
         ensures talk { IsTalk self.new.last self.old.runner self.old.takes_swbreak self.old.acknowledges self.old.is_over self.new }
     {
         let hart = self.runs();
@@ -102,11 +98,9 @@ impl<'a, C: Crew> Talk<'a, C> {
     fn go_back(&mut self, interrupt: &AtomicBool) -> Result<Vec<u8>, AllocError>
         requires at { IsAt (size_of self.old.session) (timeline_of self.old.session) }
         ensures at { OnOk result (IsAt (size_of self.new.session) (timeline_of self.new.session)) }
-        ensures size { size_of self.new.session ≡ size_of self.old.session }
+        ensures rest { KeepsRest self.old.session self.new.session }
         ensures moved { OnOk result (WentFarBack (runs_in self.old) self.new.last self.old.session self.new.session) }
         ensures told { IfOk result (λ v. IsTold self.old self.new v.items) }
-        ensures plan { plan_of self.new.session ≡ plan_of self.old.session }
-        ensures stops { stops_of self.new.session ≡ stops_of self.old.session }
         ensures talk { IsTalk self.new.last self.old.runner self.old.takes_swbreak self.old.acknowledges self.old.is_over self.new }
     {
         let hart = self.runs();
@@ -123,10 +117,8 @@ impl<'a, C: Crew> Talk<'a, C> {
     ) -> Result<Vec<u8>, AllocError>
         requires at { IsAt (size_of self.old.session) (timeline_of self.old.session) }
         ensures at { OnOk result (IsAt (size_of self.new.session) (timeline_of self.new.session)) }
-        ensures size { size_of self.new.session ≡ size_of self.old.session }
+        ensures rest { KeepsRest self.old.session self.new.session }
         ensures moved { IfOk result (λ v. ResumedBy (behind_prefix (codes "vCont;") packet.now) self.old self.new v.items) }
-        ensures plan { plan_of self.new.session ≡ plan_of self.old.session }
-        ensures stops { stops_of self.new.session ≡ stops_of self.old.session }
         ensures talk { IsTalk self.new.last self.old.runner self.old.takes_swbreak self.old.acknowledges self.old.is_over self.new }
     {
         let asked = asked_by(self.alloc(), self.session.setting().shape, packet)?;
@@ -145,11 +137,9 @@ impl<'a, C: Crew> Talk<'a, C> {
         requires at { IsAt (size_of self.old.session) (timeline_of self.old.session) }
         requires hart { hart < (size_of self.old.session).harts }
         ensures at { OnOk result (IsAt (size_of self.new.session) (timeline_of self.new.session)) }
-        ensures size { size_of self.new.session ≡ size_of self.old.session }
+        ensures rest { KeepsRest self.old.session self.new.session }
         ensures moved { OnOk result (SteppedOnce hart self.new.last self.old.session self.new.session) }
         ensures told { IfOk result (λ v. IsTold self.old self.new v.items) }
-        ensures plan { plan_of self.new.session ≡ plan_of self.old.session }
-        ensures stops { stops_of self.new.session ≡ stops_of self.old.session }
         ensures talk { IsTalk self.new.last self.old.runner self.old.takes_swbreak self.old.acknowledges self.old.is_over self.new }
     {
         let mut told = Vec::new(self.alloc());
@@ -169,11 +159,9 @@ impl<'a, C: Crew> Talk<'a, C> {
         requires at { IsAt (size_of self.old.session) (timeline_of self.old.session) }
         requires hart { hart < (size_of self.old.session).harts }
         ensures at { OnOk result (IsAt (size_of self.new.session) (timeline_of self.new.session)) }
-        ensures size { size_of self.new.session ≡ size_of self.old.session }
+        ensures rest { KeepsRest self.old.session self.new.session }
         ensures moved { OnOk result (WentAlone hart first end self.new.last self.old.session self.new.session) }
         ensures told { IfOk result (λ v. IsTold self.old self.new v.items) }
-        ensures plan { plan_of self.new.session ≡ plan_of self.old.session }
-        ensures stops { stops_of self.new.session ≡ stops_of self.old.session }
         ensures talk { IsTalk self.new.last self.old.runner self.old.takes_swbreak self.old.acknowledges self.old.is_over self.new }
     {
         let mut told = Vec::new(self.alloc());
@@ -194,11 +182,9 @@ impl<'a, C: Crew> Talk<'a, C> {
         requires at { IsAt (size_of self.old.session) (timeline_of self.old.session) }
         requires first { first < (size_of self.old.session).harts }
         ensures at { OnOk result (IsAt (size_of self.new.session) (timeline_of self.new.session)) }
-        ensures size { size_of self.new.session ≡ size_of self.old.session }
+        ensures rest { KeepsRest self.old.session self.new.session }
         ensures moved { OnOk result (WentOn harts.now self.new.last self.old.session self.new.session) }
         ensures told { IfOk result (λ v. IsTold self.old self.new v.items) }
-        ensures plan { plan_of self.new.session ≡ plan_of self.old.session }
-        ensures stops { stops_of self.new.session ≡ stops_of self.old.session }
         ensures talk { IsTalk self.new.last self.old.runner self.old.takes_swbreak self.old.acknowledges self.old.is_over self.new }
     {
         let mut told = Vec::new(self.alloc());

@@ -2,7 +2,7 @@
 
 ghost use Rattle.std.specs.Prelude.{◌≡◌, ◌<◌, true, false, [], None, map, IfOk, OnOk};
 ghost use Rattle.debug_session.specs.Ats.{IsAt};
-ghost use Rattle.debug_session.specs.Sessions.{bench_of, plan_of, points_of, size_of, stops_of, timeline_of, watches_of};
+ghost use Rattle.debug_session.specs.Sessions.{bench_of, points_of, size_of, stops_of, timeline_of, watches_of, KeepsPlan, KeepsRest};
 ghost use Rattle.debug_talk.specs.Replies.{IsReply, Replied, Shown, hart_shown};
 ghost use Rattle.debug_talk.specs.Kept.{IsKept, IsTalk, Keeps, Listed, points_after, watches_after};
 ghost use Rattle.debug_talk.specs.Moved.{Moved};
@@ -75,7 +75,7 @@ impl<'a, C: Crew> Talk<'a, C> {
     ) -> Result<PacketPayloads, AllocError>
         requires at { IsAt (size_of (session_in self.old)) (timeline_of (session_in self.old)) }
         ensures at { OnOk result (IsAt (size_of (session_in self.new)) (timeline_of (session_in self.new))) }
-        ensures size { size_of (session_in self.new) ≡ size_of (session_in self.old) }
+        ensures rest { KeepsPlan (session_in self.old) (session_in self.new) }
         // Looking disturbs nothing: whatever is no step, no way on or back and no line leaves bench and history.
         ensures looks { (look : GdbLook) → request_of packet.now ≡ asks.Look look
             → timeline_of (session_in self.new) ≡ timeline_of (session_in self.old) }
@@ -93,7 +93,6 @@ impl<'a, C: Crew> Talk<'a, C> {
             (stops_of (session_in self.new))) }
         // The talk stays as it was, but for what the packet says of it.
         ensures kept { OnOk result (Keeps (request_of packet.now) self.old self.new) }
-        ensures plan { plan_of (session_in self.new) ≡ plan_of (session_in self.old) }
     {
         match request_of(packet) {
             GdbRequest::Look(asked) => self.answer_look(asked, packet),
@@ -104,13 +103,12 @@ impl<'a, C: Crew> Talk<'a, C> {
     /// Answers what looks: one payload, or none.
     fn answer_look(&mut self, asked: GdbLook, packet: &[u8]) -> Result<PacketPayloads, AllocError>
         ensures same { timeline_of self.new.session ≡ timeline_of self.old.session }
-        ensures size { size_of self.new.session ≡ size_of self.old.session }
+        ensures rest { KeepsPlan self.old.session self.new.session }
         ensures shown { OnOk result (self.new.hart ≡ hart_shown asked (size_of self.old.session) self.old.hart) }
         ensures replied { IfOk result (λ out. IsReply asked (size_of self.old.session) self.old.hart
             (bench_of self.old.session) (stop_text self.old.last self.old.takes_swbreak) (map (λ v. v.items) out.items)) }
         ensures points { OnOk result (points_of self.new.session ≡ points_after asked (points_of self.old.session)) }
         ensures watches { OnOk result (watches_of self.new.session ≡ watches_after asked (watches_of self.old.session)) }
-        ensures plan { plan_of self.new.session ≡ plan_of self.old.session }
         ensures kept { OnOk result (IsKept asked self.old self.new) }
     {
         let mut out = Vec::new(self.alloc());
@@ -132,10 +130,8 @@ impl<'a, C: Crew> Talk<'a, C> {
     ) -> Result<PacketPayloads, AllocError>
         requires at { IsAt (size_of self.old.session) (timeline_of self.old.session) }
         ensures at { OnOk result (IsAt (size_of self.new.session) (timeline_of self.new.session)) }
-        ensures size { size_of self.new.session ≡ size_of self.old.session }
+        ensures rest { KeepsRest self.old.session self.new.session }
         ensures moved { IfOk result (λ out. Moved (asks.Move asked) packet.now self.old self.new (map (λ v. v.items) out.items)) }
-        ensures plan { plan_of self.new.session ≡ plan_of self.old.session }
-        ensures stops { stops_of self.new.session ≡ stops_of self.old.session }
         ensures talk { IsTalk self.new.last self.old.runner self.old.takes_swbreak self.old.acknowledges self.old.is_over self.new }
     {
         let mut out = Vec::new(self.alloc());

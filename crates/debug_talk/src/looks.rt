@@ -2,7 +2,7 @@
 
 ghost use Rattle.std.specs.Prelude.{◌≡◌, IfOk, OnOk};
 ghost use Rattle.std.specs.Option.{option_map};
-ghost use Rattle.debug_session.specs.Sessions.{bench_of, plan_of, points_of, size_of, timeline_of, watches_of};
+ghost use Rattle.debug_session.specs.Sessions.{bench_of, points_of, size_of, timeline_of, watches_of, KeepsPlan};
 ghost use Rattle.debug_talk.specs.Kept.{IsKept, IsTalk, StaysOpen, named_or, points_after, watch_of, watches_after};
 ghost use Rattle.debug_talk.specs.Stops.{stop_text};
 ghost use Rattle.debug_talk.specs.Replies.{hart_named, hart_shown, IsLookReply};
@@ -39,13 +39,12 @@ impl<'a, C: Crew> Talk<'a, C> {
         packet: &[u8],
     ) -> Result<Option<Vec<u8>>, AllocError>
         ensures same { timeline_of self.new.session ≡ timeline_of self.old.session }
-        ensures size { size_of self.new.session ≡ size_of self.old.session }
+        ensures rest { KeepsPlan self.old.session self.new.session }
         ensures shown { OnOk result (self.new.hart ≡ hart_shown asked (size_of self.old.session) self.old.hart) }
         ensures replied { IfOk result (λ out. IsLookReply asked (size_of self.old.session) self.old.hart
             (bench_of self.old.session) (stop_text self.old.last self.old.takes_swbreak) (option_map (λ v. v.items) out)) }
         ensures points { OnOk result (points_of self.new.session ≡ points_after asked (points_of self.old.session)) }
         ensures watches { OnOk result (watches_of self.new.session ≡ watches_after asked (watches_of self.old.session)) }
-        ensures plan { plan_of self.new.session ≡ plan_of self.old.session }
         ensures kept { OnOk result (IsKept asked self.old self.new) }
     {
         let reply = reply_of(
@@ -62,11 +61,10 @@ impl<'a, C: Crew> Talk<'a, C> {
     /// Does what a request that moves nothing changes: the debugger's lists, and the talk.
     fn follow(&mut self, asked: GdbLook, packet: &[u8]) -> Result<(), AllocError>
         ensures same { timeline_of self.new.session ≡ timeline_of self.old.session }
-        ensures size { size_of self.new.session ≡ size_of self.old.session }
+        ensures rest { KeepsPlan self.old.session self.new.session }
         ensures shown { OnOk result (self.new.hart ≡ hart_shown asked (size_of self.old.session) self.old.hart) }
         ensures points { OnOk result (points_of self.new.session ≡ points_after asked (points_of self.old.session)) }
         ensures watches { OnOk result (watches_of self.new.session ≡ watches_after asked (watches_of self.old.session)) }
-        ensures plan { plan_of self.new.session ≡ plan_of self.old.session }
         ensures kept { OnOk result (IsKept asked self.old self.new) }
     {
         match asked {

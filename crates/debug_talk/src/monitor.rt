@@ -3,7 +3,7 @@
 ghost use Rattle.std.specs.Prelude.{◌≡◌, ◌≤◌, ◌<◌, ◌++◌, [], codes, map, string_bytes, IfOk, IfSome, OnOk};
 ghost use Rattle.std.specs.Option.{option_map};
 ghost use Rattle.debug_session.specs.Ats.{IsAt};
-ghost use Rattle.debug_session.specs.Sessions.{begins_of, history_of, plan_of, size_of, stops_of, timeline_of};
+ghost use Rattle.debug_session.specs.Sessions.{begins_of, history_of, size_of, stops_of, timeline_of, KeepsRest};
 ghost use Rattle.debug_talk.specs.Kept.{StaysOpen};
 ghost use Rattle.debug_talk.specs.Moved.{GotoOr, LineRan, MonitoredBy, TextSaid, WentForth, WentOver, ended_text, goto_in, hexed, just_one, line_in, script_text};
 ghost use Rattle.debug_talk.specs.Texts.{when_text};
@@ -94,9 +94,7 @@ fn line_of(alloc: Global, shape: &Shape, text: &[u8]) -> Result<Option<Line>, Al
 fn run_text<C: Crew>(session: &mut Session<'_, C>, text: &[u8]) -> Result<String, AllocError>
     requires at { IsAt (size_of session.old) (timeline_of session.old) }
     ensures at { OnOk result (IsAt (size_of session.new) (timeline_of session.new)) }
-    ensures size { size_of session.new ≡ size_of session.old }
-    ensures plan { plan_of session.new ≡ plan_of session.old }
-    ensures stops { stops_of session.new ≡ stops_of session.old }
+    ensures rest { KeepsRest session.old session.new }
     ensures moved { IfOk result (λ said. LineRan (line_in (size_of session.old) text.now) (size_of session.old)
         (timeline_of session.old) (timeline_of session.new) (string_bytes said)) }
 {
@@ -166,9 +164,7 @@ fn go_forth<C: Crew>(
     requires there { hart < (size_of session.old).harts }
     requires few { turns_made (history_of session.old) ≤ turns }
     ensures at { OnOk result (IsAt (size_of session.new) (timeline_of session.new)) }
-    ensures size { size_of session.new ≡ size_of session.old }
-    ensures plan { plan_of session.new ≡ plan_of session.old }
-    ensures stops { stops_of session.new ≡ stops_of session.old }
+    ensures rest { KeepsRest session.old session.new }
     ensures moved { IfOk result (λ said. WentForth turns (size_of session.old) (stops_of session.old) hart
         (timeline_of session.old) (timeline_of session.new) (string_bytes said)) }
 {
@@ -187,9 +183,7 @@ fn go_over<C: Crew>(
     requires at { IsAt (size_of session.old) (timeline_of session.old) }
     requires there { hart < (size_of session.old).harts }
     ensures at { OnOk result (IsAt (size_of session.new) (timeline_of session.new)) }
-    ensures size { size_of session.new ≡ size_of session.old }
-    ensures plan { plan_of session.new ≡ plan_of session.old }
-    ensures stops { stops_of session.new ≡ stops_of session.old }
+    ensures rest { KeepsRest session.old session.new }
     ensures moved { IfOk result (λ said. WentOver turns (size_of session.old) (stops_of session.old) hart
         (timeline_of session.old) (timeline_of session.new) (string_bytes said)) }
 {
@@ -209,9 +203,7 @@ fn go_or_run<C: Crew>(
     requires at { IsAt (size_of session.old) (timeline_of session.old) }
     requires there { hart < (size_of session.old).harts }
     ensures at { OnOk result (IsAt (size_of session.new) (timeline_of session.new)) }
-    ensures size { size_of session.new ≡ size_of session.old }
-    ensures plan { plan_of session.new ≡ plan_of session.old }
-    ensures stops { stops_of session.new ≡ stops_of session.old }
+    ensures rest { KeepsRest session.old session.new }
     ensures moved { IfOk result (λ said. GotoOr (goto_in text.now) text.now (size_of session.old) (stops_of session.old) hart
         (timeline_of session.old) (timeline_of session.new) (string_bytes said)) }
 {
@@ -231,9 +223,7 @@ fn monitored<C: Crew>(
     requires at { IsAt (size_of session.old) (timeline_of session.old) }
     requires there { hart < (size_of session.old).harts }
     ensures at { OnOk result (IsAt (size_of session.new) (timeline_of session.new)) }
-    ensures size { size_of session.new ≡ size_of session.old }
-    ensures plan { plan_of session.new ≡ plan_of session.old }
-    ensures stops { stops_of session.new ≡ stops_of session.old }
+    ensures rest { KeepsRest session.old session.new }
     ensures moved { IfOk result (λ said. TextSaid text.now (size_of session.old) (stops_of session.old) hart
         (timeline_of session.old) (timeline_of session.new) (string_bytes said)) }
 {
@@ -274,12 +264,10 @@ impl<'a, C: Crew> Talk<'a, C> {
         requires at { IsAt (size_of self.old.session) (timeline_of self.old.session) }
         requires none { out.old.items ≡ [] }
         ensures at { OnOk result (IsAt (size_of self.new.session) (timeline_of self.new.session)) }
-        ensures size { size_of self.new.session ≡ size_of self.old.session }
+        ensures rest { KeepsRest self.old.session self.new.session }
         ensures moved { IfOk result (λ v. MonitoredBy (behind_prefix (codes "qRcmd,") packet.now) (size_of self.old.session)
             (stops_of self.old.session) self.old.selected
             (timeline_of self.old.session) (timeline_of self.new.session) (map (λ v. v.items) out.new.items) v.items) }
-        ensures plan { plan_of self.new.session ≡ plan_of self.old.session }
-        ensures stops { stops_of self.new.session ≡ stops_of self.old.session }
         ensures hart { self.new.hart ≡ self.old.hart }
         ensures selected { self.new.selected ≡ self.old.selected }
         ensures talk { StaysOpen self.old self.new }

@@ -1,13 +1,7 @@
 use Rattle.debug_session.proofs.session.Session.go.Goals as goal
 
-pub returns-clause-size : goal.returns-clause-size
-returns-clause-size g c = c.go_few.ensures.size
-
-pub returns-clause-stops : goal.returns-clause-stops
-returns-clause-stops g c = c.go_few.ensures.stops
-
-pub returns-clause-plan : goal.returns-clause-plan
-returns-clause-plan g c = c.go_few.ensures.plan
+pub returns-clause-rest : goal.returns-clause-rest
+returns-clause-rest g c = c.go_few.ensures.rest
 
 pub returns-clause-first : goal.returns-clause-first
 returns-clause-first g c = c.go_few.ensures.first

@@ -8,14 +8,8 @@ returns-clause-went g c =
     (λ did. (let less = left_few _ _ did.0 _ c.args.turns _ did.1 c.turns_left-most.ensures c.lines.ensures in (did.0, less.0, less.1, did.2)))
     c.go_few.ensures.went
 
-pub returns-clause-size : goal.returns-clause-size
-returns-clause-size g c = c.go_few.ensures.size
-
-pub returns-clause-stops : goal.returns-clause-stops
-returns-clause-stops g c = c.go_few.ensures.stops
-
-pub returns-clause-plan : goal.returns-clause-plan
-returns-clause-plan g c = c.go_few.ensures.plan
+pub returns-clause-rest : goal.returns-clause-rest
+returns-clause-rest g c = c.go_few.ensures.rest
 
 pub returns-clause-first : goal.returns-clause-first
 returns-clause-first g c = c.go_few.ensures.first

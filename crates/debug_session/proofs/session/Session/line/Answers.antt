@@ -1,14 +1,8 @@
 use Rattle.std.proofs.Common.{refl}
 use Rattle.debug_session.proofs.session.Session.line.Goals as goal
 
-pub returns-clause-size : goal.returns-clause-size
-returns-clause-size g c = refl
-
-pub returns-clause-stops : goal.returns-clause-stops
-returns-clause-stops g c = refl
-
-pub returns-clause-plan : goal.returns-clause-plan
-returns-clause-plan g c = refl
+pub returns-clause-rest : goal.returns-clause-rest
+returns-clause-rest g c = ((refl, refl), refl)
 
 pub returns-clause-at : goal.returns-clause-at
 returns-clause-at g c = c.line.ensures.at

@@ -4,11 +4,8 @@ use Rattle.debug_session.proofs.session.Session.set_point.Goals as goal
 pub returns-clause-timeline : goal.returns-clause-timeline
 returns-clause-timeline g c = refl
 
-pub returns-clause-size : goal.returns-clause-size
-returns-clause-size g c = refl
-
-pub returns-clause-plan : goal.returns-clause-plan
-returns-clause-plan g c = refl
+pub returns-clause-rest : goal.returns-clause-rest
+returns-clause-rest g c = (refl, refl)
 
 pub returns-clause-points : goal.returns-clause-points
 returns-clause-points g c = c.set_point.ensures.points

@@ -2,26 +2,14 @@ use Rattle.std.proofs.Common.{refl}
 use Rattle.std.proofs.lemmas.Result.{IfOk-from_err}
 use Rattle.debug_session.proofs.session.Session.step_back.Goals as goal
 
-pub returns-in_err-found-clause-size : goal.returns-in_err-found-clause-size
-returns-in_err-found-clause-size g c = refl
-
-pub returns-in_err-found-clause-stops : goal.returns-in_err-found-clause-stops
-returns-in_err-found-clause-stops g c = refl
-
-pub returns-in_err-found-clause-plan : goal.returns-in_err-found-clause-plan
-returns-in_err-found-clause-plan g c = refl
+pub returns-in_err-found-clause-rest : goal.returns-in_err-found-clause-rest
+returns-in_err-found-clause-rest g c = ((refl, refl), refl)
 
 pub returns-in_err-found-clause-begins : goal.returns-in_err-found-clause-begins
 returns-in_err-found-clause-begins g c = c.step_back.ensures.begins
 
-pub returns-clause-size : goal.returns-clause-size
-returns-clause-size g c = refl
-
-pub returns-clause-stops : goal.returns-clause-stops
-returns-clause-stops g c = refl
-
-pub returns-clause-plan : goal.returns-clause-plan
-returns-clause-plan g c = refl
+pub returns-clause-rest : goal.returns-clause-rest
+returns-clause-rest g c = ((refl, refl), refl)
 
 pub returns-clause-begins : goal.returns-clause-begins
 returns-clause-begins g c = c.step_back.ensures.begins
