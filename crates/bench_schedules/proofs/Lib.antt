@@ -1,3 +1,8 @@
+pub mod Counts
+pub mod Deals
+pub mod Parts
+pub mod SeenRows
+pub mod CopiedLines
 pub mod Shortened
 pub mod Aparts
 pub mod Ledgers

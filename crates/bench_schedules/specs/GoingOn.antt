@@ -3,8 +3,8 @@ use Rattle.std.specs.Prelude.{◌≡◌, ◌≢◌, ◌<◌, ◌≤◌, ◌++◌
 use Rattle.board_model.specs.Shapes.{Size}
 use Rattle.script_lang.specs.declared.line.Line.{Line}
 use Rattle.bench_report.specs.Bench.{Bench, bench_with}
-use Rattle.report_lines.specs.declared.printed.Answer.{Answer}
-use Rattle.bench_orders.specs.Orders.{other_count}
+use Rattle.bench_report.specs.declared.printed.Answer.{Answer}
+use Rattle.bench_schedules.specs.Orders.{other_count}
 use Rattle.bench_report.specs.Lives.{IsSound}
 use Rattle.bench_report.specs.declared.live.LiveBench.{LiveBench}
 use Rattle.bench_schedules.specs.RunSoFar.{RunSoFar}

@@ -13,11 +13,11 @@ ghost use Rattle.bench_schedules.specs.Drawable.{AreDrawable};
 ghost use Rattle.bench_schedules.specs.Numbers.{number_of_other, place_of_other};
 ghost use Rattle.bench_schedules.specs.Schedules.{Ran, RanOwn, RunText, Shown, Wrote, WroteSchedules, differing, has_tight, own_count, own_tight, tight_text};
 
+use crate::laws::orders_keep_lines;
 use crate::numbers::{line_numbers, number_at, number_of_other};
 use crate::own_runs::{OwnRun, drawn_schedule, run_own};
 use crate::runs::{Difference, run_until};
 use crate::written::{write_count, write_difference, write_tight};
-use bench_orders::orders_keep_lines;
 use bench_report::{Setting, lane_by_lane};
 use board::Payloads;
 use board_model::{Refusal, shape_in_range, unwritten};

@@ -2,7 +2,7 @@
 
 ghost use Rattle.std.specs.Prelude.{◌≡◌, IfOk, OnOk};
 ghost use Rattle.script_lang.specs.Lines.{IsLineInRange};
-ghost use Rattle.bench_orders.specs.Orders.{is_other};
+ghost use Rattle.bench_schedules.specs.Orders.{is_other};
 ghost use Rattle.bench_report.specs.Bench.{Bench};
 ghost use Rattle.bench_report.specs.Lives.{IsSound, Shows};
 ghost use Rattle.bench_schedules.specs.RunSoFar.{LineRan};

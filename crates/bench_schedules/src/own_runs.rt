@@ -3,15 +3,15 @@
 ghost use Rattle.std.specs.Prelude.{◌≡◌, ◌≤◌, ℕ, List, length, All, IfOk, OnOk};
 ghost use Rattle.std.specs.Option.{option_to_list};
 ghost use Rattle.script_lang.specs.Lines.{IsLineInRange};
-ghost use Rattle.bench_orders.specs.Orders.{IsOrderFor, is_other, other_count};
+ghost use Rattle.bench_schedules.specs.Orders.{IsOrderFor, is_other, other_count};
 ghost use Rattle.bench_report.specs.Bench.{bench_with};
 ghost use Rattle.bench_report.specs.Lives.{IsSound, Shows};
 ghost use Rattle.bench_schedules.specs.RunSoFar.{RunSoFar};
 ghost use Rattle.bench_schedules.specs.Schedules.{RanOwn, other_answer};
 
 use crate::line_runs::{end_run, is_other, run_line};
+use crate::schedules::{generator, schedule};
 use crate::stretches::Stretches;
-use bench_orders::{generator, schedule};
 use bench_report::{Answer, LiveBench, Setting};
 use board::Payloads;
 use crew::Crew;

@@ -2,7 +2,7 @@
 
 ghost use Rattle.std.specs.Prelude.{◌≡◌, ◌+◌, ◌<◌, ◌≤◌, length, true, All, IfErr, IfOk};
 ghost use Rattle.script_lang.specs.Lines.{IsLineInRange};
-ghost use Rattle.bench_orders.specs.Orders.{is_other, other_count};
+ghost use Rattle.bench_schedules.specs.Orders.{is_other, other_count};
 ghost use Rattle.bench_report.specs.Lives.{IsSound};
 ghost use Rattle.bench_schedules.specs.Compared.{IsDifference, IsNextPlace};
 ghost use Rattle.bench_schedules.specs.GoingOn.{EndsSo, WentSo};

@@ -2,11 +2,12 @@
 //! A law runs nothing, and tells the prover a fact: `orders_keep_lines`.
 
 ghost use Rattle.std.specs.Prelude.{◌≡◌, true, IfOk, IfSome, OnOk};
-ghost use Rattle.bench_orders.specs.Orders.{IsOrderFor};
+ghost use Rattle.bench_schedules.specs.Orders.{IsOrderFor};
 ghost use Rattle.bench_schedules.specs.Shrunk.{IsFound, IsSearchable};
 
+use crate::laws::orders_keep_lines;
+use crate::led_orders::{Slice, led};
 use crate::runs::run_until;
-use bench_orders::{Slice, led, orders_keep_lines};
 use bench_report::{Answer, Setting};
 use board::Payloads;
 use crew::Crew;

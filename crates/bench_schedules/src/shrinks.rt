@@ -7,16 +7,16 @@ ghost use Rattle.board_model.specs.declared.refusal.Refusal.TheVariants.{Memory,
 ghost use Rattle.script_lang.specs.Lines.{IsLineInRange};
 ghost use Rattle.script_lang.specs.Scripts.{script_of, Script as Said};
 ghost use Rattle.script_lang.specs.Views.{view};
-ghost use Rattle.bench_orders.specs.Orders.{IsOrderFor};
+ghost use Rattle.bench_schedules.specs.Orders.{IsOrderFor};
 ghost use Rattle.bench_schedules.specs.Schedules.{RanLike};
 ghost use Rattle.bench_schedules.specs.Shrunk.{IsFound, IsSearchable, IsShortened, Shrunk};
 
+use crate::laws::orders_keep_lines;
 use crate::own_runs::{drawn_schedule, run_own};
 use crate::passes::search_all;
 use crate::runs::{Difference, run_until};
 use crate::search::{FoundSchedule, Search};
 use crate::slices::slices_of;
-use bench_orders::orders_keep_lines;
 use bench_report::{Answer, Setting, lane_by_lane};
 use board::Payloads;
 use board_model::{Refusal, shape_in_range};

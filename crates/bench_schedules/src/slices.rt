@@ -2,7 +2,7 @@
 
 ghost use Rattle.std.specs.Prelude.{◌<◌};
 
-use bench_orders::Slice;
+use crate::led_orders::Slice;
 use script_lang::Line;
 use std::alloc::{AllocError, Global};
 

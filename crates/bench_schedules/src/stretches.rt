@@ -1,7 +1,7 @@
 //! The stretches of a script, and in which of their turns its own run did something. A stretch is a row of `turn` lines
 //! with no other line between them.
 
-use bench_orders::{Front, harts, total};
+use crate::quotas::{Front, harts, total};
 use bench_report::{Answer, Printed};
 use machine::{Did, MachineLine, Word};
 use script_lang::Line;

@@ -9,7 +9,7 @@ use Rattle.script_lang.specs.Scripts.{Script, script_of}
 use Rattle.script_lang.specs.Spellings.{script_text}
 use Rattle.script_lang.specs.Views.{view}
 use Rattle.script_lang.specs.declared.scripts.Script as code
-use Rattle.bench_orders.specs.Orders.{IsScheduleOf}
+use Rattle.bench_schedules.specs.Orders.{IsScheduleOf}
 use Rattle.sbigdb.specs.declared.given.ScheduleChoice.{ScheduleChoice}
 use Rattle.bench_sweep.specs.Shown.{NoRowOf, ShownRow}
 use Rattle.bench_sweep.specs.Swept.{NoBenchRuns}

@@ -15,7 +15,7 @@ use Rattle.script_lang.specs.Views.{view}
 use Rattle.script_lang.specs.declared.scripts.Script as code
 use Rattle.script_lang.specs.declared.line.Line.{Line}
 use Rattle.script_lang.specs.declared.line.Line.TheVariants as lines
-use Rattle.bench_orders.specs.Orders.{AreOrderOf, is_other, more_turns, seen_by}
+use Rattle.bench_schedules.specs.Orders.{AreOrderOf, is_other, more_turns, seen_by}
 use Rattle.sbigdb.specs.Begins.{PartsAt, both_turn, is_same_row, turns_of_both}
 
 -- ---- what tells lines apart

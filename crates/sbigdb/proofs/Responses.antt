@@ -11,8 +11,8 @@ use Rattle.debug_session.specs.Sessions.{begins_of, history_of, plan_of, points_
 use Rattle.debug_session.specs.Steps.{AreNoted}
 use Rattle.debug_session.specs.declared.session.SessionPlan.{SessionPlan}
 use Rattle.debug_session.specs.declared.session.Session.{Session}
-use Rattle.debug_talk.specs.Talks.{acknowledges_in, hart_in, is_over_in, runner_in, selected_in, sent_in, session_in}
-use Rattle.debug_talk.specs.declared.talk.Talk.{Talk}
+use Rattle.sbigdb.specs.Talks.{acknowledges_in, hart_in, is_over_in, runner_in, selected_in, sent_in, session_in}
+use Rattle.sbigdb.specs.declared.talk.Talk.{Talk}
 use Rattle.sbigdb.specs.Responses.{AnswersAll, AnswersFrom, Begins, Responds, RespondsAll, Says, ack_text, first_ack}
 
 pub begun : {C : Type 0} (size : Size) (plan : SessionPlan) (payloads : List (List ℕ)) (lines : List Line) (session : Session C) (talk : Talk C) → session_in talk ≡ session → IsAt (size_of session) (timeline_of session) → size_of session ≡ size

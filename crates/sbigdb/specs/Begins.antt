@@ -8,7 +8,7 @@ use Rattle.script_lang.specs.Scripts.{Script, script_of}
 use Rattle.script_lang.specs.Spellings.{script_text}
 use Rattle.script_lang.specs.declared.line.Line.{Line}
 use Rattle.script_lang.specs.declared.line.Line.TheVariants as lines
-use Rattle.bench_orders.specs.Orders.{IsScheduleOf, is_other}
+use Rattle.bench_schedules.specs.Orders.{IsScheduleOf, is_other}
 use Rattle.bench_sweep.specs.Shown.{NoRowOf, ShownRow}
 use Rattle.bench_sweep.specs.Swept.{NoBenchRuns}
 use Rattle.bench_sweep.specs.declared.points.BenchKind.{BenchKind}

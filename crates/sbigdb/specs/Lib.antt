@@ -11,6 +11,22 @@ pub mod Strikes
 pub mod Begins
 -- Payload files as lines of a script.
 pub mod Tellings
+-- A talk over a debugged board: its parts.
+pub mod Talks
+-- The stop reply.
+pub mod Stops
+-- Texts.
+pub mod Texts
+-- What is replied.
+pub mod Replies
+-- Which harts a `vCont` moves.
+pub mod Resumes
+-- How the lists and the talk change.
+pub mod Kept
+-- How the history changes.
+pub mod Moved
+-- A whole answer.
+pub mod Answers
 -- What is heard in an input.
 pub mod Hearings
 -- What is sent for it.

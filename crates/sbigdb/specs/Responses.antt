@@ -10,9 +10,9 @@ use Rattle.debug_session.specs.declared.session.SessionPlan.{SessionPlan}
 use Rattle.gdb_protocol.specs.declared.heard.PacketEvent.{PacketEvent}
 use Rattle.gdb_protocol.specs.declared.heard.PacketEvent.TheVariants as heards
 use Rattle.gdb_protocol.specs.Replies.{packets_of}
-use Rattle.debug_talk.specs.Answers.{IsReplied, again_text, front_text}
-use Rattle.debug_talk.specs.Talks.{acknowledges_in, hart_in, is_over_in, runner_in, selected_in, sent_in, session_in}
-use Rattle.debug_talk.specs.declared.talk.Talk.{Talk}
+use Rattle.sbigdb.specs.Answers.{IsReplied, again_text, front_text}
+use Rattle.sbigdb.specs.Talks.{acknowledges_in, hart_in, is_over_in, runner_in, selected_in, sent_in, session_in}
+use Rattle.sbigdb.specs.declared.talk.Talk.{Talk}
 use lib.Chars.{codes}
 
 -- the acknowledgement of what was heard: of a packet, where these are wanted

@@ -9,7 +9,7 @@ ghost use Rattle.script_lang.specs.Scripts.{script_of, Script as Said};
 ghost use Rattle.script_lang.specs.Spellings.{script_text};
 ghost use Rattle.script_lang.specs.Views.{view};
 ghost use Rattle.script_lang.specs.declared.line.Line.{Line as SaidLine};
-ghost use Rattle.bench_orders.specs.Orders.{AreOrderOf, IsScheduleOf};
+ghost use Rattle.bench_schedules.specs.Orders.{AreOrderOf, IsScheduleOf};
 ghost use Rattle.sbigdb.specs.declared.given.Begin.TheVariants.{Schedule};
 ghost use Rattle.sbigdb.specs.Begins.{BeginsAt, HasNone, IsRow, NoRow, PartsAt, both_turn, is_same_row, turns_of_both};
 ghost use Rattle.sbigdb.specs.Strikes.{StopsBefore};

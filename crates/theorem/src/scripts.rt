@@ -4,8 +4,8 @@ ghost use Rattle.std.specs.Prelude.{◌≡◌, List, IfOk};
 ghost use Rattle.std.specs.Io.KnownBytes.{Appends};
 ghost use Rattle.script_lang.specs.Scripts.{Script as Said};
 ghost use Rattle.script_lang.specs.Spellings.{script_text, IsWritable};
-ghost use Rattle.report_lines.specs.Texts.{report_text};
-ghost use Rattle.report_lines.specs.declared.printed.Answer.{Answer};
+ghost use Rattle.bench_report.specs.Texts.{report_text};
+ghost use Rattle.bench_report.specs.declared.printed.Answer.{Answer};
 ghost use Rattle.bench_report.specs.Laws.{KeepsLaws};
 
 use bench_report::{Report, StoppedRun, run_left_with};

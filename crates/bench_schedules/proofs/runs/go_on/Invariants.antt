@@ -1,5 +1,5 @@
 use Rattle.std.proofs.Common.{◌+◌, ◌≤◌, take, drop, length}
-use Rattle.bench_orders.specs.Orders.{other_count}
+use Rattle.bench_schedules.specs.Orders.{other_count}
 use Rattle.bench_report.specs.Lives.{IsSound}
 use Rattle.bench_schedules.specs.GoingOn.{GoesAlike}
 use Rattle.bench_schedules.proofs.runs.go_on.Given as goal

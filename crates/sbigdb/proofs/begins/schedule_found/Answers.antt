@@ -2,7 +2,7 @@ use Rattle.std.proofs.Common.{◌∙◌, ap, List, ◌++◌, ◌∷◌, [], ℕ,
 use Rattle.std.proofs.lemmas.Result.{IfErr-weaker, IfOk-weaker}
 use Rattle.script_lang.specs.Scripts.{Script}
 use Rattle.script_lang.specs.Spellings.{script_text}
-use Rattle.bench_orders.specs.Orders.{IsScheduleOf}
+use Rattle.bench_schedules.specs.Orders.{IsScheduleOf}
 use Rattle.sbigdb.proofs.begins.schedule_found.Goals as goal
 
 pub returns-clause-found : goal.returns-clause-found

@@ -2,7 +2,7 @@ use Rattle.std.proofs.Common.{◌≡◌, false, List, ℕ}
 use Rattle.std.specs.Io.KnownBytes.{Appends}
 use Rattle.debug_session.specs.Ats.{IsAt}
 use Rattle.debug_session.specs.Sessions.{size_of, timeline_of}
-use Rattle.debug_talk.specs.Talks.{is_over_in, session_in}
+use Rattle.sbigdb.specs.Talks.{is_over_in, session_in}
 use Rattle.sbigdb.specs.Responses.{RespondsAll}
 use Rattle.sbigdb.proofs.streams.answers.Given as goal
 

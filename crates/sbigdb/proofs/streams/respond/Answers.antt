@@ -4,7 +4,7 @@ use Rattle.std.specs.Io.KnownBytes.{Appends}
 use Rattle.board_model.proofs.Written.{unwritten}
 use Rattle.gdb_protocol.specs.declared.heard.PacketEvent.{PacketEvent}
 use Rattle.gdb_protocol.specs.Replies.{packets_of}
-use Rattle.debug_talk.specs.Answers.{IsReplied}
+use Rattle.sbigdb.specs.Answers.{IsReplied}
 use Rattle.sbigdb.specs.Responses.{Says}
 use Rattle.sbigdb.proofs.Responses.{says_nothing}
 use Rattle.sbigdb.proofs.streams.respond.Goals as goal

@@ -1,5 +1,0 @@
-use Rattle.bench_orders.specs.Deals.{GoesOn}
-use Rattle.bench_orders.proofs.draws.deal_fairly.Given as goal
-
-abbrev pub invariant-loop-round : goal.invariant-loop-round
-invariant-loop-round l = GoesOn l.initial.deal l.deal

@@ -1,5 +1,0 @@
-use Rattle.bench_orders.specs.Deals.{GoesOn}
-use Rattle.bench_orders.proofs.draws.deal_round.Given as goal
-
-abbrev pub invariant-loop-number : goal.invariant-loop-number
-invariant-loop-number l = GoesOn l.initial.deal l.deal

@@ -1,5 +1,0 @@
-use Rattle.bench_orders.specs.Deals.{GoesOn}
-use Rattle.bench_orders.proofs.draws.deal_slices.Given as goal
-
-abbrev pub invariant-slices : goal.invariant-slices
-invariant-slices g l = GoesOn l.initial.deal l.deal

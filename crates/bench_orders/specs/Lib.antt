@@ -1,3 +1,0 @@
-pub mod Deals
-pub mod Orders
-pub mod Drawn

@@ -1,3 +1,0 @@
-pub mod Console
-pub mod Lines
-pub mod Shapes
