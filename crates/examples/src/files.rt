@@ -1,4 +1,4 @@
-//! The folder of the examples, whose files are payload files of a run.
+//! A folder of the examples: its files are payload files of a run, or kernels that are checked.
 
 ghost use Rattle.std.specs.Prelude.{None};
 
@@ -7,7 +7,7 @@ use std::fs::File;
 use std::io;
 use std::path::Path;
 
-/// A folder. A path of a payload file begins there.
+/// A folder. A path of a payload file or of a kernel begins there.
 #[derive(Clone, Copy)]
 pub struct Folder<'a> {
     pub rt: &'a HostRuntime,

@@ -160,6 +160,10 @@ fn compare_checks<R: thread::Threads + Sync>(
     let transcript = file_of(rt, folder.path, TRANSCRIPT, "")?;
     let mut told = Vec::new(rt.alloc());
     retell(threads, folder, str::from_utf8(&transcript)?, &mut told)?;
+    if told.is_empty() {
+        eprintln!(rt; "examples: no command line in {CHECKS}/{TRANSCRIPT}")?;
+        return Ok(false);
+    }
     match line_apart(told.as_slice(), transcript.as_slice()) {
         None => println!(rt; "{CHECKS}/{TRANSCRIPT} as told")?,
         Some(line) => {
