@@ -4,7 +4,7 @@ use Rattle.std.specs.Prelude.{nat_eq}
 use Rattle.std.specs.List.{starts_with}
 use Rattle.disk.specs.Facts.{Content, Torn, Written, sector}
 use Rattle.board_files.specs.Blocks.{sector_of, sectors_of, mark_at, known_in, facts_in, HoldsSectors}
-use Rattle.board_files.specs.Files.{FileFacts, FileKnown, Unknown, Known, Goes, WritesSector, SyncsFile, LeavesBut}
+use Rattle.board_files.specs.Files.{FileFacts, FileKnown, Unknown, Known, Goes, WritesSector, LeavesBut}
 
 either : (b : Bool) (x : List ℕ) → x ≡ [] → cond b x [] ≡ []
 either true x same = same
@@ -98,32 +98,6 @@ writes_in n number block bytes result Unknown Unknown reads wrote = tt
 writes_in n number block bytes result Unknown (Known m) reads wrote = wrote
 writes_in n number block bytes result (Known o) Unknown reads wrote = wrote
 writes_in n number block bytes result (Known o) (Known m) reads wrote = written_ok n number block bytes result o m reads wrote
-
-synced_in : {T E : Type 0} (n : ℕ) (result : Result T E) (o m : FileFacts) → SyncsFile result o m
-    → SyncsFile result (facts_in n o) (facts_in n m)
-synced_in n (Ok v) o m synced = record {
-  durable = λ c left. left.2 ∙ ap (sectors_of n) (synced.durable left.0 left.1);
-  leaves = λ c left. (left.0, synced.leaves left.0 left.1, left.2);
-  syncs = synced.syncs;
-  since = λ t c le was. (was.0, synced.since t was.0 le was.1, was.2);
-  fresh = λ c was. was.2 ∙ ap (sectors_of n) (synced.fresh was.0 was.1);
-  keeps = λ t c le was. (was.0, synced.keeps t was.0 le was.1, was.2);
-}
-synced_in n (Err e) o m synced = record {
-  durable = tt;
-  leaves = λ c left. (left.0, synced.leaves left.0 left.1, left.2);
-  syncs = synced.syncs;
-  since = λ t c le was. (was.0, synced.since t was.0 le was.1, was.2);
-  fresh = tt;
-  keeps = λ t c le was. (was.0, synced.keeps t was.0 le was.1, was.2);
-}
-
-pub syncs_in : {T E : Type 0} (n : ℕ) (result : Result T E) (o m : FileKnown) → Goes o m (SyncsFile result)
-    → Goes (known_in n o) (known_in n m) (SyncsFile result)
-syncs_in n result Unknown Unknown synced = tt
-syncs_in n result Unknown (Known m) synced = synced
-syncs_in n result (Known o) Unknown synced = synced
-syncs_in n result (Known o) (Known m) synced = synced_in n result o m synced
 
 -- as it is made, and as its device comes back
 pub lies_in : (n : ℕ) (file : FileKnown) → Goes file (known_in n file) (HoldsSectors n)

@@ -13,7 +13,8 @@ use Rattle.hsm.specs.declared.view.Stage.TheVariants.{Running, Suspended, Quiet}
 use Rattle.hsm.specs.declared.view.Action.{Action}
 use Rattle.hsm.specs.declared.view.Action.TheVariants.{Suspended as DidSuspend, Woke, Quieted, Unquieted}
 use Rattle.hsm.specs.Words.{HartSeatView, WordBits, word_bits}
-use Rattle.hsm.specs.Rule.{IsSite, Grants, claim_of, entry_of, in_flight, Fits, HartInvariant, word_of, found_by, left_by, stands}
+use Rattle.tallies.proofs.Rules.{has_log}
+use Rattle.hsm.specs.Rule.{IsSite, Grants, claim_of, entry_of, in_flight, Fits, HartInvariant, first_word, word_of, found_by, left_by, reading, stands}
 use Rattle.hsm.specs.States.{IsStarted}
 use Rattle.std.proofs.lemmas.List.{set-get_or}
 use Rattle.atomic_table.proofs.Lists.{set_again}
@@ -147,9 +148,19 @@ unnoted harts boot id i me s kept at =
     subst (HartInvariant harts boot) (sym same) kept
 
 module _ (harts boot slots id : ℕ) (me : SeatState HartSeatView) where
-  pub sees_as : Allows (HartInvariant harts boot) slots id me 0 (λ n. n) (Sees harts (step slots 0 0 0 none) me)
-  sees_as s kept _ at _ =
-      (me.0, keeps, tt, unnoted harts boot id 0 me s kept at, (refl, refl, between_shows harts boot s kept id me.0 at))
+  pub sees_as : Allows (HartInvariant harts boot) slots id me 0 (λ n. n) (Sees harts boot (step slots 0 0 0 none) me)
+  sees_as s kept _ at _ = (
+    me.0,
+    keeps,
+    tt,
+    unnoted harts boot id 0 me s kept at,
+    (
+      refl,
+      refl,
+      between_shows harts boot s kept id me.0 at,
+      has_log reading (first_word boot) harts (1 + 2 * harts) s kept.steps id me.0 at,
+    ),
+  )
 
   pub peeks_as : Allows (HartInvariant harts boot) slots id me 0 (λ n. n) (Peeks harts (step slots 0 0 0 none) me)
   peeks_as s kept _ at _ =

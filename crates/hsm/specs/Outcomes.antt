@@ -7,7 +7,7 @@ use Rattle.hsm.specs.declared.view.Stage.{Stage}
 use Rattle.hsm.specs.declared.view.Stage.TheVariants.{Out, Ready, Addressed, Loaded, Running, Claiming, Half, Stored, Suspended, Quiet}
 use Rattle.hsm.specs.declared.view.Action.TheVariants.{Claimed, Wrote, Armed, Looked, Read, Entered, Stopped, Suspended as DidSuspend, Woke, Quieted, Unquieted}
 use Rattle.hsm.specs.Words.{HartView, HartSeatView}
-use Rattle.hsm.specs.Rule.{IsSite, stands}
+use Rattle.hsm.specs.Rule.{HasSteps, IsSite, stands}
 use Rattle.hsm.specs.States.{HartState, stopped, start_pending, started, IsStarted, IsBetweenCalls, Shows, Tells}
 
 -- ---- what each step tells
@@ -85,12 +85,13 @@ Quiets harts h st m found m' = Notes h (after_quiet harts h found) (Quieted foun
 abbrev pub Unquiets : ℕ → Step (Unit {0}) → SeatState HartSeatView → ℕ → SeatState HartSeatView → Type 0
 Unquiets h st m found m' = Notes h Running (Unquieted found) m m'
 
--- a look that a seat does not note: it stays as it was, and where it is of all harts and each is between calls, it
--- shows some states
-abbrev pub Sees : ℕ → Step (Unit {0}) → SeatState HartSeatView → ℕ → SeatState HartSeatView → Type 0
-Sees harts st m found m' =
+-- A look that a seat does not note. The seat stays as it was; where it is of all harts and each is between calls, it shows some states;
+-- and its harts have their steps in the log of the table.
+abbrev pub Sees : ℕ → ℕ → Step (Unit {0}) → SeatState HartSeatView → ℕ → SeatState HartSeatView → Type 0
+Sees harts boot st m found m' =
     (m'.0 ≡ m.0) × (m'.1 ≡ m.1)
     × (((h : ℕ) → h < harts → IsBetweenCalls h m.0.harts) → (states : ℕ → HartState) × Shows harts m.0 states)
+    × HasSteps harts boot m.0.harts
 
 -- ---- looks at the one seat of all harts that it does not note
 abbrev pub IsUnnoted : SeatState HartSeatView → SeatState HartSeatView → Type 0

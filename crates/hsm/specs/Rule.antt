@@ -7,7 +7,7 @@ use Rattle.atomic_table.specs.Table.{State}
 use Rattle.tallies.specs.Sums.{total}
 use Rattle.tallies.specs.Logs.{Reading}
 pub use Rattle.tallies.specs.Notes.{HasNoted}
-use Rattle.tallies.specs.Rules.{Everywhere, IsLogged}
+use Rattle.tallies.specs.Rules.{Everywhere, HasLog, IsLogged}
 use Rattle.board_model.specs.Shapes.{IsAddressIn}
 use Rattle.hsm.specs.Words.{HartView, HartSeatView, WordBits, word_bits}
 use Rattle.hsm.specs.declared.view.Stage.{Stage}
@@ -134,6 +134,10 @@ reading = record { word_of = word_of; found_by = found_by; left_by = left_by }
 -- the words at the start: one hart is claimed, armed and entered
 abbrev pub first_word : ℕ → ℕ → ℕ
 first_word started t = if t == 0 then bit_or (bit_or (bit started) (bit (8 + started))) (bit (16 + started)) else 0
+
+-- There is one log of all steps of a table, of which that hart was started first. Each of these harts has just its own steps of it.
+abbrev pub HasSteps : ℕ → ℕ → List HartView → Type 0
+HasSteps harts started = HasLog reading (first_word started) harts
 
 -- The rule: a log of all steps, and some grants that fit the words and the views.
 pub record HartInvariant (harts started : ℕ) (s : State (Unit {0}) HartSeatView) : Type 0 where

@@ -16,6 +16,10 @@ IsSeatOf t = IsSeatIn t.table.shared.table_id
 abbrev pub harts_of : HartTable → ℕ
 harts_of t = t.table.shared.key.harts
 
+-- the hart that was started when the table was made
+abbrev pub started_in : HartTable → ℕ
+started_in t = t.table.shared.key.started
+
 -- the seat has every hart of the table, in the order of their numbers
 abbrev pub IsOfAll : HartTable → Seat (Unit {0}) HartSeatView → Type 0
 IsOfAll t = HasHarts (harts_of t)

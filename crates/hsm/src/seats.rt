@@ -1,12 +1,12 @@
 //! A table is made with one seat of all harts, which is parted and joined again.
 
 ghost use Rattle.std.specs.Prelude.{◌≡◌, ◌≢◌, ℕ, ◌<◌, ◌≤◌, ◌==◌, if◌then◌else◌, [], length, IfOk, IfErr};
-ghost use Rattle.hsm.specs.Rule.{stands};
+ghost use Rattle.hsm.specs.Rule.{HasSteps, stands};
 ghost use Rattle.hsm.specs.States.{HartState, IsBetweenCalls, Shows};
 ghost use Rattle.hsm.specs.declared.view.Stage.TheVariants.{Out, Running};
 ghost use Rattle.tallies.specs.Notes.{first_hart, other_harts, together};
 ghost use Rattle.hsm.specs.Outcomes.{opening_states, opening_view};
-ghost use Rattle.hsm.specs.Seating.{IsSeatOf, harts_of, hart_view_of_seat, harts_in, IsOfAll, AreInOrder, StandAsIn, StandTogether, AreSeatsOf, harts_by_seat, all_harts, one_by_one};
+ghost use Rattle.hsm.specs.Seating.{IsSeatOf, harts_of, hart_view_of_seat, harts_in, started_in, IsOfAll, AreInOrder, StandAsIn, StandTogether, AreSeatsOf, harts_by_seat, all_harts, one_by_one};
 ghost use Rattle.arrayvec.specs.ArrayVec.{array_vec_len};
 ghost use Rattle.board_model.specs.declared.refusal.Refusal.TheVariants.{Memory};
 
@@ -111,6 +111,7 @@ impl HartTable {
         ensures stands { AreInOrder seats.items → StandTogether seats.items (harts_in result) }
         ensures shows { ((h : ℕ) → h < harts_of self.now → IsBetweenCalls h (harts_in result))
             → (states : ℕ → HartState) × Shows (harts_of self.now) (hart_view_of_seat result) states }
+        ensures steps { HasSteps (harts_of self.now) (started_in self.now) (harts_in result) }
     {
         let mut whole = tallies::join(self, seats);
         see::<Brand>(self, &mut whole);

@@ -63,6 +63,19 @@ impl Acting for Brand {
     ghost harts = { 0 };
 }
 
+/// What a look at all that was done names: how many harts there are, and which of them was started when the table was made.
+pub(crate) trait Seeing {
+    ghost harts: { ℕ };
+
+    ghost started: { ℕ };
+}
+
+impl Seeing for Brand {
+    ghost harts = { 0 };
+
+    ghost started = { 0 };
+}
+
 /// A seat of some of the harts: the right to act as them. It takes no bytes, and may go to another thread.
 pub type HartSeat = NotedSeat<Stage, Action>;
 

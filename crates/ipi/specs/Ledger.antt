@@ -6,7 +6,7 @@ use Rattle.tallies.specs.Sums.{total}
 use Rattle.tallies.specs.Notes as notes
 use Rattle.tallies.specs.Notes.{SeatState, seat_notes, seats, Notes, opening_from}
 use Rattle.tallies.specs.Logs.{Reading}
-use Rattle.tallies.specs.Rules.{Everywhere, IsLogged}
+use Rattle.tallies.specs.Rules.{Everywhere, HasLog, IsLogged}
 use Rattle.tallies.specs.declared.view.HartNotes.{HartNotes}
 use Rattle.tallies.specs.declared.view.SeatNotes.{SeatNotes}
 use Rattle.ipi.specs.declared.view.IpiAction.{IpiAction}
@@ -80,6 +80,10 @@ reading = record { word_of = word_of; found_by = found_by; left_by = left_by }
 abbrev pub first_word : ℕ → ℕ
 first_word t = 0
 
+-- There is one log of all steps of a table. Each of these harts has just its own steps of it.
+abbrev pub HasSteps : ℕ → List PendingView → Type 0
+HasSteps = HasLog reading first_word
+
 -- The rule. The ledger: the raises that found a pair clear are the takes that answered it, and one more if it
 -- is pending. And a log of all steps.
 pub record PendingInvariant (harts : ℕ) (s : State (Unit {0}) PendingSeatView) : Type 0 where
@@ -140,3 +144,7 @@ Looks harts st m found m' =
 abbrev pub Peeks : ℕ → Step (Unit {0}) → SeatState PendingSeatView → ℕ → SeatState PendingSeatView → Type 0
 Peeks harts st m found m' =
     ((m'.0 ≡ m.0) × (m'.1 ≡ m.1)) × Tells harts m.0 st.word found × InRange harts found
+
+-- a look by which the harts of a seat, which stays as it was, are known to have their steps in the log of the table
+abbrev pub Sees : ℕ → Step (Unit {0}) → SeatState PendingSeatView → ℕ → SeatState PendingSeatView → Type 0
+Sees harts st m found m' = ((m'.0 ≡ m.0) × (m'.1 ≡ m.1)) × HasSteps harts m.0.harts

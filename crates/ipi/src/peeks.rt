@@ -1,10 +1,10 @@
-//! A look that a seat does not note, so that it stays as it was.
+//! Looks that a seat does not note, so that it stays as it was.
 
 ghost use Rattle.std.specs.Prelude.{◌≡◌, ◌<◌, ◌↔◌, ℕ, IsTrue};
 ghost use Rattle.board_model.specs.HartSets.{Has};
-ghost use Rattle.ipi.specs.Ledger.{HasEveryHart, InRange, Peeks, Tells};
+ghost use Rattle.ipi.specs.Ledger.{HasEveryHart, HasSteps, InRange, Peeks, Sees, Tells};
 ghost use Rattle.ipi.specs.Pairs.{Sits};
-ghost use Rattle.ipi.specs.Seating.{IsSeatOf, harts_of, pending_view_of_seat};
+ghost use Rattle.ipi.specs.Seating.{IsSeatOf, harts_of, pending_view_of_seat, pending_views_in};
 ghost use Rattle.ipi.specs.Views.{pair_in};
 
 use crate::table::{IpiActing, IpiSeat, PendingTable};
@@ -19,6 +19,25 @@ struct PendingPeek<J> {
 
 impl<J: IpiActing> Play<(), PendingSeatView> for PendingPeek<J> {
     ghost then = { Peeks J.harts };
+}
+
+struct PendingSee<J> {
+    of: PhantomData<J>,
+}
+
+impl<J: IpiActing> Play<(), PendingSeatView> for PendingSee<J> {
+    ghost then = { Sees J.harts };
+}
+
+/// By this look the harts of a seat are known to have their steps in the one log of the table.
+pub(crate) fn see<J: IpiActing>(table: &PendingTable, seat: &mut IpiSeat)
+    requires named { J.harts ≡ harts_of table.now }
+    requires seat { IsSeatOf table.now seat.old }
+    ensures seat { IsSeatOf table.now seat.new }
+    ensures same { pending_view_of_seat seat.new ≡ pending_view_of_seat seat.old }
+    ensures steps { HasSteps (harts_of table.now) (pending_views_in seat.old) }
+{
+    table.table.shared.load::<PendingSee<J>>(seat, 0);
 }
 
 fn peek_at<J: IpiActing>(table: &PendingTable, seat: &mut IpiSeat, target: HartId) -> u64

@@ -3,17 +3,19 @@
 ghost use Rattle.std.specs.Prelude.{◌≡◌, ℕ, ◌<◌, ◌≤◌, false, IfOk, IfErr};
 ghost use Rattle.arrayvec.specs.ArrayVec.{array_vec_len};
 ghost use Rattle.tallies.specs.Notes.{first_hart, other_harts, together};
-ghost use Rattle.ipi.specs.Ledger.{opening_pending_view};
+ghost use Rattle.ipi.specs.Ledger.{HasSteps, opening_pending_view};
 ghost use Rattle.ipi.specs.Pairs.{Sits, Shows};
 ghost use Rattle.ipi.specs.Views.{pair_in};
 ghost use Rattle.ipi.specs.Seating.{IsSeatOf, harts_of, pending_view_of_seat, pending_views_in, IsOfAll, AreInOrder, AreSeated, AreSeatsOf, pending_views_by_seat, all_pending_views, one_by_one};
 ghost use Rattle.board_model.specs.declared.refusal.Refusal.TheVariants.{Memory};
 
+use crate::peeks::see;
 use crate::table::{IpiSeat, PendingTable, Seats};
 use crate::view::IpiAction;
 use atomic_table::Table;
 use board_model::{Refusal, Shape};
 use std::alloc::Global;
+use std::marker::Brand;
 use tallies::{ByHart, SeatTable};
 
 impl SeatTable for PendingTable {
@@ -95,7 +97,10 @@ impl PendingTable {
         ensures all { AreInOrder seats.items → array_vec_len seats ≡ harts_of self.now → IsOfAll self.now result }
         ensures shows { AreInOrder seats.items → array_vec_len seats ≡ harts_of self.now
             → Shows (harts_of self.now) (pending_view_of_seat result) (pair_in (pending_view_of_seat result)) }
+        ensures steps { HasSteps (harts_of self.now) (pending_views_in result) }
     {
-        tallies::join(self, seats)
+        let mut whole = tallies::join(self, seats);
+        see::<Brand>(self, &mut whole);
+        whole
     }
 }

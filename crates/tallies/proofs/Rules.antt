@@ -9,7 +9,8 @@ use Rattle.atomic_table.proofs.Lists.{at_set, at_snoc}
 use Rattle.tallies.specs.Sums.{total}
 use Rattle.tallies.specs.Logs.{Log, Reading, IsOfLog, word_after}
 use Rattle.tallies.specs.Notes.{hart_notes, seat_notes, is_of, seats, noted, opening_from, first_hart, other_harts, together, nobody}
-use Rattle.tallies.specs.Rules.{AreSeated, Everywhere, IsLogged}
+use Rattle.tallies.specs.Books.{Each}
+use Rattle.tallies.specs.Rules.{AreSeated, Everywhere, HasLog, IsLogged}
 use Rattle.tallies.specs.declared.view.HartNotes.{HartNotes}
 use Rattle.tallies.specs.declared.view.SeatNotes.{SeatNotes}
 use Rattle.tallies.proofs.Totals.{total-append, total-set, at_most_total, two_at_most_total, total_split, total_join}
@@ -208,3 +209,13 @@ module _ {S D : Type 0} (r : Reading D) (first : ℕ → ℕ) (harts words : ℕ
     wide = long;
     left = firsts;
   }
+
+-- ---- one log of all steps, by any seat
+module _ {A : Type 0} (P : A → Type 0) where
+  each_at : (xs : List A) → ((k : ℕ) (x : A) → get_elem? xs k ≡ some x → P x) → Each P xs
+  each_at [] all = tt
+  each_at (x ∷ xs) all = (all 0 x refl, each_at xs (λ k. all (suc k)))
+
+pub has_log : {S D : Type 0} (r : Reading D) (first : ℕ → ℕ) (harts words : ℕ) (s : State (Unit {0}) (SeatNotes S D)) → IsLogged r first harts words s → (id : ℕ) (c : SeatNotes S D)
+    → get_elem? s.views id ≡ some c → HasLog r first harts c.harts
+has_log r first harts words s kept id c at = (kept.log, kept.is_true, each_at _ c.harts (λ k v. kept.entered id c k v at))

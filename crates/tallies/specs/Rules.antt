@@ -5,6 +5,7 @@ use mathlib.Core.Option.{some}
 use lib.ListN.{get_elem?}
 use Rattle.atomic_table.specs.Table.{State}
 use Rattle.tallies.specs.Sums.{total}
+use Rattle.tallies.specs.Books.{Each}
 use Rattle.tallies.specs.Notes.{seat_notes, seats, noted}
 use Rattle.tallies.specs.Logs.{Log, Reading, IsOfLog, IsTrueLog, word_after, placed, earlier, IsAmong}
 use Rattle.tallies.specs.declared.view.HartNotes.{HartNotes}
@@ -25,6 +26,11 @@ module _ {S D : Type 0} where
   -- each hart of each seat has just its steps of the log, each with its place
   abbrev pub AreInLog : Log D → List (SeatNotes S D) → Type 0
   AreInLog log = Everywhere (λ v. IsOfLog log v.hart v.actions v.places)
+
+  -- There is one log of all steps of a table of so many harts, whose words were first so. Each of these harts has just its own steps of
+  -- it, each with its place.
+  abbrev pub HasLog : Reading D → (ℕ → ℕ) → ℕ → List (HartNotes S D) → Type 0
+  HasLog r first harts vs = (log : Log D) × IsTrueLog r first harts log × Each (λ v. IsOfLog log v.hart v.actions v.places) vs
 
 module _ {S D : Type 0} (r : Reading D) (first : ℕ → ℕ) (harts words : ℕ) where
   -- What the rule of such a table says of its seats and of their steps. The log: all steps in their order, the

@@ -1,8 +1,8 @@
 use Rattle.std.proofs.Common.{List, sym, ap, subst, ◌∙◌}
 use Rattle.tallies.specs.Notes.{numbers}
 use Rattle.hsm.specs.Words.{HartView, HartSeatView}
-use Rattle.hsm.specs.Seating.{harts_of}
-use Rattle.hsm.specs.Rule.{stands}
+use Rattle.hsm.specs.Seating.{harts_of, started_in}
+use Rattle.hsm.specs.Rule.{HasSteps, stands}
 use Rattle.hsm.specs.States.{IsBetweenCalls, Shows}
 use Rattle.hsm.proofs.Lists.{stand_together}
 use Rattle.hsm.proofs.table.HartTable.join.Goals as goal
@@ -22,3 +22,7 @@ returns-clause-shows c = λ settled.
     let same = c.see.ensures.same in
     let r = c.see.ensures.shows (λ h lt. subst (λ (d : HartSeatView). IsBetweenCalls h d.harts) same (settled h lt)) in
     (r.0, subst (λ (d : HartSeatView). Shows (harts_of c.args.self.now) d r.0) (sym same) r.1)
+
+pub returns-clause-steps : goal.returns-clause-steps
+returns-clause-steps c =
+    subst (λ (d : HartSeatView). HasSteps (harts_of c.args.self.now) (started_in c.args.self.now) d.harts) (sym c.see.ensures.same) c.see.ensures.steps
