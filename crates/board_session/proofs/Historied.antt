@@ -1,5 +1,7 @@
 -- The parts of a history that has ended, and what they say of it.
-use Rattle.std.proofs.Common.{◌≡◌, ◌∙◌, ◌+◌, ℕ, suc, Bool, true, false, List, [], ◌∷◌, ◌++◌, ◌==◌, All, Option, Some, length, if◌then◌else◌, inl, inr, refl, sym, ap, subst}
+use Rattle.std.proofs.Common.{◌≡◌, ◌∙◌, ℕ, suc, Bool, true, false, List, [], ◌∷◌, ◌++◌, ◌==◌, All, Option, Some, None, length, if◌then◌else◌, arith, inl, inr, refl, sym, ap, subst}
+use Rattle.std.proofs.lemmas.Bool.Decides.{nat_tests}
+use Rattle.std.specs.Prelude.{IfSome}
 use Rattle.std.proofs.Math.Logic.{∥∥₁_map, ∥∥₁_map₂}
 use Rattle.board_model.specs.Durable.{Change}
 use Rattle.board_model.specs.Shapes.{Size}
@@ -9,33 +11,38 @@ use Rattle.susp.specs.declared.buses.Bus.{Bus}
 use Rattle.tallies.specs.Books.{Each, IsPart, part_view, told_by}
 use Rattle.tallies.specs.Logs.{Log}
 use Rattle.tallies.specs.declared.book_views.PartView.{PartView}
-use Rattle.hart_threads.specs.Bused.{AreSaved, AreWakes, IsMoment, IsSaving, IsWaking, LeftSo, Makes, SavedBy, WasTold, begun_bus, console_part, count_of, part_of_hart, store_part}
+use Rattle.hart_threads.specs.Bused.{AreCalls, AreSaved, AreWakes, AsksSo, FoundSo, HasFailed, HasSlept, IsMoment, IsSaving, IsWaking, LooksFor, Makes, SavedBy, WasTold, begun_bus, console_part, count_of, part_of_hart, store_part}
 use Rattle.hart_threads.specs.Ends.{IsEnding, IsOfHart}
 use Rattle.hart_threads.specs.declared.ends.HartEnd.{HartEnd}
 use Rattle.hart_threads.specs.Carried.{AllCarry, Carries, IsCarriedBy}
 use Rattle.hart_threads.specs.declared.bus_turns.BusTurn.{BusTurn}
+use Rattle.hart_threads.specs.declared.bus_turns.HeldCall.{HeldCall}
 use Rattle.hart_threads.specs.declared.closing.AfterConsole.{AfterConsole}
 use Rattle.hart_threads.proofs.Bussing.{carried_more}
 use Rattle.hart_threads.proofs.Whose.{hart_whose}
-use Rattle.board_session.specs.Histories.{EndsHistory, EndsWith, IsHistory, IsOneOf, took_by}
+use Rattle.board_session.specs.Histories.{EndsHistory, EndsWith, IsHistory, IsOneOf, IsUnsaved, took_by}
 
 -- ---- a life that carries no memory yet
-pub carries_none : (P : List ℕ → Type 0) (life : Life) → IsCarriedBy (λ memory. ⊥) life → IsCarriedBy P life
-carries_none P life none = carried_more (λ memory. ⊥) P life (λ memory no. absurd no) none
+abbrev none : ℕ → ℕ → ℕ → List ℕ → Type 0
+none hart address opaque memory = ⊥
+
+pub carries_none : (P Q : ℕ → ℕ → ℕ → List ℕ → Type 0) (life : Life) → IsUnsaved life → IsCarriedBy P Q life
+carries_none P Q life is = carried_more none P none Q life (λ h a o m no. absurd no) (λ h a o m no. absurd no) is
 
 -- nothing was done with its bus
-pub no_history : (size : Size) (memory : List ℕ) (life : Life) (journal : List Change) (doubt : Option Change) → journal ≡ life.journal → doubt ≡ life.doubt → IsCarriedBy (λ memory. ⊥) life → ∥ IsHistory size memory journal doubt 0 [] ∥₁
-no_history size memory life journal doubt issued down none =
-    let carried = carries_none (IsMoment [] (begun_bus memory)) life none in
+pub no_history : (size : Size) (memory : List ℕ) (life : Life) (journal : List Change) (doubt : Option Change) → journal ≡ life.journal → doubt ≡ life.doubt → IsUnsaved life → ∥ IsHistory size memory journal doubt 0 [] ∥₁
+no_history size memory life journal doubt issued down unsaved =
+    let carried = carries_none (IsMoment HasSlept size [] (begun_bus memory)) (IsMoment HasFailed size [] (begun_bus memory)) life unsaved in
     ∣ record {
       left = begun_bus memory;
       made = refl;
       of = tt;
+      calls = tt;
       saves = tt;
       wakes = tt;
       often = refl;
-      carried = subst (λ (cs : List Change). AllCarry (IsMoment [] (begun_bus memory)) cs) (sym issued) carried.journal;
-      doubted = subst (λ (o : Option Change). (c : Change) → o ≡ Some c → Carries (IsMoment [] (begun_bus memory)) c) (sym down) carried.doubt;
+      carried = subst (λ (cs : List Change). AllCarry (IsMoment HasSlept size [] (begun_bus memory)) cs) (sym issued) carried.journal;
+      doubted = subst (λ (o : Option Change). (c : Change) → o ≡ Some c → Carries (IsMoment HasFailed size [] (begun_bus memory)) c) (sym down) carried.doubt;
     } ∣₁
 
 -- ---- parts that are back
@@ -70,41 +77,87 @@ module _ (machine : Machine) (turns : ℕ) (gated : Bool) (parting : AfterConsol
       → All (λ e. IsEnding machine turns gated parting (took_by log e.hart.id) e) es
   all_ends_by log parts es told all = λ k e lt. let is = all k e lt in ends_by log is.0 _ (one_of (IsPart log) is.0 parts is.1 told) is.2
 
--- ---- a memory that a part was told
-abbrev HasMoment : Log BusTurn → Bus → List ℕ → Type 0
-HasMoment log begun memory = (later earlier : Log BusTurn) × (left : Bus) × (log ≡ later ++ earlier) × Makes earlier begun left × (memory ≡ left.ram)
+-- ---- a memory that the store found as it looked for a call
+equal : (a b : ℕ) → (a == b) ≡ true → a ≡ b
+equal a b is = grind (arith, nat_tests)
 
-moment_later : (e : ℕ × BusTurn) (l : Log BusTurn) (begun : Bus) (memory : List ℕ) → HasMoment l begun memory → HasMoment (e ∷ l) begun memory
-moment_later e l begun memory (later, earlier, left, is, made, same) = (e ∷ later, earlier, left, ap (λ (x : Log BusTurn). e ∷ x) is, made, same)
+module _ (Answered : HeldCall → Type 0) (size : Size) (begun : Bus) (hart address opaque : ℕ) (memory : List ℕ) where
+  abbrev HasMoment : Log BusTurn → Type 0
+  HasMoment log =
+      (later earlier : Log BusTurn) × (look turn : BusTurn) × (call : HeldCall) × (left : Bus)
+      × (log ≡ later ++ (store_part, look) ∷ (part_of_hart hart, turn) ∷ earlier)
+      × (look.call ≡ Some call) × (turn.call ≡ Some call) × AsksSo Answered size hart address opaque call
+      × Makes ((part_of_hart hart, turn) ∷ earlier) begun left × (memory ≡ left.ram)
 
-moment_if : (own : Bool) (who : ℕ) (e : ℕ × BusTurn) (l : Log BusTurn) (begun n : Bus) (memory : List ℕ) → Makes (e ∷ l) begun n → (LeftSo memory (told_by who l) → HasMoment l begun memory)
-    → LeftSo memory (if own then (suc (length l), e.1) ∷ told_by who l else told_by who l) → HasMoment (e ∷ l) begun memory
-moment_if true who e l begun n memory row rest (inl same) = ([], e ∷ l, n, refl, row, same ∙ ap (λ (b : Bus). b.ram) (sym row.0))
-moment_if true who e l begun n memory row rest (inr so) = moment_later e l begun memory (rest so)
-moment_if false who e l begun n memory row rest so = moment_later e l begun memory (rest so)
+  abbrev Looked : List (ℕ × BusTurn) → Type 0
+  Looked told = FoundSo Answered size told hart address opaque memory
 
-moment : (who : ℕ) (log : Log BusTurn) (begun n : Bus) (memory : List ℕ) → Makes log begun n → LeftSo memory (told_by who log) → HasMoment log begun memory
-moment who [] begun n memory row so = absurd so
-moment who (e ∷ l) begun n memory row so = moment_if (e.0 == who) who e l begun n memory row (moment who l begun e.1.found memory row.1) so
+  moment_later : (e : ℕ × BusTurn) (l : Log BusTurn) → HasMoment l → HasMoment (e ∷ l)
+  moment_later e l m = (e ∷ m.0, m.1, m.2, m.3, m.4, m.5, ap (λ (x : Log BusTurn). e ∷ x) m.6, m.7, m.8, m.9, m.10, m.11)
 
-moment_told : (who : ℕ) (log : Log BusTurn) (begun n : Bus) (memory : List ℕ) → Makes log begun n → WasTold (told_by who log) memory → IsMoment log begun memory
-moment_told who log begun n memory row was = ∥∥₁_map was (λ (so : LeftSo memory (told_by who log)). moment who log begun n memory row so)
+  -- a look, directly after the turn of the hart that asked
+  here : (e : ℕ × BusTurn) (l : Log BusTurn) (n : Bus) (call : HeldCall) → e.0 ≡ store_part → e.1.call ≡ Some call → AreCalls (Some call) l → Makes (e ∷ l) begun n → AsksSo Answered size hart address opaque call → memory ≡ e.1.found.ram → HasMoment (e ∷ l)
+  here e [] n call own is calls row so same = absurd calls
+  here e (f ∷ l) n call own is calls row so same =
+      let looked : e ≡ (store_part, e.1) = λ i. (own i, e.1) in
+      let whose : f.0 ≡ part_of_hart hart = calls.0 ∙ ap part_of_hart so.0 in
+      let turned : f ≡ (part_of_hart hart, f.1) = λ i. (whose i, f.1) in (
+        [],
+        l,
+        e.1,
+        f.1,
+        call,
+        e.1.found,
+        (λ i. looked i ∷ turned i ∷ l),
+        is,
+        calls.1,
+        so,
+        subst (λ (x : ℕ × BusTurn). Makes (x ∷ l) begun e.1.found) turned row.1,
+        same,
+      )
+
+  -- a turn more, of the store or of another
+  moment_if : (own : Bool) (e : ℕ × BusTurn) (l : Log BusTurn) → (LooksFor Answered size hart address opaque memory e.1 → HasMoment (e ∷ l)) → (Looked (told_by store_part l) → HasMoment l)
+      → Looked (if own then (suc (length l), e.1) ∷ told_by store_part l else told_by store_part l) → HasMoment (e ∷ l)
+  moment_if true e l now rest (inl look) = now look
+  moment_if true e l now rest (inr so) = moment_later e l (rest so)
+  moment_if false e l now rest so = moment_later e l (rest so)
+
+  -- the turn of a hart is no look of the store
+  not_own : (own : Bool) (who : ℕ) (e : ℕ × BusTurn) (l : Log BusTurn) → own ≡ (e.0 == store_part) → e.0 ≡ part_of_hart who → Looked (if own then (suc (length l), e.1) ∷ told_by store_part l else told_by store_part l) → Looked (told_by store_part l)
+  not_own true who e l is of so = let zero : e.0 ≡ 0 = equal e.0 0 (sym is) in absurd (omega (arith, zero, of))
+  not_own false who e l is of so = so
+
+  moment : (after : Option HeldCall) (log : Log BusTurn) (n : Bus) → AreCalls after log → Makes log begun n → Looked (told_by store_part log) → HasMoment log
+  moment None [] n calls row so = absurd so
+  moment (Some call) [] n calls row so = absurd calls
+  moment None (e ∷ l) n calls row so =
+      moment_if (e.0 == store_part) e l
+      (λ look. here e l n look.0 (subst (λ (o : Option HeldCall). IfSome o (λ call. e.0 ≡ store_part)) look.1 calls.0) look.1 (subst (λ (o : Option HeldCall). AreCalls o l) look.1 calls.1) row look.2 look.3)
+      (λ told. moment e.1.call l e.1.found calls.1 row.1 told) so
+  moment (Some call) (e ∷ l) n calls row so = moment_later e l (moment None l e.1.found calls.2 row.1 (not_own (e.0 == store_part) call.asked.id e l refl calls.0 so))
+
+  moment_told : (log : Log BusTurn) (n : Bus) → AreCalls None log → Makes log begun n → WasTold Answered size (told_by store_part log) hart address opaque memory → IsMoment Answered size log begun hart address opaque memory
+  moment_told log n calls row was = ∥∥₁_map was (λ (so : Looked (told_by store_part log)). moment None log n calls row so)
 
 -- ---- the whole history
 module _ (size : Size) (memory : List ℕ) (log : Log BusTurn) (store console : PartView BusTurn) (parts : List (PartView BusTurn)) (ends : EndsHistory size memory log store console parts) where
   told_of : (d : PartView BusTurn) (k : ℕ) → IsPart log d → d.who ≡ k → d.told ≡ told_by k log
   told_of d k is who = is ∙ ap (λ (j : ℕ). told_by j log) who
 
-  whole : (life : Life) (woken : ℕ) → Makes log (begun_bus memory) ends.left → SavedBy life store → AreWakes woken console → IsHistory size memory life.journal life.doubt woken log
-  whole life woken made saved wakes =
+  whole : (life : Life) (woken : ℕ) → Makes log (begun_bus memory) ends.left → AreCalls None log → SavedBy size life store → AreWakes woken console → IsHistory size memory life.journal life.doubt woken log
+  whole life woken made calls saved wakes =
       let own = told_of store store_part ends.told.1.0 saved.0 in
       let woke = told_of console console_part ends.told.0 wakes.0 in
       let looks = subst (λ (ts : List (ℕ × BusTurn)). Each (λ t. IsSaving t.1) ts) own saved.1 in
-      let carried = carried_more (WasTold store.told) (IsMoment log (begun_bus memory)) life (λ m was. moment_told store_part log (begun_bus memory) ends.left m made (subst (λ (ts : List (ℕ × BusTurn)). WasTold ts m) own was)) saved.2 in
+      let told = λ (Answered : HeldCall → Type 0) (h a o : ℕ) (m : List ℕ) (was : WasTold Answered size store.told h a o m).
+      moment_told Answered size (begun_bus memory) h a o m log ends.left calls made (subst (λ (ts : List (ℕ × BusTurn)). WasTold Answered size ts h a o m) own was) in
+      let carried = carried_more (WasTold HasSlept size store.told) (IsMoment HasSlept size log (begun_bus memory)) (WasTold HasFailed size store.told) (IsMoment HasFailed size log (begun_bus memory)) life (told HasSlept) (told HasFailed) saved.2 in
       record {
         left = ends.left;
         made = made;
         of = ends.of;
+        calls = calls;
         saves = looks;
         wakes = subst (λ (ts : List (ℕ × BusTurn)). Each (λ t. IsWaking t.1) ts) woke wakes.1;
         often = wakes.2 ∙ ap count_of woke;
@@ -112,12 +165,14 @@ module _ (size : Size) (memory : List ℕ) (log : Log BusTurn) (store console : 
         doubted = carried.doubt;
       }
 
-  pub history : (life : Life) (woken : ℕ) → AreSaved life store → AreWakes woken console → ∥ IsHistory size memory life.journal life.doubt woken log ∥₁
-  history life woken saved wakes = ∥∥₁_map₂ ends.made saved (λ made by. whole life woken made by wakes)
+  pub history : (life : Life) (woken : ℕ) → AreSaved size life store → AreWakes woken console → ∥ IsHistory size memory life.journal life.doubt woken log ∥₁
+  history life woken saved wakes =
+      let rows : ∥ Makes log (begun_bus memory) ends.left × AreCalls None log ∥₁ = ∥∥₁_map₂ ends.made ends.calls (λ made calls. (made, calls)) in
+      ∥∥₁_map₂ rows saved (λ row by. whole life woken row.0 row.1 by wakes)
 
 -- under its other names
 pub history_of : (size : Size) (memory begins : List ℕ) (log : Log BusTurn) (store console : PartView BusTurn) (parts : List (PartView BusTurn)) → EndsHistory size memory log store console parts → (life : Life) (journal : List Change) (doubt : Option Change) (woken : ℕ)
-    → begins ≡ memory → journal ≡ life.journal → doubt ≡ life.doubt → AreSaved life store → AreWakes woken console → ∥ IsHistory size begins journal doubt woken log ∥₁
+    → begins ≡ memory → journal ≡ life.journal → doubt ≡ life.doubt → AreSaved size life store → AreWakes woken console → ∥ IsHistory size begins journal doubt woken log ∥₁
 history_of size memory begins log store console parts ends life journal doubt woken left_by issued down saved wakes =
     subst (λ (m : List ℕ). ∥ IsHistory size m journal doubt woken log ∥₁) (sym left_by)
     (subst (λ (cs : List Change). ∥ IsHistory size memory cs doubt woken log ∥₁) (sym issued)

@@ -180,18 +180,18 @@ pub life_few : (mode : BootMode) (life : Life) → life ≡ life_after mode life
 life_few mode life is = subst (λ (cs : List Change). length cs ≤ 2) (sym (life_issued mode life is)) (few_commands mode life.found)
 
 -- no command of a boot is a suspension
-attempts_carried : (P : List ℕ → Type 0) (trial : Option Trial) → AllCarry P (attempts_of trial)
+attempts_carried : (P : ℕ → ℕ → ℕ → List ℕ → Type 0) (trial : Option Trial) → AllCarry P (attempts_of trial)
 attempts_carried P None = none_carry P
 attempts_carried P (Some trial) = more_carry P Attempt [] (change_carries P commands.Attempt Attempt refl) (none_carry P)
 
-commands_carried : (P : List ℕ → Type 0) (mode : BootMode) (s : DurableState) → AllCarry P (commands_by mode s)
+commands_carried : (P : ℕ → ℕ → ℕ → List ℕ → Type 0) (mode : BootMode) (s : DurableState) → AllCarry P (commands_by mode s)
 commands_carried P modes.Fresh s = attempts_carried P s.trial
 commands_carried P modes.Keep s = attempts_carried P s.trial
 commands_carried P modes.Discard s = more_carry P Discard (attempts_of s.trial) (change_carries P commands.Discard Discard refl) (attempts_carried P s.trial)
 commands_carried P modes.Resume s = more_carry P Consume [] (change_carries P commands.Consume Consume refl) (none_carry P)
 
-pub life_carried : (P : List ℕ → Type 0) (mode : BootMode) (life : Life) → life ≡ life_after mode life.found → IsCarriedBy P life
-life_carried P mode life is = subst (λ (x : Life). IsCarriedBy P x) (sym is) (record { journal = commands_carried P mode life.found; doubt = λ c e. let no : ⊥ = cc in absurd no })
+pub life_carried : (P Q : ℕ → ℕ → ℕ → List ℕ → Type 0) (mode : BootMode) (life : Life) → life ≡ life_after mode life.found → IsCarriedBy P Q life
+life_carried P Q mode life is = subst (λ (x : Life). IsCarriedBy P Q x) (sym is) (record { journal = commands_carried P mode life.found; doubt = λ c e. let no : ⊥ = cc in absurd no })
 
 -- of which none is in doubt
 pub life_up : (mode : BootMode) (life : Life) → life ≡ life_after mode life.found → life.doubt ≡ None

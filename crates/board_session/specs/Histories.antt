@@ -4,14 +4,15 @@ use Rattle.std.specs.Prelude.{◌≡◌, ◌⊎◌, ◌<◌, ◌+◌, ℕ, Bool,
 use Rattle.board_model.specs.Durable.{Change}
 use Rattle.board_model.specs.Shapes.{Size}
 use Rattle.machine.specs.Machine.{Machine}
+use Rattle.store.specs.Lives.{Life}
 use Rattle.susp.specs.declared.buses.Bus.{Bus}
 use Rattle.tallies.specs.Books.{Each, IsPart, part_view, told_by}
 use Rattle.tallies.specs.Logs.{Log}
 use Rattle.tallies.specs.declared.book_views.PartView.{PartView}
-use Rattle.hart_threads.specs.Bused.{IsMoment, IsSaving, IsWaking, Made, Makes, begun_bus, console_part, count_of, part_of_hart, store_part}
+use Rattle.hart_threads.specs.Bused.{AreCalls, HasCalls, HasFailed, HasSlept, IsMoment, IsSaving, IsWaking, Made, Makes, begun_bus, console_part, count_of, part_of_hart, store_part}
 use Rattle.hart_threads.specs.Ends.{AreNumberedFrom, IsEnding}
 use Rattle.hart_threads.specs.declared.ends.HartEnd.{HartEnd}
-use Rattle.hart_threads.specs.Carried.{AllCarry, Carries}
+use Rattle.hart_threads.specs.Carried.{AllCarry, Carries, IsCarriedBy}
 use Rattle.hart_threads.specs.declared.bus_turns.BusTurn.{BusTurn}
 use Rattle.hart_threads.specs.declared.closing.AfterConsole.{AfterConsole}
 use Rattle.hart_threads.specs.declared.closing.AfterConsole.TheVariants.{RunOut, Halt}
@@ -30,18 +31,20 @@ abbrev pub took_by : Log BusTurn → ℕ → PartView BusTurn
 took_by log h = part_view (part_of_hart h) (told_by (part_of_hart h) log)
 
 -- There is one history of the bus of a session. Its turns made what the bus was at the end, one after another, of the memory that the
--- power-on left. Each is of a hart, of the store or of the console. The store's leave the bus as it was. The console's wake a board that
--- dozes, and there are as many as it was told. Each suspension of the journal, and one that is in doubt, carries a memory that the bus had
--- at one moment of this history.
+-- power-on left. Each is of a hart, of the store or of the console. Directly after each durable call of a hart the store looked for that
+-- very call, and at no other time. The store's leave the bus as it was. The console's wake a board that dozes, and there are as many as it
+-- was told. A suspension of the journal carries the memory of one moment of this history: its hart had just made the call that asked for
+-- it, and with that call the board fell asleep. So does one that is in doubt, whose hart was answered -1 there.
 pub record IsHistory (size : Size) (memory : List ℕ) (journal : List Change) (doubt : Option Change) (woken : ℕ) (log : Log BusTurn) : Type 0 where
   pub left : Bus
   pub made : Makes log (begun_bus memory) left
   pub of : Each (λ e. e.0 < size.harts + 2) log
+  pub calls : AreCalls None log
   pub saves : Each (λ t. IsSaving t.1) (told_by store_part log)
   pub wakes : Each (λ t. IsWaking t.1) (told_by console_part log)
   pub often : woken ≡ count_of (told_by console_part log)
-  pub carried : AllCarry (IsMoment log (begun_bus memory)) journal
-  pub doubted : (c : Change) → doubt ≡ Some c → Carries (IsMoment log (begun_bus memory)) c
+  pub carried : AllCarry (IsMoment HasSlept size log (begun_bus memory)) journal
+  pub doubted : (c : Change) → doubt ≡ Some c → Carries (IsMoment HasFailed size log (begun_bus memory)) c
 
 -- Each hart of that board had a loop, and there is an end of each, from hart 0 on. It went from where the power-on left it by just the
 -- turns that its loop made, and what the history has of it is what those turns did with the bus. It made all the turns that each hart is
@@ -59,6 +62,10 @@ HasHistory size machine turns journal doubt woken left ends =
     (log : Log BusTurn) × AreDriven size.harts machine turns log left ends
     × ∥ IsHistory size machine.memory journal doubt woken log ∥₁
 
+-- a life in which no suspension was asked for
+abbrev pub IsUnsaved : Life → Type 0
+IsUnsaved life = IsCarriedBy (λ hart address opaque memory. ⊥) (λ hart address opaque memory. ⊥) life
+
 -- ---- while its parts come back
 -- a part is one of these
 abbrev pub IsOneOf : PartView BusTurn → List (PartView BusTurn) → Type 0
@@ -75,5 +82,6 @@ pub record EndsHistory (size : Size) (memory : List ℕ) (log : Log BusTurn) (st
     (parts : List (PartView BusTurn)) : Type 0 where
   pub left : Bus
   pub made : Made log (begun_bus memory) left
+  pub calls : HasCalls log
   pub told : Each (IsPart log) (console ∷ store ∷ parts)
   pub of : Each (λ e. e.0 < size.harts + 2) log

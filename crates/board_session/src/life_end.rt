@@ -180,7 +180,7 @@ pub(crate) fn disk_of<D: Disk + Drop, J: Threaded>(
         → (life : IsOfLife J.size J.found J.issued J.failures J.earlier J.moment result.1.at console.told
         heard.doubt (D.facts result.0)) × (life.acknowledged.harts ≡ back.harts)
         × (life.journal ≡ journal_of (inside whole)) × (life.doubt ≡ doubt_of (inside whole)) }
-    ensures saved { AreSaved (life_of (inside whole)) result.2.0 }
+    ensures saved { AreSaved J.size (life_of (inside whole)) result.2.0 }
     ensures woken { AreWakes heard.woken result.2.1 }
 {
     let mut whole = whole;

@@ -12,7 +12,6 @@ ghost use Rattle.tallies.specs.Books.{fresh_from};
 ghost use Rattle.hart_threads.specs.Heard.{heard_nothing};
 ghost use Rattle.hart_threads.specs.Noted.{boot_told};
 ghost use Rattle.hart_threads.specs.Bused.{begun_bus};
-ghost use Rattle.hart_threads.specs.Carried.{IsCarriedBy};
 ghost use Rattle.hart_threads.specs.Views.{parts_with};
 ghost use Rattle.store.specs.Formats.{WritesHead};
 ghost use Rattle.store.specs.Leaves.{IsIdle, IsKept, LeavesOnly};
@@ -27,7 +26,7 @@ ghost use Rattle.store.specs.Taken.{are_taken};
 ghost use Rattle.board_session.specs.Commands.{party};
 ghost use Rattle.board_session.specs.Dialogues.{Talks, dialogue_ends};
 ghost use Rattle.board_session.specs.Backs.{AreBack};
-ghost use Rattle.board_session.specs.Histories.{HasHistory, harts_after};
+ghost use Rattle.board_session.specs.Histories.{HasHistory, IsUnsaved, harts_after};
 ghost use Rattle.board_session.specs.Sessions.{TakesFormat, RunsOver, RefusesDisk, RefusesSession, Begins, IsOfLife, RanOver, TalksIf, outcome_of, AreOfLife, IsBooted};
 
 use crate::gate::{Open, harts_after};
@@ -204,7 +203,7 @@ fn run_board<
     requires store { (size_of_store store ≡ J.size) × (found_state store ≡ J.found) × (journal_of store ≡ J.issued) }
     requires bus { hardware.bus ≡ begun_bus J.memory }
     requires machine { J.machine ≡ board_of hardware.shape J.memory on.doze on.harts.items on.seats }
-    requires unsaved { IsCarriedBy (λ memory. ⊥) (life_of store) }
+    requires unsaved { IsUnsaved (life_of store) }
     requires turns { on.turns ≡ J.turns }
     requires lock { provisions.lock.id ≡ J.parting }
     requires halt { provisions.halt ≡ J.halt }
@@ -516,7 +515,7 @@ fn powered<D: Disk + Drop>(
         ≡ commands_by options.now.mode (found_state (store_of b))) }
     ensures taken { IfOk result (λ b. (are_taken (found_state (store_of b)) (journal_of (store_of b)) ≡ true)
         × (length (journal_of (store_of b)) ≤ 2)) }
-    ensures unsaved { IfOk result (λ b. IsCarriedBy (λ memory. ⊥) (life_of (store_of b))) }
+    ensures unsaved { IfOk result (λ b. IsUnsaved (life_of (store_of b))) }
     ensures up { IfOk result (λ b. doubt_of (store_of b) ≡ None) }
     ensures opened { IfOk result (λ b. failures_at_open (store_of b) ≡ (D.facts disk).failures) }
     ensures moments { IfOk result (λ b. IsBooted options.now.new (D.facts disk) (size_of_store (store_of b))

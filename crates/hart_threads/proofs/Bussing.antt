@@ -1,6 +1,7 @@
 -- What is done with a bus, and its history.
-use Rattle.std.proofs.Common.{◌≡◌, ⊎_elim, ℕ, Bool, true, false, List, ◌∷◌, Result, Ok, Err, refl, sym, ap, subst, inl, inr}
-use Rattle.std.proofs.Math.Logic.{∥∥₁_map}
+use Rattle.std.proofs.Common.{◌≡◌, ⊎_elim, ℕ, Bool, true, false, List, ◌∷◌, Option, None, Result, Ok, Err, refl, sym, ap, subst, inl, inr}
+use Rattle.std.specs.Prelude.{IfSome}
+use Rattle.std.proofs.Math.Logic.{∥∥₁_map, ∥∥₁_map₂}
 use Rattle.board_model.specs.Durable.{Change}
 use Rattle.board_model.specs.Shapes.{Size}
 use Rattle.board_model.specs.Views.{change_of}
@@ -16,8 +17,9 @@ use Rattle.tallies.specs.declared.book_views.BookView.{BookView}
 use Rattle.tallies.specs.declared.book_views.PartView.{PartView}
 use Rattle.store.specs.Asked.{Asked}
 use Rattle.store.specs.Lives.{Life, Applied}
-use Rattle.store.specs.Views.{life_of}
+use Rattle.store.specs.Views.{life_of, size_of_store}
 use Rattle.store.specs.declared.stores.Store.{Store}
+use Rattle.sbi_abi.specs.Calls.{call_of}
 use Rattle.sbi_abi.specs.declared.call.Call.{Call}
 use Rattle.sbi_abi.specs.declared.call.Call.TheVariants as calls
 use Rattle.sbi_abi.specs.declared.ret.SbiError.{SbiError}
@@ -34,10 +36,11 @@ use Rattle.sbi.specs.declared.words.Word.TheVariants.{Goes, Over}
 use Rattle.turns.specs.Own.{StepsIf, TurnAsOwn, TurnOwn}
 use Rattle.turns.specs.declared.readies.Ready.{Ready}
 use Rattle.turns.specs.declared.readies.Ready.TheVariants as readies
-use Rattle.hart_threads.specs.Bused.{AreSaved, CalledIf, IsCalled, LeftSo, Made, Makes, SavedBy, StepsBus, TurnsBus, WasTold, bus_turn}
+use Rattle.hart_threads.specs.Bused.{AreCalls, AreSaved, CalledIf, FoundSo, HasCalls, HasFailed, HasSlept, IsCalled, Made, Makes, SavedBy, StepsBus, Takes, TurnsBus, WasTold, call_turn, held_call, part_of_hart, store_part}
 use Rattle.hart_threads.specs.Carried.{Carries, IsCarriedBy}
 use Rattle.hart_threads.specs.declared.bus_turns.BusTurn.{BusTurn}
-use Rattle.hart_threads.proofs.Carrying.{asked_carried, held_keeps}
+use Rattle.hart_threads.specs.declared.bus_turns.HeldCall.{HeldCall}
+use Rattle.hart_threads.proofs.Carrying.{asked_carried, asks_so, held_keeps}
 
 -- ---- one turn more
 pub more : (count who : ℕ) (x : BusTurn) (l : Log BusTurn) (ds : List (PartView BusTurn)) (v : BookView BusTurn) (m n left : Bus) → Made l m n → x.found ≡ n → x.left ≡ left
@@ -86,28 +89,50 @@ module _ {D L : Type 0} {g : Ghosts D L} {l : Lanes L} where
       slept_called harts s.id p.1.asked opaque k.harts k'.harts bus bus' p.0 s t old new word p.1.slept p.3
   held_called harts call s t k k' bus bus' old new word p = stays_called word bus bus' p.3
 
+-- ---- the durable calls
+-- one turn more, which is none
+pub calls_more : (count who : ℕ) (x : BusTurn) (l : Log BusTurn) (ds : List (PartView BusTurn)) (v : BookView BusTurn) → HasCalls l → x.call ≡ None → v ≡ keeper_view count ((who, x) ∷ l) ds → HasCalls v.log
+calls_more count who x l ds v calls none view =
+    subst (λ (w : BookView BusTurn). HasCalls w.log) (sym view) (∥∥₁_map calls (λ (all : AreCalls None l).
+    let more : AreCalls None ((who, x) ∷ l) = subst (λ (o : Option HeldCall). IfSome o (λ call. who ≡ store_part) × AreCalls o l) (sym none) (tt, all) in
+    more))
+
+-- one call more: the turn of its hart, and the look for it
+pub call_more : (count : ℕ) (size : Size) (call : HeldCall) (found left : Bus) (l : Log BusTurn) (ds : List (PartView BusTurn)) (v : BookView BusTurn) (life : Life) (caller store : PartView BusTurn) → HasCalls l → AreSaved size life store → caller.who ≡ part_of_hart call.asked.id
+    → v ≡ keeper_view count ((store.who, call_turn call left left) ∷ (caller.who, call_turn call found left) ∷ l) ds → HasCalls v.log
+call_more count size call found left l ds v life caller store calls saved is view =
+    subst (λ (w : BookView BusTurn). HasCalls w.log) (sym view) (∥∥₁_map₂ calls saved (λ (all : AreCalls None l) (by : SavedBy size life store).
+    let more : AreCalls None ((store.who, call_turn call left left) ∷ (caller.who, call_turn call found left) ∷ l) = (by.0, (is, refl, all)) in
+    more))
+
 -- ---- what the store's part was told
-carries_more : (P Q : List ℕ → Type 0) (c : Change) → ((m : List ℕ) → P m → Q m) → Carries P c → Carries Q c
-carries_more P Q c on is hart address opaque memory e = on memory (is hart address opaque memory e)
+carries_more : (P Q : ℕ → ℕ → ℕ → List ℕ → Type 0) (c : Change) → ((h a o : ℕ) (m : List ℕ) → P h a o m → Q h a o m) → Carries P c → Carries Q c
+carries_more P Q c on is hart address opaque memory e = on hart address opaque memory (is hart address opaque memory e)
 
-pub carried_more : (P Q : List ℕ → Type 0) (life : Life) → ((m : List ℕ) → P m → Q m) → IsCarriedBy P life → IsCarriedBy Q life
-carried_more P Q life on is = record { journal = λ k c e. carries_more P Q c on (is.journal k c e); doubt = λ c e. carries_more P Q c on (is.doubt c e) }
+pub carried_more : (P P' Q Q' : ℕ → ℕ → ℕ → List ℕ → Type 0) (life : Life) → ((h a o : ℕ) (m : List ℕ) → P h a o m → P' h a o m) → ((h a o : ℕ) (m : List ℕ) → Q h a o m → Q' h a o m) → IsCarriedBy P Q life → IsCarriedBy P' Q' life
+carried_more P P' Q Q' life on up is = record { journal = λ k c e. carries_more P P' c on (is.journal k c e); doubt = λ c e. carries_more Q Q' c up (is.doubt c e) }
 
-told_more : (told : List (ℕ × BusTurn)) (t : ℕ × BusTurn) (m : List ℕ) → WasTold told m → WasTold (t ∷ told) m
-told_more told t m was = ∥∥₁_map was (λ (so : LeftSo m told). let more : LeftSo m (t ∷ told) = inr so in more)
+told_more : (Answered : HeldCall → Type 0) (size : Size) (told : List (ℕ × BusTurn)) (t : ℕ × BusTurn) (h a o : ℕ) (m : List ℕ) → WasTold Answered size told h a o m → WasTold Answered size (t ∷ told) h a o m
+told_more Answered size told t h a o m was = ∥∥₁_map was (λ (so : FoundSo Answered size told h a o m). let more : FoundSo Answered size (t ∷ told) h a o m = inr so in more)
 
 module _ {D L : Type 0} {g : Ghosts D L} {l : Lanes L} where
   -- once a command was asked for that is no suspension
-  pub saved_still : (d : PartView BusTurn) (old new : Store D L g l) (command : Command) (r : Result ℕ Refusal) → AreSaved (life_of old) d → Asked Applied old (change_of command) r new → AreSaved (life_of new) d
-  saved_still d old new command r saved asked = ∥∥₁_map saved (λ (by : SavedBy (life_of old) d). let still : SavedBy (life_of new) d = (by.0, by.1, asked_carried (WasTold d.told) old new command r by.2 asked) in still)
+  pub saved_still : (size : Size) (d : PartView BusTurn) (old new : Store D L g l) (command : Command) (r : Result ℕ Refusal) → AreSaved size (life_of old) d → Asked Applied old (change_of command) r new → AreSaved size (life_of new) d
+  saved_still size d old new command r saved asked =
+      ∥∥₁_map saved (λ (by : SavedBy size (life_of old) d). let still : SavedBy size (life_of new) d = (by.0, by.1, asked_carried (WasTold HasSlept size d.told) (WasTold HasFailed size d.told) old new command r by.2 asked) in still)
 
   -- once a durable call was made, directly after which it looked
-  pub saved_held : (harts : ℕ) (call : Call) (s t : ArchState) (k k' : Known) (bus bus' : Bus) (old new : Store D L g l) (word : Word) (n : ℕ) (d d' : PartView BusTurn)
-      → d' ≡ told_after n (bus_turn bus' bus') d → AreSaved (life_of old) d → bus'.ram ≡ bus.ram → MakesHeld harts call s t k k' bus bus' old new word → AreSaved (life_of new) d'
-  saved_held harts call s t k k' bus bus' old new word n d d' is saved same made =
-      let told = (n, bus_turn bus' bus') ∷ d.told in
-      let here : WasTold told bus.ram = ∣ inl (sym same) ∣₁ in
-      subst (AreSaved (life_of new)) (sym is) (∥∥₁_map saved (λ (by : SavedBy (life_of old) d).
-      let carried = held_keeps (WasTold told) harts call s t k k' bus bus' old new word (carried_more (WasTold d.told) (WasTold told) (life_of old) (told_more d.told (n, bus_turn bus' bus')) by.2) here made in
-      let still : SavedBy (life_of new) (told_after n (bus_turn bus' bus') d) = (by.0, (refl, by.1), carried.carried) in
+  pub saved_held : (harts : ℕ) (size : Size) (s t : ArchState) (k k' : Known) (bus bus' : Bus) (old new : Store D L g l) (word : Word) (d d' : PartView BusTurn)
+      → size_of_store old ≡ size → Takes (call_turn (held_call s t word) bus' bus') d d' → AreSaved size (life_of old) d → bus'.ram ≡ bus.ram → MakesHeld harts (call_of s) s t k k' bus bus' old new word → AreSaved size (life_of new) d'
+  saved_held harts size s t k k' bus bus' old new word d d' board takes saved same made =
+      let turn = call_turn (held_call s t word) bus' bus' in
+      let told = (takes.0, turn) ∷ d.told in
+      let Slept : ℕ → ℕ → ℕ → List ℕ → Type 0 = WasTold HasSlept size told in
+      let Failing : ℕ → ℕ → ℕ → List ℕ → Type 0 = WasTold HasFailed size told in
+      let so = asks_so Slept Failing size (call_of s) s t bus.ram word
+      (λ site opaque asks is. ∣ inl (held_call s t word, refl, (refl, asks, is), sym same) ∣₁) (λ site opaque asks is. ∣ inl (held_call s t word, refl, (refl, asks, is), sym same) ∣₁) in
+      subst (AreSaved size (life_of new)) (sym takes.1) (∥∥₁_map saved (λ (by : SavedBy size (life_of old) d).
+      let was = carried_more (WasTold HasSlept size d.told) Slept (WasTold HasFailed size d.told) Failing (life_of old) (told_more HasSlept size d.told (takes.0, turn)) (told_more HasFailed size d.told (takes.0, turn)) by.2 in
+      let carried = held_keeps Slept Failing harts size (call_of s) s t k k' bus bus' old new word board was so made in
+      let still : SavedBy size (life_of new) (told_after takes.0 turn d) = (by.0, (refl, by.1), carried.carried) in
       still))

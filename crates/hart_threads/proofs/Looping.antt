@@ -113,7 +113,7 @@ made_comes size a turned did is = subst (λ (w : Turned). ComesOnce size w a a (
 
 -- that asked for one
 pub held_comes : (size : Size) (s t : ArchState) (k k' : Known) (doze after : Option Doze) (took took' : PartView BusTurn) (turned : Turned) (word : Word) (told : Option (ℕ × Entry)) → turned ≡ Durable
-    → HeldOnce size (call_of s) s t k k' word → IsToldBy size (call_of s) s.id word told → IsDozeBy size (call_of s) s.id word after → CallsBus word after took took' → ComesOnce size turned (seated s k doze took) (seated t k' after took') word told
+    → HeldOnce size (call_of s) s t k k' word → IsToldBy size (call_of s) s.id word told → IsDozeBy size (call_of s) s.id word after → CallsBus s t word after took took' → ComesOnce size turned (seated s k doze took) (seated t k' after took') word told
 held_comes size s t k k' doze after took took' turned word told is once has dozes called =
     subst (λ (w : Turned). ComesOnce size w (seated s k doze took) (seated t k' after took') word told) (sym is) (once, has, dozes, called)
 

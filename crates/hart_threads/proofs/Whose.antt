@@ -7,12 +7,11 @@ use Rattle.machine.specs.Machine.{Machine}
 use Rattle.sbi.specs.declared.words.Word.{Word}
 use Rattle.sbi_calls.specs.declared.words.Turned.{Turned}
 use Rattle.sbi_calls.specs.declared.words.Turned.TheVariants.{Made, Durable}
-use Rattle.susp.specs.declared.buses.Bus.{Bus}
 use Rattle.susp.specs.declared.buses.Doze.{Doze}
 use Rattle.tallies.specs.declared.book_views.PartView.{PartView}
 use Rattle.turns.specs.declared.readies.Ready.{Ready}
 use Rattle.turns.specs.declared.readies.Ready.TheVariants as readies
-use Rattle.hart_threads.specs.Bused.{TakesBus, TurnsBus, part_of_hart}
+use Rattle.hart_threads.specs.Bused.{Takes, TurnsBus, bus_turn, call_turn, held_call, part_of_hart}
 use Rattle.hart_threads.specs.Ends.{IsOfHart, AnyAnswer, AnyWord, own_receipt}
 use Rattle.hart_threads.specs.Threads.{Seated, ComesOnce, LoopOnce, OwnOnce, TurnOnce, TurnOnceBy, TurnsOn}
 use Rattle.hart_threads.specs.declared.bus_turns.BusTurn.{BusTurn}
@@ -20,31 +19,31 @@ use Rattle.hart_threads.specs.declared.ends.HartEnd.{HartEnd}
 use Rattle.hart_threads.specs.declared.loops.Why.{Why}
 use Rattle.hart_threads.specs.declared.loops.Why.TheVariants as whys
 
-takes_whose : (found left : Bus) (d d' : PartView BusTurn) → TakesBus found left d d' → d'.who ≡ d.who
-takes_whose found left d d' takes = ap (λ (p : PartView BusTurn). p.who) takes.1
+takes_whose : (turn : BusTurn) (d d' : PartView BusTurn) → Takes turn d d' → d'.who ≡ d.who
+takes_whose turn d d' takes = ap (λ (p : PartView BusTurn). p.who) takes.1
 
 same_whose : (d d' : PartView BusTurn) → d' ≡ d → d'.who ≡ d.who
 same_whose d d' same = ap (λ (p : PartView BusTurn). p.who) same
 
 -- ---- one turn
-steps_whose : (ready : Ready) (d d' : PartView BusTurn) (found left : List ℕ) → TurnsBus ready d d' found left → d'.who ≡ d.who
+pub steps_whose : (ready : Ready) (d d' : PartView BusTurn) (found left : List ℕ) → TurnsBus ready d d' found left → d'.who ≡ d.who
 steps_whose readies.Idle d d' found left p = same_whose d d' p
 steps_whose readies.Woke d d' found left p = same_whose d d' p
 steps_whose (readies.Enters a o) d d' found left p = same_whose d d' p
-steps_whose (readies.Steps pending) d d' found left p = takes_whose p.0 p.1 d d' p.2
+steps_whose (readies.Steps pending) d d' found left p = takes_whose (bus_turn p.0 p.1) d d' p.2
 
 comes_whose : (size : Size) (did : Turned) (a b : Seated) (word : Word) (told : Option (ℕ × Entry)) → ComesOnce size did a b word told → b.took.who ≡ a.took.who
 comes_whose size (Made did) a b word told p = ap (λ (x : Seated). x.took.who) p.0
-comes_whose size Durable a b word told p = takes_whose p.3.0 p.3.1 a.took b.took p.3.2
+comes_whose size Durable a b word told p = takes_whose (call_turn (held_call a.hart b.hart word) p.3.0 p.3.1) a.took b.took p.3.2
 
 own_whose : (size : Size) (a b : Seated) (word : Word) (told : Option (ℕ × Entry)) → OwnOnce size a b word told → b.took.who ≡ a.took.who
 own_whose size a b word told p = comes_whose size p.2 p.3 b word told p.5 ∙ steps_whose p.4.0 a.took p.3.took p.0 p.1 p.7
 
 turned_whose : (doze : Option Doze) (size : Size) (a b : Seated) (word : Word) (told : Option (ℕ × Entry)) → TurnOnceBy doze size a b word told → b.took.who ≡ a.took.who
 turned_whose None size a b word told p = own_whose size a b word told p
-turned_whose (Some d) size a b word told p = takes_whose p.0.0 p.0.1 a.took b.took p.0.2
+turned_whose (Some d) size a b word told p = takes_whose (bus_turn p.0.0 p.0.1) a.took b.took p.0.2
 
-turn_whose : (size : Size) (a b : Seated) (word : Word) (told : Option (ℕ × Entry)) → TurnOnce size a b word told → b.took.who ≡ a.took.who
+pub turn_whose : (size : Size) (a b : Seated) (word : Word) (told : Option (ℕ × Entry)) → TurnOnce size a b word told → b.took.who ≡ a.took.who
 turn_whose size a b word told p = turned_whose a.doze size a b word told p
 
 -- ---- a loop

@@ -106,13 +106,13 @@ pub record Seated : Type 0 where
 abbrev pub seated : ArchState → Known → Option Doze → PartView BusTurn → Seated
 seated s k doze took = record { hart = s; known = k; doze = doze; took = took }
 
--- what comes of what the hart did: a durable call is made, and has the receipt of its command where that was
--- acknowledged; anything else is the turn's word
+-- what comes of what the hart did: a durable call is made, which the hart's part of the history has as that of this hart with this answer,
+-- and it has the receipt of its command where that was acknowledged; anything else is the turn's word
 abbrev pub ComesOnce : Size → Turned → Seated → Seated → Word → Option (ℕ × Entry) → Type 0
 ComesOnce size Durable a b word told =
     HeldOnce size (call_of a.hart) a.hart b.hart a.known b.known word
     × IsToldBy size (call_of a.hart) a.hart.id word told
-    × IsDozeBy size (call_of a.hart) a.hart.id word b.doze × CallsBus word b.doze a.took b.took
+    × IsDozeBy size (call_of a.hart) a.hart.id word b.doze × CallsBus a.hart b.hart word b.doze a.took b.took
 ComesOnce size (Made did) a b word told = (b ≡ a) × (word ≡ Goes did) × (told ≡ None)
 
 -- a turn of a hart that does not doze, with the memory as its one hold of the bus found it and as it left it, which its part of the

@@ -1,18 +1,28 @@
 //! What is done with the bus of a board on threads, hold by hold.
 
 ghost use Rattle.std.specs.Prelude.{◌≡◌, suc, ◌∷◌, ◌+◌, [], IsTrue, is_some, length};
-ghost use Rattle.hart_threads.specs.Bused.{bus_turn, part_in};
+ghost use Rattle.hart_threads.specs.Bused.{Takes, call_turn, held_call, part_in};
 ghost use Rattle.tallies.specs.Books.{keeper_view, no_book, told_after};
 
+use hart::Hart;
+use sbi::Word;
 use std::marker::{Brand, PhantomData};
 use susp::Bus;
 use tallies::{Adding, Book, BookPart, Journal, Keeper};
 
-/// What was done in one hold of a bus: the bus as it was found, and as it was left. It stands in contracts alone, and no value of this
-/// type is ever made.
+/// A durable call: the hart that asked, as it stood at its call and as it was answered, and what its turn tells of it.
+pub struct HeldCall {
+    pub asked: Hart,
+    pub answered: Hart,
+    pub word: Word,
+}
+
+/// What was done in one hold of a bus: the bus as it was found, and as it was left, and the durable call for which it was held. It stands
+/// in contracts alone, and no value of this type is ever made.
 pub struct BusTurn {
     pub found: Bus,
     pub left: Bus,
+    pub call: Option<HeldCall>,
 }
 
 impl Adding<BusTurn> for Brand {
@@ -32,6 +42,25 @@ impl Remembers for Brand {
     ghost use Rattle.hart_threads.specs.Bused.{begun_bus};
 
     ghost found = { begun_bus [] };
+}
+
+/// The same of a durable call, with the hart as it stood there.
+pub(crate) trait RemembersCall {
+    ghost use Rattle.hart.specs.State.{ArchState};
+    ghost use Rattle.susp.specs.declared.buses.Bus.{Bus};
+
+    ghost bus: { Bus };
+
+    ghost asked: { ArchState };
+}
+
+impl RemembersCall for Brand {
+    ghost use Rattle.hart.specs.State.{never_started};
+    ghost use Rattle.hart_threads.specs.Bused.{begun_bus};
+
+    ghost bus = { begun_bus [] };
+
+    ghost asked = { never_started 0 };
 }
 
 /// The name of the history of the bus in the life J. It has a part for the store, one for the console and one for each hart, in this
@@ -90,30 +119,70 @@ pub(crate) fn held_part<J: Journal>(part: Option<BusPart<J>>) -> BusPart<J>
     part
 }
 
-/// Notes for that part a hold of the bus that left it as it was.
-pub(crate) fn note_look<J: Journal>(
+/// Notes a durable call of that hart, which was answered so: for the part of the hart, and directly after it, for that of the store, that it
+/// looked for this call.
+pub(crate) fn note_call<A: RemembersCall, J: Journal>(
     book: &BusBook<J>,
     keeper: &mut BusKeeper<J>,
-    part: BusPart<J>,
+    parts: CallParts<J>,
     bus: &Bus,
-) -> BusPart<J>
-    ensures keeper { keeper.new ≡ keeper_view (J.size.harts + 2) ((part.who, bus_turn bus.now bus.now) ∷ keeper.old.log) keeper.old.parts }
-    ensures part { result ≡ told_after (suc (length keeper.old.log)) (bus_turn bus.now bus.now) part }
+    hart: &Hart,
+    word: Word,
+) -> CallParts<J>
+    ensures keeper { keeper.new ≡ keeper_view (J.size.harts + 2)
+        ((parts.store.who, call_turn (held_call A.asked hart.now word) bus.now bus.now)
+        ∷ (parts.caller.who, call_turn (held_call A.asked hart.now word) A.bus bus.now) ∷ keeper.old.log) keeper.old.parts }
+    ensures caller { Takes (call_turn (held_call A.asked hart.now word) A.bus bus.now) parts.caller result.caller }
+    ensures store { Takes (call_turn (held_call A.asked hart.now word) bus.now bus.now) parts.store result.store }
 {
-    note_turn::<Brand, J>(book, keeper, part, bus)
+    let CallParts { caller, store } = parts;
+    let caller = note_asked::<A, J>(book, keeper, caller, bus, hart, word);
+    let store = note_look::<A, J>(book, keeper, store, bus, hart, word);
+    CallParts { caller, store }
 }
 
-/// Notes for that part the hold of the bus that A names. The bus is an argument only so that the name can speak of it.
-#[inline(always)]
-pub(crate) fn note_turn<A: Adding<BusTurn>, J: Journal>(
+/// Notes for that part the durable call of that hart.
+fn note_asked<A: RemembersCall, J: Journal>(
     book: &BusBook<J>,
     keeper: &mut BusKeeper<J>,
     part: BusPart<J>,
     bus: &Bus,
+    hart: &Hart,
+    word: Word,
+) -> BusPart<J>
+    ensures keeper { keeper.new ≡ keeper_view (J.size.harts + 2)
+        ((part.who, call_turn (held_call A.asked hart.now word) A.bus bus.now) ∷ keeper.old.log) keeper.old.parts }
+    ensures part { Takes (call_turn (held_call A.asked hart.now word) A.bus bus.now) part result }
+{
+    note_turn::<Brand, J, _>(book, keeper, part, &(bus, hart, word))
+}
+
+/// Notes for that part a look for the durable call of that hart.
+fn note_look<A: RemembersCall, J: Journal>(
+    book: &BusBook<J>,
+    keeper: &mut BusKeeper<J>,
+    part: BusPart<J>,
+    bus: &Bus,
+    hart: &Hart,
+    word: Word,
+) -> BusPart<J>
+    ensures keeper { keeper.new ≡ keeper_view (J.size.harts + 2)
+        ((part.who, call_turn (held_call A.asked hart.now word) bus.now bus.now) ∷ keeper.old.log) keeper.old.parts }
+    ensures part { Takes (call_turn (held_call A.asked hart.now word) bus.now bus.now) part result }
+{
+    note_turn::<Brand, J, _>(book, keeper, part, &(bus, hart, word))
+}
+
+/// Notes for that part the hold of the bus that A names. The values are an argument only so that the name can speak of them.
+#[inline(always)]
+pub(crate) fn note_turn<A: Adding<BusTurn>, J: Journal, T>(
+    book: &BusBook<J>,
+    keeper: &mut BusKeeper<J>,
+    part: BusPart<J>,
+    _values: &T,
 ) -> BusPart<J>
     ensures keeper { keeper.new ≡ keeper_view (J.size.harts + 2) ((part.who, A.entry) ∷ keeper.old.log) keeper.old.parts }
     ensures part { result ≡ told_after (suc (length keeper.old.log)) A.entry part }
 {
-    let _ = bus;
     book.note_as::<A>(keeper, part)
 }

@@ -10,14 +10,15 @@ ghost use Rattle.sbi.specs.Helds.{MakesHeld};
 ghost use Rattle.sbi.specs.Words.{stage_told};
 ghost use Rattle.sbi_abi.specs.Calls.{call_of};
 ghost use Rattle.sbi_calls.specs.Both.{AreSeatsOfBoth, GivesBack, Acts, harts_of_both, known};
-ghost use Rattle.store.specs.Views.{life_of};
+ghost use Rattle.store.specs.Views.{life_of, size_of_store};
 ghost use Rattle.susp.specs.Dozes.{can_wake, after_wake};
 ghost use Rattle.hart_threads.specs.Dozes.{doze_left, is_woken};
 ghost use Rattle.hart_threads.specs.Heard.{after_waking};
-ghost use Rattle.hart_threads.specs.Bused.{AreSaved, Made, IsCalled, TakesBus, begun_bus};
+ghost use Rattle.hart_threads.specs.Bused.{AreSaved, HasCalls, IsCalled, Made, Takes, TakesBus, begun_bus, call_turn, held_call, part_of_hart};
 
 use crate::bus_turns::{
-    BusBook, BusKeeper, BusPart, BusTurn, CallParts, Remembers, held_part, note_look, note_turn,
+    BusBook, BusKeeper, BusPart, BusTurn, CallParts, Remembers, RemembersCall, held_part,
+    note_call, note_turn,
 };
 use crate::heard::Heard;
 use board_model::{HartId, Refusal};
@@ -34,7 +35,7 @@ use tallies::{Journal, NewBook};
 
 /// The memory of a board on threads, and its doze where it sleeps to RAM, of the life J. Each hold of it in which
 /// something is done is noted in its history, in the part of the holder: so it is what the turns of that history made, one after another,
-/// of the bus that J's boot left.
+/// of the bus that J's boot left. A durable call of a hart is noted as that, and directly after it that the store looked for this very call.
 ///
 /// A type keeps that, and a lock keeps its value's type. Nothing reaches the memory or the doze but the calls of this type
 /// and `SharedStore::call`.
@@ -44,6 +45,7 @@ pub struct SharedBus<J: Journal> {
     book: BusBook<J>,
     keeper: BusKeeper<J>,
     ghost made: { Made keeper.log (begun_bus J.memory) bus },
+    ghost calls: { HasCalls keeper.log },
 }
 
 /// The doze that stays on the bus once a look told that.
@@ -97,10 +99,11 @@ impl<J: Journal> SharedBus<J> {
         self.book.gather(&mut self.keeper, part);
     }
 
-    /// Ends the history. Its turns made what the bus is, one after another, of what the boot left. Each part that is back was told just
-    /// what the history has of it, and each turn is of one of the parts.
+    /// Ends the history. Its turns made what the bus is, one after another, of what the boot left. Directly after each durable call of a
+    /// hart the store looked for it. Each part that is back was told just what the history has of it, and each turn is of one of the parts.
     pub fn close(self)
         ensures made { Made (bus_log self) (begun_bus J.memory) (bus_in self) }
+        ensures calls { HasCalls (bus_log self) }
         ensures told { Each (IsPart (bus_log self)) (bus_parts self) }
         ensures of { Each (λ e. e.0 < J.size.harts + 2) (bus_log self) }
     {
@@ -129,7 +132,7 @@ impl<J: Journal> SharedBus<J> {
         ensures noted { TakesBus (bus_in self.old) (bus_in self.new) part result.1 }
     {
         let outcome = hart.step(&mut self.bus.ram, pending);
-        let part = note_turn::<Brand, J>(&self.book, &mut self.keeper, part, &self.bus);
+        let part = note_turn::<Brand, J, _>(&self.book, &mut self.keeper, part, &self.bus);
         (outcome, part)
     }
 
@@ -154,7 +157,7 @@ impl<J: Journal> SharedBus<J> {
         let _ = tables;
         let woken = is_woken(&self.bus.doze, by);
         self.bus.doze = doze_left(woken, self.bus.doze);
-        let part = note_turn::<Brand, J>(&self.book, &mut self.keeper, part, &self.bus);
+        let part = note_turn::<Brand, J, _>(&self.book, &mut self.keeper, part, &self.bus);
         (woken, part)
     }
 
@@ -170,15 +173,15 @@ impl<J: Journal> SharedBus<J> {
     {
         wake(&mut self.bus)?;
         let part = held_part(heard.run.take());
-        let part = note_turn::<Brand, J>(&self.book, &mut self.keeper, part, &self.bus);
+        let part = note_turn::<Brand, J, _>(&self.book, &mut self.keeper, part, &self.bus);
         heard.run = Some(part);
         heard.woken = heard.woken.wrapping_add(1);
         Ok(())
     }
 
     /// The durable call at which a hart stands, as `dispatch_held` with this bus and that store. The memory stays; and a
-    /// suspension carries it. The call is noted in the part of the hart, and directly after it a look in that of the store.
-    pub(crate) fn call<A: Remembers, D: Disk + Drop, C: Crew>(
+    /// suspension carries it. The call is noted in the part of the hart, and directly after it a look for it in that of the store.
+    pub(crate) fn call<A: RemembersCall, D: Disk + Drop, C: Crew>(
         &mut self,
         saving: Saving<'_, C>,
         hart: &mut Hart,
@@ -187,25 +190,34 @@ impl<J: Journal> SharedBus<J> {
         store: &mut Store<D>,
         parts: CallParts<J>,
     ) -> (Seats, Word, CallParts<J>)
-        requires before { A.found ≡ bus_in self.old }
+        requires before { A.bus ≡ bus_in self.old }
+        requires asked { A.asked ≡ hart.old }
         requires seats { AreSeatsOfBoth tables.now seats }
         requires acts { Acts hart.old.id Running seats }
         requires hart { hart.old.id < harts_of_both tables.now }
-        requires saved { AreSaved (life_of store.old) parts.store }
+        requires board { size_of_store store.old ≡ J.size }
+        requires caller { parts.caller.who ≡ part_of_hart hart.old.id }
+        requires saved { AreSaved J.size (life_of store.old) parts.store }
         ensures gives { GivesBack tables.entry.now hart.old.id seats result.0 }
         ensures acts { Acts hart.old.id (stage_told result.1) result.0 }
         ensures id { hart.new.id ≡ hart.old.id }
         ensures makes { MakesHeld (harts_of_both tables.entry.now) (call_of hart.old) hart.old hart.new
             (known seats) (known result.0) (bus_in self.old) (bus_in self.new) store.old store.new result.1 }
         ensures memory { (bus_in self.new).ram ≡ (bus_in self.old).ram }
-        ensures saved { AreSaved (life_of store.new) result.2.store }
+        ensures saved { AreSaved J.size (life_of store.new) result.2.store }
         ensures called { IsCalled result.1 (bus_in self.old) (bus_in self.new) }
-        ensures noted { TakesBus (bus_in self.old) (bus_in self.new) parts.caller result.2.caller }
+        ensures noted { Takes (call_turn (held_call hart.old hart.new result.1) (bus_in self.old) (bus_in self.new))
+            parts.caller result.2.caller }
     {
         let (seats, word) = dispatch_held(saving, hart, seats, tables, &mut self.bus, store);
-        let CallParts { caller, store: own } = parts;
-        let caller = note_turn::<Brand, J>(&self.book, &mut self.keeper, caller, &self.bus);
-        let own = note_look(&self.book, &mut self.keeper, own, &self.bus);
-        (seats, word, CallParts { caller, store: own })
+        let parts = note_call::<Brand, J>(
+            &self.book,
+            &mut self.keeper,
+            parts,
+            &self.bus,
+            hart,
+            word,
+        );
+        (seats, word, parts)
     }
 }

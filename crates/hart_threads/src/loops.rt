@@ -3,6 +3,7 @@
 ghost use Rattle.std.specs.Prelude.{◌≡◌, ◌≤◌, ℕ, [], true, false, is_some};
 ghost use Rattle.std.specs.Option.{option_to_list};
 ghost use Rattle.sbi_calls.specs.Both.{AreTablesOf, GivesBack, known};
+ghost use Rattle.hart_threads.specs.Bused.{part_of_hart};
 ghost use Rattle.hart_threads.specs.Locks.{no_locks};
 ghost use Rattle.hart_threads.specs.Noted.{part_after};
 ghost use Rattle.hart_threads.specs.Seated.{IsSeated, StandsAfter};
@@ -99,7 +100,8 @@ impl<J: Threaded> HartRun<J> {
 /// one that ended the life. No lock is held then, and none is taken but in a turn that the gate let begin.
 ///
 /// Each turn makes just its own steps on the tables and gives what those found, whatever other threads do; a
-/// step of a STARTED hart is one hold of the bus, and a durable call one of the bus and then of the store.
+/// step of a STARTED hart is one hold of the bus, and a durable call one of the bus and then of the store, which the hart's part of the
+/// history of the bus has as its call, with its answer.
 /// Nothing is claimed of when a turn is made, nor that a lock is ever had.
 ///
 /// A turn of a hart that dozes is one hold of the bus, which tells only whether the board was woken: until then it is
@@ -120,6 +122,7 @@ pub fn hart_loop<'c, R: Wait, G: Gate, D: Disk + Drop, J: Threaded, C: Crew>(
     requires board { board.shape.now ≡ J.size }
     requires seated { IsSeated board.tables.now hart.id local.seats local.doze }
     requires fresh { local.part.told ≡ [] }
+    requires run { local.run.who ≡ part_of_hart hart.id }
     requires turns { turns ≡ J.turns }
     requires gated { (h n : ℕ) → G.answers gate.now h n false → J.gated ≡ true }
     requires free { locks ≡ no_locks }

@@ -1,7 +1,7 @@
 //! What a turn of a hart on its thread takes a lock for: a step, and a durable call.
 
 ghost use Rattle.std.specs.Prelude.{◌≡◌, ◌<◌, [], IsTrue, is_some};
-ghost use Rattle.hart_threads.specs.Bused.{CallsBus, StepsBus, part_in};
+ghost use Rattle.hart_threads.specs.Bused.{CallsBus, StepsBus, part_in, part_of_hart};
 ghost use Rattle.hsm.specs.declared.view.Stage.TheVariants.{Running};
 ghost use Rattle.sbi_abi.specs.Calls.{call_of};
 ghost use Rattle.sbi_calls.specs.Both.{AreTablesOf, AreSeatsOfBoth, GivesBack, Acts, known};
@@ -65,6 +65,7 @@ impl<J: Threaded> HartLocal<J> {
         requires acts { Acts hart.old.id Running self.seats }
         requires hart { hart.old.id < board.shape.now.harts }
         requires board { board.shape.now ≡ J.size }
+        requires run { self.run.who ≡ part_of_hart hart.old.id }
         ensures gives { GivesBack board.entry.tables.now hart.old.id self.seats result.local.seats }
         ensures acts { Acts hart.old.id (stage_told result.word) result.local.seats }
         ensures id { hart.new.id ≡ hart.old.id }
@@ -73,7 +74,7 @@ impl<J: Threaded> HartLocal<J> {
         ensures once { HeldOnce board.entry.shape.now (call_of hart.old) hart.old hart.new (known self.seats)
             (known result.local.seats) result.word }
         ensures doze { IsDozeBy board.entry.shape.now (call_of hart.old) hart.old.id result.word result.local.doze }
-        ensures took { CallsBus result.word result.local.doze self.run result.local.run }
+        ensures took { CallsBus hart.old hart.new result.word result.local.doze self.run result.local.run }
     {
         let HartLocal {
             seats,
@@ -117,6 +118,7 @@ pub(crate) fn call_locked<R: Wait, D: Disk + Drop, J: Threaded, C: Crew>(
     requires board { board.shape.now ≡ J.size }
     requires acts { Acts hart.old.id Running local.seats }
     requires free { locks.old ≡ no_locks }
+    requires run { local.run.who ≡ part_of_hart hart.old.id }
     ensures free { locks.new ≡ no_locks }
     ensures gives { GivesBack board.entry.tables.now hart.old.id local.seats result.local.seats }
     ensures acts { Acts hart.old.id (stage_told result.word) result.local.seats }
@@ -126,7 +128,7 @@ pub(crate) fn call_locked<R: Wait, D: Disk + Drop, J: Threaded, C: Crew>(
     ensures once { HeldOnce board.entry.shape.now (call_of hart.old) hart.old hart.new (known local.seats)
         (known result.local.seats) result.word }
     ensures doze { IsDozeBy board.entry.shape.now (call_of hart.old) hart.old.id result.word result.local.doze }
-    ensures took { CallsBus result.word result.local.doze local.run result.local.run }
+    ensures took { CallsBus hart.old hart.new result.word result.local.doze local.run result.local.run }
 {
     let mut guard = locks.take_bus(rt);
     let bus = &mut *guard;

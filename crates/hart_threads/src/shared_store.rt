@@ -15,7 +15,7 @@ ghost use Rattle.tallies.specs.Books.{entries_of};
 ghost use Rattle.hart_threads.specs.Doubts.{newly_down};
 ghost use Rattle.hart_threads.specs.Noted.{entries_in, part_after, part_by};
 ghost use Rattle.hart_threads.specs.Heard.{after_look, heard_by};
-ghost use Rattle.hart_threads.specs.Bused.{AreSaved, IsCalled, TakesBus, part_in};
+ghost use Rattle.hart_threads.specs.Bused.{AreSaved, IsCalled, Takes, call_turn, held_call, part_in, part_of_hart};
 ghost use Rattle.hart_threads.specs.Called.{IsToldBy, IsLastOf};
 ghost use Rattle.hart_threads.specs.Legal.{BeginsWith, IsNamed, MayAnswer, MayShow, number_told};
 ghost use Rattle.hart_threads.specs.Since.{AreKept, moments_after, moments_told};
@@ -39,8 +39,8 @@ use tallies::{Book, BookPart, Journal, Keeper};
 
 /// A store whose journal is J's: its open found what J says, its board has that size, its journal begins with
 /// what the boot issued, and its state now is what the journal makes of what was found. The table of commands
-/// (docs/DURABLE.md) refuses none of them, one after another. Each suspension of it carries a memory
-/// that the store found on the bus. At each moment since its boot was over, within a command and within a call of its disk too, a
+/// (docs/DURABLE.md) refuses none of them, one after another. Each suspension of it carries the memory
+/// that the store found on the bus as it looked for the call that asked for it. At each moment since its boot was over, within a command and within a call of its disk too, a
 /// crash has left what some first commands of the journal make, all of those among them of which a receipt had been made by
 /// then, or these and the one in doubt.
 ///
@@ -60,7 +60,7 @@ pub struct SharedStore<D: Disk + Drop, J: Journal> {
     ghost named: { IsNamed J.found J.size store },
     ghost issued: { BeginsWith J.issued (journal_of store) },
     ghost there: { IsTrue (is_some run) },
-    ghost saved: { AreSaved (life_of store) (part_in run) },
+    ghost saved: { AreSaved J.size (life_of store) (part_in run) },
     ghost counted: { count ≡ receipts store },
     ghost few: { count ≤ 4096 },
     ghost tied: { entries_in (journal_of store) ≡ entries_of keeper.log },
@@ -177,7 +177,8 @@ impl<D: Disk + Drop, J: Journal> SharedStore<D, J> {
 
     /// The durable call at which a hart stands, as `dispatch_held` with that bus, and the receipt of its command, where that
     /// was acknowledged: then the life is over. A suspension carries the memory of the bus, which stays. A doze adds no
-    /// command, and has no receipt.
+    /// command, and has no receipt. It is noted in the hart's part of the history of the bus as that hart's call with that answer, and
+    /// nothing else is noted so.
     pub fn call<C: Crew>(
         &mut self,
         saving: Saving<'_, C>,
@@ -197,6 +198,7 @@ impl<D: Disk + Drop, J: Journal> SharedStore<D, J> {
         requires seats { AreSeatsOfBoth tables.now seats }
         requires acts { Acts hart.old.id Running seats }
         requires hart { hart.old.id < harts_of_both tables.now }
+        requires run { run.who ≡ part_of_hart hart.old.id }
         ensures gives { GivesBack tables.entry.now hart.old.id seats result.0 }
         ensures acts { Acts hart.old.id (stage_told result.1) result.0 }
         ensures id { hart.new.id ≡ hart.old.id }
@@ -210,7 +212,7 @@ impl<D: Disk + Drop, J: Journal> SharedStore<D, J> {
         ensures moments { moments_in self.new
             ≡ moments_told result.2 (disk_of (store_in self.new)).moment (moments_in self.old) }
         ensures called { IsCalled result.1 (bus_in bus.old) (bus_in bus.new) }
-        ensures took { TakesBus (bus_in bus.old) (bus_in bus.new) run result.4 }
+        ensures took { Takes (call_turn (held_call hart.old hart.new result.1) (bus_in bus.old) (bus_in bus.new)) run result.4 }
     {
         let was_up = is_up(&self.store);
         let own = held_part(self.run.take());

@@ -5,6 +5,7 @@ ghost use Rattle.hsm.specs.declared.view.Stage.TheVariants.{Running};
 ghost use Rattle.sbi_calls.specs.Both.{AreTablesOf, AreSeatsOfBoth, Acts, GivesBack, known};
 ghost use Rattle.sbi_calls.specs.declared.words.Turned.TheVariants.{Durable};
 ghost use Rattle.machine.specs.Held.{RestsBy};
+ghost use Rattle.hart_threads.specs.Bused.{part_of_hart};
 ghost use Rattle.hart_threads.specs.Locks.{no_locks};
 ghost use Rattle.hart_threads.specs.Noted.{part_after};
 ghost use Rattle.hart_threads.specs.Seated.{IsSeated, StandsAfterTurn};
@@ -109,6 +110,7 @@ fn came_of<R: Wait, D: Disk + Drop, J: Threaded, C: Crew>(
     requires hart { hart.old.id < board.shape.now.harts }
     requires rests { RestsBy local.doze hart.old.id local.seats }
     requires asks { turned ≡ Durable → Acts hart.old.id Running local.seats }
+    requires run { local.run.who ≡ part_of_hart hart.old.id }
     requires free { locks.old ≡ no_locks }
     ensures free { locks.new ≡ no_locks }
     ensures gives { GivesBack board.entry.tables.now hart.old.id local.seats result.local.seats }
@@ -141,6 +143,7 @@ fn own_turn<'a, R: Wait, D: Disk + Drop, J: Threaded, C: Crew>(
     requires tables { AreTablesOf board.shape.now board.tables.now }
     requires board { board.shape.now ≡ J.size }
     requires seated { IsSeated board.tables.now hart.old.id local.seats None }
+    requires run { local.run.who ≡ part_of_hart hart.old.id }
     requires free { locks ≡ no_locks }
     ensures free { result.1 ≡ no_locks }
     ensures gives { GivesBack board.entry.tables.now hart.old.id local.seats result.0.local.seats }
@@ -231,6 +234,7 @@ pub(crate) fn whole_turn<'a, R: Wait, D: Disk + Drop, J: Threaded, C: Crew>(
     requires tables { AreTablesOf board.shape.now board.tables.now }
     requires board { board.shape.now ≡ J.size }
     requires seated { IsSeated board.tables.now hart.old.id local.seats local.doze }
+    requires run { local.run.who ≡ part_of_hart hart.old.id }
     requires allowed { allowed.0 ≡ hart.old.id }
     ensures gives { GivesBack board.entry.tables.now hart.old.id local.seats result.0.local.seats }
     ensures stands { StandsAfterTurn result.0.word result.0.local.doze hart.old.id result.0.local.seats }

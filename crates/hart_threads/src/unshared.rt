@@ -9,14 +9,13 @@ ghost use Rattle.tallies.specs.Books.{entries_of, fresh_from};
 ghost use Rattle.tallies.specs.Closed.{AreStanding, AreReceiptsOf, told_in};
 ghost use Rattle.tallies.specs.BookViews.{id_of, parts_of};
 ghost use Rattle.store.specs.Taken.{are_taken};
-ghost use Rattle.hart_threads.specs.Bused.{AreSaved, AreWakes, WasTold, part_in};
+ghost use Rattle.hart_threads.specs.Bused.{AreSaved, AreWakes, IsSavedIn, part_in};
 ghost use Rattle.hart_threads.specs.Called.{IsLastOf};
 ghost use Rattle.hart_threads.specs.declared.bus_turns.BusTurn.{BusTurn as TurnView};
 ghost use Rattle.hart_threads.specs.Doubts.{IsDoubtOf};
 ghost use Rattle.hart_threads.specs.Heard.{heard_nothing};
 ghost use Rattle.hart_threads.specs.Legal.{BeginsWith, IsNamed};
 ghost use Rattle.hart_threads.specs.Noted.{boot_told, entries_in};
-ghost use Rattle.hart_threads.specs.Carried.{IsCarriedBy};
 ghost use Rattle.hart_threads.specs.Since.{AreKept};
 
 use crate::bus_turns::{BusPart, held_part};
@@ -46,7 +45,7 @@ pub struct Unshared<D: Disk + Drop, J: Journal> {
     pub ghost named: { IsNamed J.found J.size store },
     pub ghost issued: { BeginsWith J.issued (journal_of store) },
     pub ghost there: { IsTrue (is_some run) },
-    pub ghost saved: { AreSaved (life_of store) (part_in run) },
+    pub ghost saved: { AreSaved J.size (life_of store) (part_in run) },
     pub ghost counted: { count ≡ receipts store },
     pub ghost few: { count ≤ 4096 },
     pub ghost tied: { entries_in (journal_of store) ≡ entries_of keeper.log },
@@ -74,7 +73,7 @@ impl<D: Disk + Drop, J: Journal> Unshared<D, J> {
         requires issued { journal_of store ≡ J.issued }
         requires taken { are_taken J.found J.issued ≡ true }
         requires few { length J.issued ≤ 4096 }
-        requires unsaved { (told : List (ℕ × TurnView)) → IsCarriedBy (WasTold told) (life_of store) }
+        requires unsaved { (told : List (ℕ × TurnView)) → IsSavedIn J.size told (life_of store) }
         requires bus { bus_parts bus.old ≡ fresh_from 0 (J.size.harts + 2) }
         requires book { id_of book ≡ J.book }
         requires parts { parts_of book ≡ J.parts }
@@ -190,7 +189,8 @@ impl<D: Disk + Drop, J: Journal> Unshared<D, J> {
     /// command at the place of its receipt; and where all parts are back, their receipts are those of the journal's
     /// commands, one for each. What its console heard is back too: where a command is in doubt, it was the console's, which
     /// was told 6 for it, or a durable call of a hart asks for it. The moments at which its receipts were made come with it, and what the
-    /// store and the console did with the bus: each suspension of the life carries a memory that the store found there.
+    /// store and the console did with the bus: each suspension of the life carries the memory that the store found there as it looked for
+    /// the call that asked for it.
     pub fn close(self, heard: Heard<J>) -> (Store<D>, Moments, (BusPart<J>, BusPart<J>))
         ensures named { IsNamed J.found J.size result.0 }
         ensures issued { BeginsWith J.issued (journal_of result.0) }
@@ -203,7 +203,7 @@ impl<D: Disk + Drop, J: Journal> Unshared<D, J> {
         ensures moments { result.1.at ≡ moments_with self }
         ensures kept { AreKept J.size J.found J.earlier J.moment (length J.issued) (journal_of result.0)
             (doubt_of result.0) (disk_of result.0) result.1.at }
-        ensures saved { AreSaved (life_of result.0) result.2.0 }
+        ensures saved { AreSaved J.size (life_of result.0) result.2.0 }
         ensures woken { AreWakes heard.woken result.2.1 }
     {
         let Unshared {

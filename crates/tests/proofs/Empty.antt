@@ -7,8 +7,8 @@ use Rattle.hart_threads.proofs.Carrying.{none_carry}
 use Rattle.store.specs.Lives.{Life}
 use Rattle.susp.specs.declared.buses.Bus.{Bus}
 
-pub none_carried : (P : List ℕ → Type 0) (life : Life) → life.journal ≡ [] → life.doubt ≡ None → IsCarriedBy P life
-none_carried P life empty up = record {
+pub none_carried : (P Q : ℕ → ℕ → ℕ → List ℕ → Type 0) (life : Life) → life.journal ≡ [] → life.doubt ≡ None → IsCarriedBy P Q life
+none_carried P Q life empty up = record {
   journal = subst (λ (cs : List Change). AllCarry P cs) (sym empty) (none_carry P);
   doubt = λ c e. let no : ⊥ = cc in absurd no;
 }

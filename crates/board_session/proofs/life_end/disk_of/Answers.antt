@@ -52,7 +52,7 @@ returns-clause-life g c = λ back.
 
 pub returns-clause-saved : goal.returns-clause-saved
 returns-clause-saved g c =
-    subst (λ x. AreSaved (life_of x) c.close-store.result.2.0) (c.close-store.ensures.same ∙ c.gather_last.ensures.store) c.close-store.ensures.saved
+    subst (λ x. AreSaved g.J.Journal.size (life_of x) c.close-store.result.2.0) (c.close-store.ensures.same ∙ c.gather_last.ensures.store) c.close-store.ensures.saved
 
 pub returns-clause-woken : goal.returns-clause-woken
 returns-clause-woken g c = c.close-store.ensures.woken

@@ -9,4 +9,4 @@ pub returns : goal.returns
 returns g c =
     let bus = c.gather-2.new.self in
     let parts = c.gather-2.ensures.parts ∙ ap (λ (ds : List (PartView BusTurn)). c.args.runs.1 ∷ ds) c.gather.ensures.parts in
-    (bus_log bus, record { left = bus_in bus; made = c.close.ensures.made; told = subst (λ (ds : List (PartView BusTurn)). Each (IsPart (bus_log bus)) ds) parts c.close.ensures.told; of = c.close.ensures.of })
+    (bus_log bus, record { left = bus_in bus; made = c.close.ensures.made; calls = c.close.ensures.calls; told = subst (λ (ds : List (PartView BusTurn)). Each (IsPart (bus_log bus)) ds) parts c.close.ensures.told; of = c.close.ensures.of })

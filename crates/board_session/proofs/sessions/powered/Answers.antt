@@ -67,7 +67,7 @@ returns-in-Ok-power_on-clause-issued g c =
 
 pub returns-in-Ok-power_on-clause-unsaved : goal.returns-in-Ok-power_on-clause-unsaved
 returns-in-Ok-power_on-clause-unsaved g c =
-    life_carried (λ memory. ⊥) c.args.options.now.mode (life_of (store_of c.in-Ok-power_on.board)) c.in-Ok-power_on.ensures.on.life
+    life_carried (λ hart address opaque memory. ⊥) (λ hart address opaque memory. ⊥) c.args.options.now.mode (life_of (store_of c.in-Ok-power_on.board)) c.in-Ok-power_on.ensures.on.life
 
 pub returns-in-Ok-power_on-clause-up : goal.returns-in-Ok-power_on-clause-up
 returns-in-Ok-power_on-clause-up g c =

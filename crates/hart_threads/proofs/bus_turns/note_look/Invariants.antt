@@ -1,5 +1,7 @@
-use Rattle.hart_threads.specs.Bused.{bus_turn}
+use Rattle.hart_threads.specs.Bused.{call_turn, held_call}
 use Rattle.hart_threads.proofs.bus_turns.note_look.Given as goal
 
 abbrev pub ghosts-note_turn : goal.ghosts-note_turn
-ghosts-note_turn g a = record { entry = bus_turn a.bus.now a.bus.now }
+ghosts-note_turn g a =
+    let of = a._values.now in
+    record { entry = call_turn (held_call g.A.RemembersCall.asked of.1.now of.2) of.0.now of.0.now }

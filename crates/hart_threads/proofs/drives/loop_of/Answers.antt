@@ -1,4 +1,4 @@
-use Rattle.std.proofs.Common.{◌∙◌, sym, subst}
+use Rattle.std.proofs.Common.{◌∙◌, ap, sym, subst}
 use Rattle.std.proofs.Math.Logic.{∥∥₁_map}
 use Rattle.sbi_calls.specs.Both.{known}
 use Rattle.hart_threads.specs.Begun.{BeginsAs}
@@ -17,3 +17,6 @@ at_rest-requires-clause-gone g c =
     let loop = c.hart_loop-ended in
     ∥∥₁_map w.begins (λ begins. has_gone m _ (g.G.Gate.answers gate a.hart.id) (g.G.Gate.hears gate a.hart.id) g.J.Threaded.turns w.turns loop.result.made a.hart.id _ _ _ _ (w.named ∙ sym c.of_loop.ensures.shape) w.given loop.ensures.id
     (subst (λ (d : PartView BusTurn). BeginsAs m a.hart.id (seated a.hart (known a.seats) a.doze d)) (sym w.numbered) begins) loop.ensures.once)
+
+pub hart_loop-ended-requires-clause-run : goal.hart_loop-ended-requires-clause-run
+hart_loop-ended-requires-clause-run g c κs within = ap (λ (d : PartView BusTurn). d.who) c.args.work.numbered

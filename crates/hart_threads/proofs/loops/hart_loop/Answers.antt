@@ -2,6 +2,7 @@ use Rattle.std.proofs.Common.{◌≡◌, ℕ, ◌+◌, true, false, arith, ap, r
 use Rattle.std.specs.Prelude.{None}
 use Rattle.hart.specs.State.{ArchState}
 use Rattle.sbi_calls.specs.Both.{GivesBack, known}
+use Rattle.hart_threads.specs.Bused.{part_of_hart}
 use Rattle.hart_threads.specs.Noted.{part_after}
 use Rattle.turns.proofs.Begun.{gives_then}
 use Rattle.hart_threads.specs.Seated.{IsSeated, StandsAfterTurn, StandsAfter}
@@ -10,6 +11,7 @@ use Rattle.hart_threads.specs.declared.loops.Why.TheVariants as whys
 use Rattle.hart_threads.proofs.Looping.{gives_none, rests_on, stands_over, one_more, ended_life, kept_part}
 use Rattle.hart_threads.proofs.Ending.{few_asked, as_often, once_more, asked_before, as_it_was, as_both_were, seated_as, said_so, turn_told, none_noted, one_noted}
 use Rattle.hart_threads.proofs.Told.{equals}
+use Rattle.hart_threads.proofs.Whose.{turn_whose}
 use Rattle.hart_threads.proofs.loops.hart_loop.Goals as goal
 
 pub loop-made-init : goal.loop-made-init
@@ -20,6 +22,7 @@ loop-made-init g c = record {
   part = refl;
   turns = refl;
   asked = c.none.ensures;
+  whose = c.requires.run;
   free = c.requires.free;
 }
 
@@ -40,6 +43,7 @@ loop-made-preserved g c =
       turns = one_more c.args.board.shape.now (g.G.Gate.answers gate by) (g.G.Gate.hears gate by) c.loop-made.made (seated c.args.hart (known c.args.local.seats) c.args.local.doze c.args.local.run) (seated r.hart (known r.local.seats) r.local.doze r.local.run) (seated t.new.hart (known b.seats) b.doze b.run) t.result.0.word t.result.0.told i.turns t.ensures.once on said heard;
       asked = c.in-Ok.ensures ∙ ap (λ (n : ℕ). n + 1) i.asked;
       free = c.tell-locks.ensures.free;
+      whose = turn_whose c.args.board.shape.now (seated r.hart (known r.local.seats) r.local.doze r.local.run) (seated t.new.hart (known b.seats) b.doze b.run) t.result.0.word t.result.0.told t.ensures.once ∙ i.whose;
     }
 
 pub whole_turn-end-requires-clause-seated : goal.whole_turn-end-requires-clause-seated
@@ -52,6 +56,9 @@ look-requires-clause-free g c κs within = c.loop-made.invariant.free
 
 pub whole_turn-end-requires-clause-tables : goal.whole_turn-end-requires-clause-tables
 whole_turn-end-requires-clause-tables g c κs within = c.requires.tables
+
+pub whole_turn-end-requires-clause-run : goal.whole_turn-end-requires-clause-run
+whole_turn-end-requires-clause-run g c κs within = c.loop-made.invariant.whose ∙ ap part_of_hart (sym c.loop-made.invariant.id)
 
 pub whole_turn-end-requires-clause-board : goal.whole_turn-end-requires-clause-board
 whole_turn-end-requires-clause-board g c κs within = c.requires.board

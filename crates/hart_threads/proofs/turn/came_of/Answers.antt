@@ -41,6 +41,9 @@ call_locked-requires-clause-acts g c κs within = c.requires.asks c.in-Durable.i
 pub call_locked-requires-clause-free : goal.call_locked-requires-clause-free
 call_locked-requires-clause-free g c κs within = c.requires.free
 
+pub call_locked-requires-clause-run : goal.call_locked-requires-clause-run
+call_locked-requires-clause-run g c κs within = c.requires.run
+
 pub returns-in-Durable-clause-free : goal.returns-in-Durable-clause-free
 returns-in-Durable-clause-free g c = c.call_locked.ensures.free
 

@@ -7,9 +7,10 @@ use Rattle.turns.proofs.Begun.{gives_then}
 use Rattle.hart_threads.specs.Seated.{StandsAfterTurn}
 use Rattle.hart_threads.specs.Threads.{seated}
 use Rattle.tallies.specs.declared.book_views.PartView.{PartView}
-use Rattle.hart_threads.specs.Bused.{TurnsBus, part_in}
+use Rattle.hart_threads.specs.Bused.{TurnsBus, part_in, part_of_hart}
 use Rattle.hart_threads.specs.declared.bus_turns.BusTurn.{BusTurn}
 use Rattle.hart_threads.proofs.Bussing.{turned_bus}
+use Rattle.hart_threads.proofs.Whose.{steps_whose}
 use Rattle.hart_threads.proofs.turn.own_turn.Goals as goal
 
 pub turn_by_bus-seats-requires-clause-hart : goal.turn_by_bus-seats-requires-clause-hart
@@ -18,6 +19,14 @@ turn_by_bus-seats-requires-clause-hart g c = subst (λ (n : ℕ). c.args.hart.no
 pub came_of-end-requires-clause-hart : goal.came_of-end-requires-clause-hart
 came_of-end-requires-clause-hart g c κs within =
     subst (λ (k : ℕ). k < c.args.board.shape.now.harts) (sym c.turn_by_bus-seats.ensures.id) (subst (λ (n : ℕ). c.args.hart.now.id < n) c.requires.tables c.requires.seated.1)
+
+-- the part is still that of the hart
+pub came_of-end-requires-clause-run : goal.came_of-end-requires-clause-run
+came_of-end-requires-clause-run g c κs within =
+    let t = c.turn_by_bus-seats in
+    let turn = t.ensures.turns in
+    let took = turned_bus c.args.board.shape.now c.args.hart.now t.new.hart turn.0 turn.1 (known c.args.local.seats) (known t.result.0) t.result.1 c.args.local.run (part_in t.new.bus.run) _ _ turn.2 turn.3 (λ same. ap (λ b. part_in b.run) same) in
+    ap (λ (d : PartView BusTurn). d.who) c.held_part-run.ensures ∙ steps_whose turn.2.0 c.args.local.run (part_in t.new.bus.run) turn.0 turn.1 took ∙ c.requires.run ∙ ap part_of_hart (sym t.ensures.id)
 
 pub came_of-end-requires-clause-rests : goal.came_of-end-requires-clause-rests
 came_of-end-requires-clause-rests g c κs within = subst (λ (k : ℕ). RestsBy None k c.turn_by_bus-seats.result.0) (sym c.turn_by_bus-seats.ensures.id) c.turn_by_bus-seats.ensures.rests

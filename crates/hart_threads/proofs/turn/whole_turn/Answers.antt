@@ -31,6 +31,9 @@ returns-clause-once g c =
 pub own_turn-end-requires-clause-tables : goal.own_turn-end-requires-clause-tables
 own_turn-end-requires-clause-tables g c κs within = c.requires.tables
 
+pub own_turn-end-requires-clause-run : goal.own_turn-end-requires-clause-run
+own_turn-end-requires-clause-run g c κs within = c.requires.run
+
 pub own_turn-end-requires-clause-board : goal.own_turn-end-requires-clause-board
 own_turn-end-requires-clause-board g c κs within = c.requires.board
 

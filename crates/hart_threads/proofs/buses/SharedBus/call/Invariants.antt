@@ -1,5 +1,4 @@
-use Rattle.hart_threads.specs.Bused.{bus_turn}
 use Rattle.hart_threads.proofs.buses.SharedBus.call.Given as goal
 
-abbrev pub ghosts-note_turn : goal.ghosts-note_turn
-ghosts-note_turn g a = record { entry = bus_turn g.A.Remembers.found a.bus.now }
+abbrev pub ghosts-note_call : goal.ghosts-note_call
+ghosts-note_call g a = record { bus = g.A.RemembersCall.bus; asked = g.A.RemembersCall.asked }

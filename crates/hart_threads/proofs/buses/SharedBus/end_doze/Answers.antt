@@ -2,7 +2,7 @@ use Rattle.std.proofs.Common.{◌+◌, ◌∙◌, suc, length, refl, ap}
 use Rattle.susp.specs.declared.buses.Bus.{Bus}
 use Rattle.tallies.specs.Books.{told_after}
 use Rattle.hart_threads.specs.Bused.{begun_bus, bus_turn}
-use Rattle.hart_threads.proofs.Bussing.{more}
+use Rattle.hart_threads.proofs.Bussing.{calls_more, more}
 use Rattle.hart_threads.proofs.buses.SharedBus.end_doze.Goals as goal
 
 pub invariant_of-self : goal.invariant_of-self
@@ -11,6 +11,7 @@ invariant_of-self g c =
     let left : Bus = record { ram = old.bus.ram; doze = c.doze_left-self.result } in
     record {
       made = more (g.J.Journal.size.harts + 2) c.args.part.who (bus_turn g.A.Remembers.found left) old.keeper.log old.keeper.parts c.note_turn-part.new.keeper (begun_bus g.J.Journal.memory) old.bus left old.made c.requires.before refl c.note_turn-part.ensures.keeper;
+      calls = calls_more (g.J.Journal.size.harts + 2) c.args.part.who (bus_turn g.A.Remembers.found left) old.keeper.log old.keeper.parts c.note_turn-part.new.keeper old.calls refl c.note_turn-part.ensures.keeper;
     }
 
 pub returns-clause-noted : goal.returns-clause-noted

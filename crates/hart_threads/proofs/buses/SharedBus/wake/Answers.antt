@@ -5,7 +5,7 @@ use Rattle.tallies.specs.Books.{told_after}
 use Rattle.tallies.specs.declared.book_views.PartView.{PartView}
 use Rattle.hart_threads.specs.Bused.{AreWakes, Made, begun_bus, bus_turn, part_in}
 use Rattle.hart_threads.specs.declared.bus_turns.BusTurn.{BusTurn}
-use Rattle.hart_threads.proofs.Bussing.{more}
+use Rattle.hart_threads.proofs.Bussing.{calls_more, more}
 use Rattle.hart_threads.proofs.Waking.{holds_part, holds_some, woken_more}
 use Rattle.hart_threads.proofs.buses.SharedBus.wake.Goals as goal
 
@@ -18,6 +18,7 @@ invariant_of-self-2 g c =
     let left = c.wake.new.bus in
     record {
       made = more (g.J.Journal.size.harts + 2) c.held_part-part.result.who (bus_turn g.A.Remembers.found left) old.keeper.log old.keeper.parts c.note_turn-part.new.keeper (begun_bus g.J.Journal.memory) old.bus left old.made c.requires.before refl c.note_turn-part.ensures.keeper;
+      calls = calls_more (g.J.Journal.size.harts + 2) c.held_part-part.result.who (bus_turn g.A.Remembers.found left) old.keeper.log old.keeper.parts c.note_turn-part.new.keeper old.calls refl c.note_turn-part.ensures.keeper;
     }
 
 -- a board that was not woken stays as it was
@@ -26,6 +27,7 @@ invariant_of-self g c =
     let old = c.args.self.now in
     record {
       made = subst (λ (b : Bus). Made old.keeper.log (begun_bus g.J.Journal.memory) b) (sym c.in_err-wake.ensures.refused.1) old.made;
+      calls = old.calls;
     }
 
 pub invariant_of-heard : goal.invariant_of-heard

@@ -24,3 +24,6 @@ pub returns-clause-took : goal.returns-clause-took
 returns-clause-took g c =
     let d = c.call-seats in
     (_, _, d.ensures.took, d.ensures.called, c.doze_by-doze.ensures ∙ ap (λ (o : Option Doze). doze_by d.result.1 o) c.doze-found.ensures)
+
+pub call-seats-requires-clause-run : goal.call-seats-requires-clause-run
+call-seats-requires-clause-run g c κs within = c.requires.run

@@ -133,4 +133,10 @@ returns-in-Goes-clause-moments g c = refl
 pub call-seats-requires-clause-saved : goal.call-seats-requires-clause-saved
 call-seats-requires-clause-saved g c κs within =
     let own = c.held_part-own.ensures ∙ ap (λ (o : Option (PartView BusTurn)). part_in o) c.take.ensures.value in
-    subst (λ (d : PartView BusTurn). AreSaved (life_of c.args.self.now.store) d) (sym own) c.args.self.now.saved
+    subst (λ (d : PartView BusTurn). AreSaved g.J.Journal.size (life_of c.args.self.now.store) d) (sym own) c.args.self.now.saved
+
+pub call-seats-requires-clause-board : goal.call-seats-requires-clause-board
+call-seats-requires-clause-board g c κs within = c.args.self.now.named.board
+
+pub call-seats-requires-clause-caller : goal.call-seats-requires-clause-caller
+call-seats-requires-clause-caller g c κs within = c.requires.run
