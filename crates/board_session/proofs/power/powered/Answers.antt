@@ -6,7 +6,7 @@ use Rattle.store.specs.Views.{view_of, life_of, disk_of, size_of_store, found_st
 use Rattle.board.specs.Views.{store_of, machine_of}
 use Rattle.board.specs.PowersOn.{IsUnpowered}
 use Rattle.board_session.proofs.Powering.{begins, life_carried, life_few, life_issued, life_taken, life_up, booted, format_refuses, kept_off, refuses_disk, runs_over}
-use Rattle.board_session.proofs.sessions.powered.Goals as goal
+use Rattle.board_session.proofs.power.powered.Goals as goal
 
 pub returns-in-Err-clause-refused : goal.returns-in-Err-clause-refused
 returns-in-Err-clause-refused g c =

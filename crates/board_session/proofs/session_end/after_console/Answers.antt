@@ -6,7 +6,7 @@ use Rattle.store.specs.Views.{journal_of, life_of}
 use Rattle.board_session.specs.Histories.{harts_after}
 use Rattle.board_session.proofs.Historied.{EndedBy, all_ends_by, history_of}
 use Rattle.board_session.proofs.Lasting.{all_over}
-use Rattle.board_session.proofs.sessions.after_console.Goals as goal
+use Rattle.board_session.proofs.session_end.after_console.Goals as goal
 
 pub ends_of-harts-requires-clause-none : goal.ends_of-harts-requires-clause-none
 ends_of-harts-requires-clause-none g c κs within = c.requires.none

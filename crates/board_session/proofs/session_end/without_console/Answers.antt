@@ -5,7 +5,7 @@ use Rattle.hart_threads.specs.Views.{bus_parts, inside}
 use Rattle.store.specs.Views.{doubt_of, journal_of, life_of}
 use Rattle.board_session.specs.Sessions.{IsOfLife}
 use Rattle.board_session.proofs.Historied.{history_of}
-use Rattle.board_session.proofs.sessions.without_console.Goals as goal
+use Rattle.board_session.proofs.session_end.without_console.Goals as goal
 
 pub disk_of-disk-requires-clause-harts : goal.disk_of-disk-requires-clause-harts
 disk_of-disk-requires-clause-harts g c κs within =
