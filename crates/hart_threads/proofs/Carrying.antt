@@ -46,9 +46,6 @@ command_carries P (commands.Tries n boots) = λ hart address opaque memory e. le
 command_carries P commands.Good = λ hart address opaque memory e. let no : ⊥ = cc in absurd no
 command_carries P commands.Attempt = λ hart address opaque memory e. let no : ⊥ = cc in absurd no
 
-reset_carries : (P : ℕ → ℕ → ℕ → List ℕ → Type 0) (cause : Reason) → Carries P (Reset cause)
-reset_carries P cause = command_carries P (commands.Reset cause)
-
 -- that of a suspension does, and any of another command
 OfSleep : (ℕ → ℕ → ℕ → List ℕ → Type 0) → Change → Type 0
 OfSleep P (Suspend hart address opaque memory) = P hart address opaque memory
