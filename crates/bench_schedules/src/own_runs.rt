@@ -9,8 +9,8 @@ ghost use Rattle.bench_report.specs.Lives.{IsSound, Shows};
 ghost use Rattle.bench_schedules.specs.RunSoFar.{RunSoFar};
 ghost use Rattle.bench_schedules.specs.Schedules.{RanOwn, other_answer};
 
+use crate::drawn_orders::{generator, schedule};
 use crate::line_runs::{end_run, is_other, run_line};
-use crate::schedules::{generator, schedule};
 use crate::stretches::Stretches;
 use bench_report::{Answer, LiveBench, Setting};
 use board::Payloads;

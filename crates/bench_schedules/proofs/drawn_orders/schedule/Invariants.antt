@@ -1,6 +1,6 @@
 use Rattle.std.proofs.Common.{◌≤◌, ◌+◌, ◌++◌, length}
 use Rattle.bench_schedules.specs.Orders.{IsOrderFor}
-use Rattle.bench_schedules.proofs.schedules.schedule.Given as goal
+use Rattle.bench_schedules.proofs.drawn_orders.schedule.Given as goal
 
 abbrev pub invariant-loop-rest : goal.invariant-loop-rest
 invariant-loop-rest g l = record {

@@ -3,7 +3,7 @@ use Rattle.rand_core.specs.Steps.{steps_u64_high, stream_of}
 use Rattle.rand_core.specs.Stream.{Stream, next_u64}
 use Rattle.rand_xoshiro.specs.Xoshiro256.{plus_plus}
 use Rattle.bench_schedules.specs.Generators.{seeded}
-use Rattle.bench_schedules.proofs.schedules.generator.Goals as goal
+use Rattle.bench_schedules.proofs.drawn_orders.generator.Goals as goal
 
 -- the first word of a generator is that of its state
 first_word : (state : List ℕ) (word : ℕ) (left : Stream) → (word, left) ≡ next_u64 (stream_of (steps_u64_high plus_plus) state) → word ≡ (plus_plus state).0

@@ -2,7 +2,7 @@ use Rattle.std.proofs.Common.{arith, take}
 use Rattle.std.proofs.lemmas.List.{length-take-le}
 use Rattle.bench_schedules.proofs.Parts.{row_takes_place}
 use Rattle.std.proofs.lemmas.Result.{IfOk-from_err}
-use Rattle.bench_schedules.proofs.schedules.add_next.Goals as goal
+use Rattle.bench_schedules.proofs.drawn_orders.add_next.Goals as goal
 
 pub returns-clause-added : goal.returns-clause-added
 returns-clause-added g c =

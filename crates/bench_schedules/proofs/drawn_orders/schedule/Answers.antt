@@ -1,6 +1,6 @@
 use Rattle.bench_schedules.proofs.Parts.{part_added, part_few}
 use Rattle.std.proofs.lemmas.Result.{IfOk-from_err}
-use Rattle.bench_schedules.proofs.schedules.schedule.Goals as goal
+use Rattle.bench_schedules.proofs.drawn_orders.schedule.Goals as goal
 
 pub loop-rest-preserved : goal.loop-rest-preserved
 loop-rest-preserved g c =
