@@ -1,5 +1,5 @@
 -- A run that stops before a board is made: its refusal, and no disk.
-use Rattle.std.proofs.Common.{◌≡◌, ◌∙◌, ◌⊎◌, None, Result, Err, IfOk, IfErr, MatchResult, inl, inr, refl, sym, ap, subst}
+use Rattle.std.proofs.Common.{◌≡◌, ◌∙◌, ◌⊎◌, None, Result, Ok, Err, IfOk, IfErr, MatchResult, inl, inr, refl, sym, ap, subst}
 use Rattle.std.specs.Option.{IfSome}
 use Rattle.std.specs.Result.{IsErrAnd}
 use Rattle.std.proofs.lemmas.Result.{err_from_is_err_and}
@@ -12,6 +12,10 @@ use Rattle.bench_report.specs.declared.runs.StoppedRun.{StoppedRun}
 
 same_fault : (read : Result Script Refusal) (e d : Refusal) → read ≡ Err e → read ≡ Err d → e ≡ d
 same_fault read e d one two = cc
+
+-- a script that was read has no fault
+pub no_fault : (read : Result Script Refusal) (script : Script) (e : Refusal) → read ≡ Ok script → read ≡ Err e → ⊥
+no_fault read script e ok err = cc
 
 module _ (r : Result (Report × SimDisk) StoppedRun) (e : Refusal) (is : IsErrAnd r (λ s. s ≡ record { refusal = e; disk = None })) where
   abbrev stop : StoppedRun

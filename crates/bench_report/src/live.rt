@@ -92,21 +92,35 @@ fn after_line<C: Crew>(
 
 impl LiveBench {
     /// The bench before its first line: a blank disk of the size that the board needs, and these payloads.
-    pub fn blank(alloc: Global, shape: &Shape, begins: &Payloads) -> Result<LiveBench, AllocError>
-        ensures shows { IfOk result (λ live. Shows shape.now (bench_with begins.now) live) }
+    pub(crate) fn blank_with(
+        alloc: Global,
+        shape: &Shape,
+        payloads: Payloads,
+    ) -> Result<LiveBench, AllocError>
+        ensures shows { IfOk result (λ live. Shows shape.now (bench_with payloads) live) }
         ensures sound { IfOk result (λ live. IsSound live) }
         ensures fill { IfOk result (λ live. live.fill ≡ fills.Old) }
         ensures memory { IfOk result (λ live. live.refused ≡ false) }
     {
         blank_disks::<SimDisk>();
         let disk = SimDisk::blank(alloc, shape.sectors())?;
-        let payloads = begins.copy()?;
         Ok(LiveBench {
             power: Power::Off(OffDisk { disk }),
             payloads,
             fill: Fill::Old,
             refused: false,
         })
+    }
+
+    /// The bench before its first line, with a copy of these payloads.
+    pub fn blank(alloc: Global, shape: &Shape, begins: &Payloads) -> Result<LiveBench, AllocError>
+        ensures shows { IfOk result (λ live. Shows shape.now (bench_with begins.now) live) }
+        ensures sound { IfOk result (λ live. IsSound live) }
+        ensures fill { IfOk result (λ live. live.fill ≡ fills.Old) }
+        ensures memory { IfOk result (λ live. live.refused ≡ false) }
+    {
+        let payloads = begins.copy()?;
+        LiveBench::blank_with(alloc, shape, payloads)
     }
 
     /// Runs a line, with the cut that a line before it may have armed: where that strikes within the line, the answer is

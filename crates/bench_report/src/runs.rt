@@ -1,17 +1,15 @@
 //! Whole scripts.
-//! A law runs nothing, and tells the prover a fact: `blank_disks`.
 
-ghost use Rattle.std.specs.Prelude.{◌≡◌, ◌⊎◌, ◌+◌, ◌++◌, ◌<◌, ◌≤◌, length, take, Option, Result, ℕ, List, All, IfOk, IfErr, IfSome, OnErr, OnOk, Ok, Err, None, MatchResult};
+ghost use Rattle.std.specs.Prelude.{◌≡◌, ◌⊎◌, ◌∷◌, [], ◌≤◌, length, take, Option, Result, ℕ, List, All, IfOk, IfErr, IfSome, OnErr, OnOk, Ok, Err, None, MatchResult};
 ghost use Rattle.script_lang.specs.Lines.{IsLineInRange};
 ghost use Rattle.script_lang.specs.Scripts.{script_of, Script as Said};
-ghost use Rattle.script_lang.specs.Views.{view};
 ghost use Rattle.store.specs.Leaves.{IsIdle};
-ghost use Rattle.bench_report.specs.Reports.{AreByFirmware, IsReport, IsReportWith, IsCutShort, IsCutShortWith};
+ghost use Rattle.bench_report.specs.Reports.{AreByFirmware, board_answer, IsReport, IsReportWith, IsCutShort, IsCutShortWith};
 ghost use Rattle.bench_report.specs.Counts.{Reported};
 ghost use Rattle.bench_report.specs.Prefix.{KeepsPrefixLaw};
 ghost use Rattle.bench_report.specs.Bench.{Bench, bench_with};
 ghost use Rattle.bench_report.specs.Views.{facts};
-ghost use Rattle.bench_report.specs.Agree.{OffIs, fills_after};
+ghost use Rattle.bench_report.specs.Agree.{OffIs};
 ghost use Rattle.bench_report.specs.Lives.{IsSound, Shows};
 ghost use Rattle.bench_report.specs.Laws.{KeepsLaws};
 ghost use Rattle.bench_report.specs.declared.printed.Answer.{Answer};
@@ -20,18 +18,17 @@ ghost use Rattle.bench_report.specs.Happens.{off};
 ghost use Rattle.bench_report.specs.Steps.{Run};
 
 use crate::live::LiveBench;
-use crate::power::{OffDisk, Power};
-use crate::printed::{Answer, Printed};
+use crate::printed::Printed;
 use crate::report::{Report, add};
 use crate::setting::Setting;
+use crate::steps::says;
 use board::Payloads;
-use board_model::{Refusal, unwritten};
+use board_model::{Refusal, Shape, unwritten};
 use crew::Crew;
-use script_lang::{Line, Script, parse_script};
-use simdisk::{Fill, SimDisk};
+use script_lang::{Line, parse_script};
+use simdisk::SimDisk;
 use std::alloc::{AllocError, Global};
 use std::io::{self, Write};
-use store::blank_disks;
 
 /// A run that stopped before the end of its script.
 #[derive(Drop)]
@@ -64,87 +61,44 @@ impl From<AllocError> for StoppedRun {
     }
 }
 
+/// Begins a report, by what the board line answers.
+fn begin<W: Write>(alloc: Global, shape: &Shape, out: &mut W) -> io::Result<Report>
+    ensures ok { IfOk result (λ report. Reported (W.contents out.old) (W.contents out.new) report (board_answer shape.now ∷ [])) }
+    ensures lines { IfOk result (λ report. report.lines ≤ 2) }
+{
+    let mut report = Report {
+        lines: 0,
+        found: Vec::new(alloc),
+    };
+    let line = Printed::Board(shape.harts(), shape.pages(), shape.lanes(), shape.sectors());
+    add(out, &mut report, &says(line))?;
+    Ok(report)
+}
+
 /// Runs the lines after the board line, up to the first that is refused, which may have been run.
 fn run_lines<C: Crew, W: Write>(
     setting: &Setting<'_, C>,
     lines: &[Line],
     bench: &mut LiveBench,
     out: &mut W,
-    report: &mut Report,
-) -> io::Result<()>
+) -> io::Result<Report>
     requires few { length lines.now ≤ 65535 }
     requires ranges { All (IsLineInRange setting.now.shape.now) lines.now }
-    requires first { report.old.lines ≤ 1 }
     requires sound { IsSound bench.old }
-    ensures fill { OnOk result (bench.new.fill ≡ fills_after lines.now bench.old.fill) }
-    ensures ok { OnOk result ((b : Bench) → Shows setting.now.shape.now b bench.old
+    ensures ok { IfOk result (λ report. (b : Bench) → Shows setting.now.shape.now b bench.old
         → (answers : List Answer) × (new : Bench) × Run setting.now.shape.now b lines.now answers new
         × Shows setting.now.shape.now new bench.new
-        × ((before : List Answer) (start : Option (List ℕ)) → Reported start (W.contents out.old) report.old before
-        → Reported start (W.contents out.new) report.new (before ++ answers))) }
+        × Reported (W.contents out.old) (W.contents out.new) report (board_answer setting.now.shape.now ∷ answers)) }
     ensures stopped { OnErr result ((b : Bench) → Shows setting.now.shape.now b bench.old
         → (n : ℕ) × (answers : List Answer) × (new : Bench) × Run setting.now.shape.now b (take n lines.now) answers new
         × Shows setting.now.shape.now new bench.new) }
-    ensures sound { IsSound bench.new }
 {
+    let mut report = begin(setting.alloc, setting.shape, out)?;
     for line in lines {
         let answer = bench.run(setting, line)?;
-        add(out, report, &answer)?;
+        add(out, &mut report, &answer)?;
     }
-    Ok(())
-}
-
-/// Runs a script that begins with these payloads, over a blank disk of the size that its board needs.
-fn run_script<C: Crew, W: Write>(
-    alloc: Global,
-    script: &Script,
-    crew: &C,
-    disk: SimDisk,
-    payloads: Payloads,
-    out: &mut W,
-) -> (SimDisk, io::Result<Report>)
-    requires few { length script.now.lines.items ≤ 65535 }
-    requires ranges { All (IsLineInRange script.now.shape) script.now.lines.items }
-    requires blank { OffIs script.now.shape (bench_with payloads) disk }
-    requires idle { IsIdle (facts disk) }
-    ensures report { IfOk result.1 (λ report. (answers : List Answer) × (end : Bench)
-        × IsReportWith payloads (view script.now) answers end
-        × Reported (W.contents out.old) (W.contents out.new) report answers × OffIs script.now.shape (off end) result.0
-        × KeepsLaws (view script.now) answers (facts result.0)) }
-    ensures stopped { OnErr result.1
-        ((answers : List Answer) × (end : Bench) × IsCutShortWith payloads (view script.now) answers end
-        × OffIs script.now.shape (off end) result.0) }
-    ensures idle { IsIdle (facts result.0) }
-{
-    let shape = script.shape;
-    let mut report = Report {
-        lines: 0,
-        found: Vec::new(alloc),
-    };
-    let board = Answer {
-        found: None,
-        line: Printed::Board(shape.harts(), shape.pages(), shape.lanes(), shape.sectors()),
-    };
-    if let Err(error) = add(out, &mut report, &board) {
-        return (disk, Err(error));
-    }
-    let mut bench = LiveBench {
-        power: Power::Off(OffDisk { disk }),
-        payloads,
-        fill: Fill::Old,
-        refused: false,
-    };
-    let setting = Setting {
-        alloc,
-        crew,
-        shape: &shape,
-    };
-    let ran = run_lines(&setting, &script.lines, &mut bench, out, &mut report);
-    let left = bench.into_disk();
-    match ran {
-        Ok(()) => (left, Ok(report)),
-        Err(error) => (left, Err(error)),
-    }
+    Ok(report)
 }
 
 /// Runs a script that begins with these payloads: a slot boots its own until a line `payload` says otherwise. Writes
@@ -187,11 +141,17 @@ pub fn run_left_with<C: Crew, W: Write>(
     ensures given { IfErr result (λ s. s.disk ≡ None → W.contents out.new ≡ W.contents out.old) }
 {
     let script = parse_script(alloc, script)?;
-    blank_disks::<SimDisk>();
-    let disk = SimDisk::blank(alloc, script.shape.sectors())?;
-    match run_script(alloc, &script, crew, disk, payloads, out) {
-        (left, Ok(report)) => Ok((report, left)),
-        (left, Err(error)) => Err(StoppedRun {
+    let mut bench = LiveBench::blank_with(alloc, &script.shape, payloads)?;
+    let setting = Setting {
+        alloc,
+        crew,
+        shape: &script.shape,
+    };
+    let ran = run_lines(&setting, &script.lines, &mut bench, out);
+    let left = bench.into_disk();
+    match ran {
+        Ok(report) => Ok((report, left)),
+        Err(error) => Err(StoppedRun {
             refusal: unwritten(error),
             disk: Some(left),
         }),

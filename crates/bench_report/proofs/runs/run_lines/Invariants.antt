@@ -1,8 +1,8 @@
-use Rattle.std.proofs.Common.{◌≡◌, ℕ, ◌+◌, ◌*◌, ◌≤◌, List, ◌++◌, Option, take}
+use Rattle.std.proofs.Common.{ℕ, ◌+◌, ◌*◌, ◌≤◌, List, ◌∷◌, take}
 use Rattle.bench_report.specs.declared.printed.Answer.{Answer}
 use Rattle.bench_report.specs.Bench.{Bench}
+use Rattle.bench_report.specs.Reports.{board_answer}
 use Rattle.bench_report.specs.Steps.{Run}
-use Rattle.bench_report.specs.Agree.{fills_after}
 use Rattle.bench_report.specs.Lives.{IsSound, Shows}
 use Rattle.bench_report.specs.Counts.{Reported}
 use Rattle.bench_report.proofs.runs.run_lines.Given as goal
@@ -10,9 +10,8 @@ use Rattle.bench_report.proofs.runs.run_lines.Given as goal
 -- the lines so far ran, and were written
 abbrev pub invariant-loop-line : goal.invariant-loop-line
 invariant-loop-line g l = record {
-  few : l.report.lines ≤ 1 + 2 * l.line-index;
-  fill : l.bench.fill ≡ fills_after (take l.line-index l.lines) l.fn.bench.fill;
+  few : l.report.lines ≤ 2 + 2 * l.line-index;
   sound : IsSound l.bench;
   reported : (b : Bench) → Shows l.setting.shape.now b l.fn.bench → (answers : List Answer) × (now : Bench) × Run l.setting.shape.now b (take l.line-index l.lines) answers now × Shows l.setting.shape.now now l.bench
-      × ((before : List Answer) (start : Option (List ℕ)) → Reported start (g.W.Write.contents l.fn.out) l.fn.report before → Reported start (g.W.Write.contents l.out) l.report (before ++ answers));
+      × Reported (g.W.Write.contents l.fn.out) (g.W.Write.contents l.out) l.report (board_answer l.setting.shape.now ∷ answers);
 }
