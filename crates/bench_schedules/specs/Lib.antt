@@ -11,7 +11,6 @@ pub mod Told
 -- A line that ran, against the script's own run.
 pub mod Compared
 pub mod RunSoFar
-pub mod GoingOn
 pub mod Numbers
 pub mod Schedules
 -- What the runs stand on, and what several threads write of them.

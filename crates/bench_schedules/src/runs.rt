@@ -1,11 +1,12 @@
 //! The run of one schedule.
 
-ghost use Rattle.std.specs.Prelude.{◌≡◌, ◌+◌, ◌<◌, ◌≤◌, length, true, All, IfErr, IfOk};
+ghost use Rattle.std.specs.Prelude.{◌≡◌, ◌<◌, ℕ, List, length, true, All, IfErr, IfOk, OnOk};
 ghost use Rattle.script_lang.specs.Lines.{IsLineInRange};
 ghost use Rattle.bench_schedules.specs.Orders.{is_other, other_count};
-ghost use Rattle.bench_report.specs.Lives.{IsSound};
+ghost use Rattle.bench_report.specs.Bench.{bench_with};
+ghost use Rattle.bench_report.specs.Lives.{IsSound, Shows};
 ghost use Rattle.bench_schedules.specs.Compared.{IsDifference, IsNextPlace};
-ghost use Rattle.bench_schedules.specs.GoingOn.{EndsSo, WentSo};
+ghost use Rattle.bench_schedules.specs.RunSoFar.{WentLike};
 ghost use Rattle.bench_schedules.specs.Schedules.{RanLike};
 
 use crate::line_runs::{end_run, is_other, run_line};
@@ -52,56 +53,30 @@ fn next_place(
     })
 }
 
-/// A run that answered as the script's own run so far, or that ended where it did not.
-#[derive(Drop)]
-pub struct RunUnderWay {
-    pub live: LiveBench,
-    /// How many answers of the own run it gave.
-    pub place: usize,
-}
-
-/// Runs lines on, up to the first that answers other than in the script's own run; `turn` lines are not compared. Answers where that
+/// Runs lines up to the first that answers other than in the script's own run; `turn` lines are not compared. Answers where that
 /// is.
-pub fn go_on<C: Crew>(
+fn run_lines<C: Crew>(
     setting: &Setting<'_, C>,
     lines: &[Line],
     own: &[Answer],
-    going: &mut RunUnderWay,
+    live: &mut LiveBench,
 ) -> Result<Option<Difference>, AllocError>
     requires ranges { All (IsLineInRange setting.now.shape.now) lines.now }
-    requires sound { IsSound going.old.live }
-    requires count { going.old.place + other_count lines.now ≤ length own.now }
-    ensures went { IfOk result (WentSo setting.now.shape.now lines.now own.now going.old going.new) }
+    requires sound { IsSound live.old }
+    requires count { length own.now ≡ other_count lines.now }
+    ensures sound { OnOk result (IsSound live.new) }
+    ensures went { IfOk result (λ differs. (start : List (List ℕ)) → Shows setting.now.shape.now (bench_with start) live.old
+        → WentLike setting.now.shape.now start lines.now own.now differs live.new) }
 {
+    let mut place = 0;
     for line in lines {
-        let answer = run_line(setting, line, &mut going.live)?;
-        match next_place(own, going.place, line, answer) {
-            Ok(next) => going.place = next,
+        let answer = run_line(setting, line, live)?;
+        match next_place(own, place, line, answer) {
+            Ok(next) => place = next,
             Err(difference) => return Ok(Some(difference)),
         }
     }
     Ok(None)
-}
-
-/// Runs lines on to the end, or up to the first that answers other than in the script's own run. Where the run
-/// was refused memory, nothing of it is told.
-pub fn run_to_end<C: Crew>(
-    setting: &Setting<'_, C>,
-    lines: &[Line],
-    own: &[Answer],
-    mut going: RunUnderWay,
-) -> Result<Option<Difference>, AllocError>
-    requires ranges { All (IsLineInRange setting.now.shape.now) lines.now }
-    requires sound { IsSound going.live }
-    requires count { going.place + other_count lines.now ≤ length own.now }
-    ensures ran { IfOk result (λ differs. EndsSo setting.now.shape.now lines.now own.now going differs) }
-{
-    let Ok(differs) = go_on(setting, lines, own, &mut going) else {
-        going.live.release();
-        return Err(AllocError);
-    };
-    end_run(going.live, setting.shape)?;
-    Ok(differs)
 }
 
 /// Runs lines, with these payloads in the slots, up to the first that answers other than in the script's own run; `turn`
@@ -116,6 +91,11 @@ pub fn run_until<C: Crew>(
     requires count { length own.now ≡ other_count lines.now }
     ensures ran { IfOk result (λ differs. RanLike setting.now.shape.now payloads.now lines.now own.now differs) }
 {
-    let live = LiveBench::blank(setting.alloc, setting.shape, payloads)?;
-    run_to_end(setting, lines, own, RunUnderWay { live, place: 0 })
+    let mut live = LiveBench::blank(setting.alloc, setting.shape, payloads)?;
+    let Ok(differs) = run_lines(setting, lines, own, &mut live) else {
+        live.release();
+        return Err(AllocError);
+    };
+    end_run(live, setting.shape)?;
+    Ok(differs)
 }

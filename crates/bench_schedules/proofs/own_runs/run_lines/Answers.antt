@@ -39,7 +39,7 @@ loop-line-preserved g c =
       goes = λ start shows.
           let P : List Answer → Type 0 = λ x. RunSoFar size (bench_with start) (take (c.loop-line.line-index + 1) c.args.lines.now) x c.run_line.new.live in
           subst P (sym kept)
-          (goes_more size (bench_with start) [] c.args.lines.now c.loop-line.line-index c.loop-line.answers.items c.loop-line.live c.run_line.new.live c.line-item.result c.in_ok-answer.answer
+          (goes_more size (bench_with start) c.args.lines.now c.loop-line.line-index c.loop-line.answers.items c.loop-line.live c.run_line.new.live c.line-item.result c.in_ok-answer.answer
           c.loop-line-test.true c.line-item.is (i.goes start shows) c.in_ok-answer.ensures.stepped);
     }
 
