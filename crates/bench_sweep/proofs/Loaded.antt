@@ -19,13 +19,8 @@ use Rattle.bench_report.specs.declared.power.Power.{Power}
 use Rattle.bench_report.specs.declared.power.Power.TheVariants.{On}
 use Rattle.bench_report.specs.declared.printed.Printed.{Printed}
 use Rattle.bench_report.specs.Views.{SimStore, SimBoard, facts, fault_state, store_now, store_size, store_facts, store_fault_state}
-use Rattle.bench_sweep.specs.Runs.{FindsState, PowerFinds, IsSpoilt}
+use Rattle.bench_sweep.specs.Runs.{FindsState, FoundSo, PowerFinds, IsSpoilt}
 use Rattle.bench_sweep.proofs.Left.{plain_is, has_none, has_loaded, fails_itself}
-
--- the state found with its memory, of a store whose image is that one
-abbrev pub FoundSo : Option Plain → Durable → SimStore → Type 0
-FoundSo plain found store =
-    (size : Size) (s : DurableState) → found ≡ durable_of s → s.image ≡ (store_now store).image → FindsState size store → (p : Plain) × (plain ≡ Some p) × (state_in p ≡ s)
 
 -- it was put together with that memory
 abbrev pub MadeOf : Option Plain → Durable → List ℕ → Type 0

@@ -200,6 +200,11 @@ pub record FindsState (size : Size) (store : SimStore) : Type 0 where
   pub whole : IsWhole size (store_now store)
   pub left : store_fault_state store ≡ fault_state_left (store_fault_state store)
 
+-- the state found with its memory, of a store whose image is that one
+abbrev pub FoundSo : Option Plain → Durable → SimStore → Type 0
+FoundSo plain found store =
+    (size : Size) (s : DurableState) → found ≡ durable_of s → s.image ≡ (store_now store).image → FindsState size store → (p : Plain) × (plain ≡ Some p) × (state_in p ≡ s)
+
 -- A state was found, which the commands that the ledger tells let an open find; and it is the one that was said.
 pub record Finds (ledger : RunLedger) (found : Option Plain) (left : Answer) : Type 0 where
   pub kept : Kept

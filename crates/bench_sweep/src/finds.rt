@@ -1,7 +1,7 @@
 //! What a run left: a power-on that keeps its image, and the judge's word of what that found.
 //! A law runs nothing, and tells the prover a fact: `whole_images_load`.
 
-ghost use Rattle.std.specs.Prelude.{◌≡◌, ◌⊎◌, ℕ, List, None, Some, IfOk, OnOk};
+ghost use Rattle.std.specs.Prelude.{◌≡◌, ◌⊎◌, ℕ, List, None, Some, true, is_some, IfOk, OnOk};
 ghost use Rattle.board_model.specs.Durable.{DurableState};
 ghost use Rattle.board_model.specs.Plains.{state_in, IsPlainOf};
 ghost use Rattle.board_model.specs.Shapes.{Size};
@@ -16,7 +16,7 @@ ghost use Rattle.bench_report.specs.Bench.{Bench};
 ghost use Rattle.bench_report.specs.Examined.{OpensOf};
 ghost use Rattle.bench_report.specs.Views.{facts, fault_state, store_in, store_now};
 ghost use Rattle.bench_sweep.specs.Made.{LooksAt};
-ghost use Rattle.bench_sweep.specs.Runs.{LeftOff, Finds, FindsState, IsJudged, IsSpoilt, PowerFinds};
+ghost use Rattle.bench_sweep.specs.Runs.{LeftOff, Finds, FoundSo, IsJudged, IsSpoilt, PowerFinds};
 
 use crate::follows::enough_memory;
 use crate::judges::Sweep;
@@ -62,6 +62,36 @@ fn store_and_ram(board: Board<SimDisk>) -> (Store<SimDisk>, Ram)
     (store, bus.ram)
 }
 
+/// Lets go of a store and its memory. That of their many parts is proved here.
+fn let_go(store: Store<SimDisk>, ram: Ram) {
+    let _both = (store, ram);
+}
+
+/// The state found, with the memory of its image, which is loaded into that RAM: none where the load was refused. Refused where the disk's
+/// record found no memory.
+fn with_memory(
+    found: &Durable,
+    mut store: Store<SimDisk>,
+    mut ram: Ram,
+) -> Result<Option<Plain>, AllocError>
+    requires image { is_some found.now.image ≡ true }
+    ensures told { IfOk result (λ plain. FoundSo plain found.now store) }
+{
+    whole_images_load::<SimDisk>();
+    // A board has as much memory as its disk's shape says.
+    if ram.pages() != store.shape().pages() {
+        let_go(store, ram);
+        return Err(AllocError);
+    }
+    match store.load_image(&mut ram) {
+        Ok(()) => {
+            let plain = plain_of(found, ram.into_bytes());
+            Ok(plain)
+        }
+        Err(_) => unloaded(store.into_disk()),
+    }
+}
+
 /// The state that the open of that board found, with the memory of its image, which is loaded into the board's own: none where
 /// the load was refused. Refused where the disk's record found no memory.
 fn loaded(
@@ -69,23 +99,14 @@ fn loaded(
     found: &Durable,
     board: Board<SimDisk>,
 ) -> Result<Option<Plain>, AllocError>
-    ensures told { IfOk result (λ plain. (size : Size) (s : DurableState) → found.now ≡ durable_of s
-        → s.image ≡ (store_now (store_in board)).image → FindsState size (store_in board)
-        → (p : State) × (plain ≡ Some p) × (state_in p ≡ s)) }
+    ensures told { IfOk result (λ plain. FoundSo plain found.now (store_in board)) }
 {
-    whole_images_load::<SimDisk>();
-    if found.image.is_none() {
-        return Ok(plain_of(found, Vec::new(alloc)));
+    let (store, ram) = store_and_ram(board);
+    if found.image.is_some() {
+        return with_memory(found, store, ram);
     }
-    let (mut store, mut ram) = store_and_ram(board);
-    // A board has as much memory as its disk's shape says.
-    if ram.pages() != store.shape().pages() {
-        return Err(AllocError);
-    }
-    match store.load_image(&mut ram) {
-        Ok(()) => Ok(plain_of(found, ram.into_bytes())),
-        Err(_) => unloaded(store.into_disk()),
-    }
+    let_go(store, ram);
+    Ok(plain_of(found, Vec::new(alloc)))
 }
 
 /// A power-on that was refused, which found no state to judge. Refused where memory was.
@@ -105,7 +126,7 @@ fn found_on(
     ensures told { IfOk result (λ plain. (size : Size) (said : Said) → PowerFinds size (On board) found said plain) }
 {
     match found {
-        None => Ok(None),
+        None => unloaded(board.into_disk()),
         Some(found) => loaded(alloc, &found, board),
     }
 }

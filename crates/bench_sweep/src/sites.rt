@@ -18,7 +18,7 @@ ghost use Rattle.bench_sweep.specs.Points.{calls_of};
 ghost use Rattle.bench_sweep.specs.Runs.{Runs, RunsAt, RunsCalm, LeftAt, RanTo, StopsOff};
 ghost use Rattle.bench_sweep.specs.Swept.{IsPlainLine};
 ghost use Rattle.bench_sweep.specs.Told.{moves_harts, powers_on};
-ghost use Rattle.bench_sweep.specs.Took.{disk_at, LineTook, RunTook};
+ghost use Rattle.bench_sweep.specs.Took.{disk_at, RunTook};
 ghost use Rattle.bench_sweep.specs.declared.points.Caller.{Caller};
 
 use crate::follows::{record_answered, record_console, record_powered};
@@ -256,8 +256,8 @@ fn run_on_power<C: Crew>(
     }
 }
 
-/// Runs one line, and the ledger follows it. An armed cut that struck within it is not made yet.
-pub fn run_line<C: Crew>(
+/// Runs a line that is no command of the console, and the ledger follows it.
+fn run_other<C: Crew>(
     setting: &Setting<'_, C>,
     line: &Line,
     going: Going,
@@ -268,36 +268,58 @@ pub fn run_line<C: Crew>(
     ensures runs { IfOk result (λ now. (b : Bench)
         → RunsCalm setting.now.shape.now b going.power going.payloads going.ledger
         → LineMoves setting.now.shape.now line.now b now.power now.payloads going.ledger now.ledger) }
-    ensures took { IfOk result (λ now. (b : Bench)
-        → RunsCalm setting.now.shape.now b going.power going.payloads going.ledger
-        → LineTook setting.now.shape.now line.now (disk_at going.power) (disk_at now.power)) }
 {
     let Going {
         power,
         mut payloads,
         mut ledger,
     } = going;
-    let power = run_on_power(setting, line, power, &mut payloads, &mut ledger)?;
-    Ok(Going {
-        power,
-        payloads,
-        ledger,
-    })
+    match run_on_power(setting, line, power, &mut payloads, &mut ledger) {
+        Ok(power) => Ok(Going {
+            power,
+            payloads,
+            ledger,
+        }),
+        Err(refusal) => Err(refusal),
+    }
 }
 
-/// Runs a line of the console, and the ledger follows it. The board stays where it is: a run of many commands would
+/// Runs a command of the console, and the ledger follows it. The board stays where it is: a run of many commands would
 /// pay for moving it more than for the commands.
 fn run_command(alloc: Global, command: ConsoleCommand, going: &mut Going) -> Result<(), AllocError>
     ensures runs { OnOk result ((size : Size) (b : Bench)
         → RunsCalm size b going.old.power going.old.payloads going.old.ledger
         → LineMoves size (lines.Command command) b going.new.power going.new.payloads going.old.ledger going.new.ledger) }
-    ensures took { OnOk result ((size : Size) (b : Bench)
-        → RunsCalm size b going.old.power going.old.payloads going.old.ledger
-        → LineTook size (lines.Command command) (disk_at going.old.power) (disk_at going.new.power)) }
-    ensures resumed { going.new.ledger.resumed ≡ going.old.ledger.resumed }
 {
     let answer = console(command, &mut going.power);
     record_console(&mut going.ledger, alloc, command, answer.line)
+}
+
+/// Runs one line, and the ledger follows it. An armed cut that struck within it is not made yet.
+fn run_line<C: Crew>(
+    setting: &Setting<'_, C>,
+    line: &Line,
+    mut going: Going,
+) -> Result<Going, AllocError>
+    requires range { IsLineInRange setting.now.shape.now line.now }
+    requires plain { IsPlainLine line.now }
+    requires calm { IsUnstruck going.power }
+    ensures runs { IfOk result (λ now. (b : Bench)
+        → RunsCalm setting.now.shape.now b going.power going.payloads going.ledger
+        → LineMoves setting.now.shape.now line.now b now.power now.payloads going.ledger now.ledger) }
+{
+    match line {
+        Line::Command(command) => {
+            match run_command(setting.alloc, *command, &mut going) {
+                Ok(()) => Ok(going),
+                Err(refusal) => {
+                    going.release();
+                    Err(refusal)
+                }
+            }
+        }
+        _ => run_other(setting, line, going),
+    }
 }
 
 /// Where a run of lines ended.
@@ -335,9 +357,9 @@ pub fn run_lines<C: Crew>(
     let mut going = from;
     let mut count = 0;
     for line in lines {
-        match line {
-            Line::Command(command) => run_command(setting.alloc, *command, &mut going)?,
-            _ => going = run_line(setting, line, going)?,
+        match run_line(setting, line, going) {
+            Ok(now) => going = now,
+            Err(refusal) => return Err(refusal),
         }
         count += 1;
         if going.stops(until_off) {
