@@ -1,5 +1,5 @@
 -- What is counted of refused memory: by each command and power-on, by a hart's turns and calls, by a line.
-use Rattle.std.proofs.Common.{◌≡◌, ◌⊎◌, ℕ, zero, suc, inl, inr, true, false, List, [], ◌∷◌, Option, None, Some, Result, Ok, Err, refl, sym, ◌∙◌, ap, subst}
+use Rattle.std.proofs.Common.{◌≡◌, ◌⊎◌, ℕ, inl, inr, true, false, List, [], ◌∷◌, Option, None, Some, Result, Ok, Err, refl, sym, ◌∙◌, ap, subst}
 use Rattle.std.specs.Bool.{⊤}
 use Rattle.board.specs.Boots.{boot_refusal}
 use Rattle.board.specs.Moments.{commands_by}
@@ -11,7 +11,7 @@ use Rattle.board_model.specs.declared.boot_mode.BootMode.TheVariants as modes
 use Rattle.board_model.specs.declared.call_words.CallWords.{CallWords}
 use Rattle.board_model.specs.declared.console_command.ConsoleCommand.{ConsoleCommand}
 use Rattle.board_model.specs.declared.durable.Reason.{Reason}
-use Rattle.disk.specs.FaultState.{FaultState, Cause}
+use Rattle.disk.specs.FaultState.{FaultState}
 use Rattle.machine.specs.Machine.{hart_at}
 use Rattle.bench_report.specs.declared.printed.Answer.{Answer}
 use Rattle.bench_report.specs.declared.printed.Printed.{Printed}
@@ -29,7 +29,6 @@ use Rattle.sbi_abi.specs.declared.ret.SbiError.TheVariants.{Denied, Failed, NotS
 use Rattle.sbi_calls.specs.declared.words.Turned.{Turned}
 use Rattle.sbi_calls.specs.declared.words.Turned.TheVariants.{Made, Durable}
 use Rattle.script_lang.specs.declared.line.Line.{Line}
-use Rattle.script_lang.specs.declared.line.Line.TheVariants as lines
 use Rattle.susp.specs.declared.sleeps.Sleep.{Sleep}
 use Rattle.susp.specs.declared.sleeps.Sleep.TheVariants.{ToDisk, ToRam}
 use Rattle.bench_report.specs.Asides.{Effect, Stays, aside, affected}
@@ -39,8 +38,8 @@ use Rattle.bench_report.specs.Deeds as deeds
 use Rattle.bench_report.specs.Deeds.{Deed, IsNoRow, deed_of}
 use Rattle.bench_report.specs.Happens.{FailsByFault, SaysEnough, acknowledged, failed, formatted_anew, has_machine, in_doubt, off, on_with, settled, unknown}
 use Rattle.bench_report.specs.PowerOns.{Begins, Boots, BootsFrom, FormatsOn, IsBooted, Opens, PowersOn, life_begun}
-use Rattle.bench_report.specs.Steps.{CallStep, ConsoleStep, DeedStep, FormatStep, GuestCall, Moves, OnStep, TurnStep}
-use Rattle.bench_report.specs.Turns.{AnswersError, BenchFallsAsleep, BenchMakesCall, BenchSleeps, BenchSleepsBy, ComesTo, GuestTurn, GuestTurns, HartCommand, Resets, SuspendIssued, dozes, refused}
+use Rattle.bench_report.specs.Steps.{CallStep, ConsoleStep, DeedStep, FormatStep, GuestCall, Moves, OnStep}
+use Rattle.bench_report.specs.Turns.{AnswersError, BenchFallsAsleep, BenchMakesCall, BenchSleeps, BenchSleepsBy, ComesTo, HartCommand, Resets, SuspendIssued, dozes, refused}
 use Rattle.bench_report.proofs.Questions.{IsAsked, is_asked}
 
 -- no more refusals of memory are counted

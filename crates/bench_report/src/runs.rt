@@ -9,7 +9,7 @@ ghost use Rattle.bench_report.specs.Counts.{Reported};
 ghost use Rattle.bench_report.specs.Prefix.{KeepsPrefixLaw};
 ghost use Rattle.bench_report.specs.Bench.{Bench, bench_with};
 ghost use Rattle.bench_report.specs.Views.{facts};
-ghost use Rattle.bench_report.specs.Agree.{OffIs};
+ghost use Rattle.bench_report.specs.Agree.{OffIs, fills_after};
 ghost use Rattle.bench_report.specs.Lives.{IsSound, Shows};
 ghost use Rattle.bench_report.specs.Laws.{KeepsLaws};
 ghost use Rattle.bench_report.specs.declared.printed.Answer.{Answer};
@@ -85,6 +85,7 @@ fn run_lines<C: Crew, W: Write>(
     requires few { length lines.now ≤ 65535 }
     requires ranges { All (IsLineInRange setting.now.shape.now) lines.now }
     requires sound { IsSound bench.old }
+    ensures fill { OnOk result (bench.new.fill ≡ fills_after lines.now bench.old.fill) }
     ensures ok { IfOk result (λ report. (b : Bench) → Shows setting.now.shape.now b bench.old
         → (answers : List Answer) × (new : Bench) × Run setting.now.shape.now b lines.now answers new
         × Shows setting.now.shape.now new bench.new

@@ -1,16 +1,18 @@
-use Rattle.std.proofs.Common.{◌+◌, arith, List, [], ◌∷◌, ◌++◌, refl, subst}
+use Rattle.std.proofs.Common.{◌+◌, ◌∙◌, arith, ap, get_or, List, [], ◌∷◌, ◌++◌, refl, subst, sym}
 use Rattle.std.proofs.lemmas.List.{take_all}
 use Rattle.std.proofs.lemmas.Result.{IfOk-from_err}
 use Rattle.script_lang.specs.declared.line.Line.{Line}
+use Rattle.bench_report.specs.Agree.{fill_after, fills_after}
 use Rattle.bench_report.specs.Reports.{board_answer}
 use Rattle.bench_report.specs.Steps.{Moves, Run}
-use Rattle.bench_report.proofs.RunLines.{few_found, on_err, run_more}
+use Rattle.bench_report.proofs.RunLines.{few_found, fills_more, on_err, run_more}
 use Rattle.bench_report.proofs.Told.{reported_more}
 use Rattle.bench_report.proofs.runs.run_lines.Goals as goal
 
 pub loop-line-init : goal.loop-line-init
 loop-line-init g c = record {
   few = omega (arith, c.in_ok-report.ensures.lines);
+  fill = refl;
   sound = c.requires.sound;
   reported = λ b h. ([], b, refl, h, c.in_ok-report.ensures.ok);
 }
@@ -25,6 +27,7 @@ loop-line-preserved g c =
     let counted = few_found answer.found in
     record {
       few = omega (arith, added.lines, counted, i.few);
+      fill = ran.fill ∙ ap (λ (line : Line). fill_after line c.loop-line.bench.fill) c.line-item.is ∙ ap (fill_after (get_or c.args.lines.now c.loop-line.line-index c.line-item.result)) i.fill ∙ sym (fills_more c.args.lines.now c.loop-line.line-index c.line-item.result c.args.bench.now.fill c.loop-line-test.true);
       sound = ran.sound;
       reported = λ b h.
           let was = i.reported b h in
@@ -32,6 +35,18 @@ loop-line-preserved g c =
           let Q : Line → Type 0 = λ line. Moves size line was.1 answer did.0 in
           (was.0 ++ answer ∷ [], did.0, run_more size c.args.lines.now c.loop-line.line-index c.line-item.result b was.0 was.1 answer did.0 c.loop-line-test.true was.2 (subst Q c.line-item.is did.1), did.2, reported_more _ _ _ _ _ (board_answer size ∷ was.0) answer was.4 added);
     }
+
+pub returns-in_err-report-clause-fill : goal.returns-in_err-report-clause-fill
+returns-in_err-report-clause-fill g c = IfOk-from_err c.from_residual.result _ c.from_residual.ensures.0
+
+pub returns-in_err-answer-clause-fill : goal.returns-in_err-answer-clause-fill
+returns-in_err-answer-clause-fill g c = IfOk-from_err c.from_residual-in_err-answer.result _ c.from_residual-in_err-answer.ensures.0
+
+pub returns-in_err-add-clause-fill : goal.returns-in_err-add-clause-fill
+returns-in_err-add-clause-fill g c = IfOk-from_err c.from_residual-in_err-add.result _ c.from_residual-in_err-add.ensures.0
+
+pub returns-clause-fill : goal.returns-clause-fill
+returns-clause-fill g c = c.loop-line.invariant.fill ∙ ap (λ (ls : List Line). fills_after ls c.args.bench.now.fill) (take_all c.loop-line.line-index c.args.lines.now (omega arith))
 
 pub returns-in_err-report-clause-ok : goal.returns-in_err-report-clause-ok
 returns-in_err-report-clause-ok g c = IfOk-from_err c.from_residual.result _ c.from_residual.ensures.0

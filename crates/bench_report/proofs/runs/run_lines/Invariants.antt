@@ -1,5 +1,6 @@
-use Rattle.std.proofs.Common.{ℕ, ◌+◌, ◌*◌, ◌≤◌, List, ◌∷◌, take}
+use Rattle.std.proofs.Common.{◌≡◌, ◌+◌, ◌*◌, ◌≤◌, List, ◌∷◌, take}
 use Rattle.bench_report.specs.declared.printed.Answer.{Answer}
+use Rattle.bench_report.specs.Agree.{fills_after}
 use Rattle.bench_report.specs.Bench.{Bench}
 use Rattle.bench_report.specs.Reports.{board_answer}
 use Rattle.bench_report.specs.Steps.{Run}
@@ -11,6 +12,7 @@ use Rattle.bench_report.proofs.runs.run_lines.Given as goal
 abbrev pub invariant-loop-line : goal.invariant-loop-line
 invariant-loop-line g l = record {
   few : l.report.lines ≤ 2 + 2 * l.line-index;
+  fill : l.bench.fill ≡ fills_after (take l.line-index l.lines) l.fn.bench.fill;
   sound : IsSound l.bench;
   reported : (b : Bench) → Shows l.setting.shape.now b l.fn.bench → (answers : List Answer) × (now : Bench) × Run l.setting.shape.now b (take l.line-index l.lines) answers now × Shows l.setting.shape.now now l.bench
       × Reported (g.W.Write.contents l.fn.out) (g.W.Write.contents l.out) l.report (board_answer l.setting.shape.now ∷ answers);
