@@ -6,3 +6,4 @@ pub mod Judged
 pub mod Done
 pub mod Tested
 pub mod Parted
+pub mod ByWork

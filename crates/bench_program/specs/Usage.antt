@@ -50,11 +50,19 @@ jobs_rule = value_rule (codes "jobs") (Unsigned 1 64)
 abbrev pub script_rule : Rule
 script_rule = record (new_rule (codes "SCRIPT")) { action = Some Set; parser = Some NonEmptyString }
 
+-- the script, and who writes lanes
+abbrev pub with_script : ValueParser → App → App
+with_script crews app = with_rule (with_rule app script_rule) (crew_rule crews)
+
+abbrev pub with_benches : App → App
+with_benches app = with_rule (with_rule (with_rule app (flag_rule (codes "sweep"))) (flag_rule (codes "faults"))) jobs_rule
+
 abbrev pub with_schedules : App → App
-with_schedules app =
-    with_rule
-    (with_rule (with_rule (with_rule app (count_rule (codes "schedules"))) (option_rule (codes "seed"))) (count_rule (codes "show")))
-    (count_rule (codes "shrink"))
+with_schedules app = with_rule (with_rule app (count_rule (codes "schedules"))) (option_rule (codes "seed"))
+
+-- one of the runs, as a script
+abbrev pub with_shown : App → App
+with_shown app = with_rule (with_rule app (count_rule (codes "show"))) (count_rule (codes "shrink"))
 
 -- which of the runs of a bench are made and written, and how
 abbrev pub with_manners : App → App
@@ -62,13 +70,7 @@ with_manners app = with_rule (with_rule (with_rule app (option_rule (codes "part
 
 abbrev pub sbibench : ValueParser → App
 sbibench crews =
-    with_payloads
-    (with_manners
-    (with_schedules
-    (with_rule
-    (with_rule (with_rule (with_rule (with_rule (named_app (codes "sbibench")) script_rule) (crew_rule crews)) (flag_rule (codes "sweep")))
-    (flag_rule (codes "faults")))
-    jobs_rule)))
+    with_payloads (with_manners (with_shown (with_schedules (with_benches (with_script crews (named_app (codes "sbibench")))))))
 
 -- the payload files, by their paths
 abbrev pub payload_files : BenchOptions → List (Option (List ℕ))

@@ -143,6 +143,10 @@ IsAnyRefusal script e = (e ≡ Memory) ⊎ (e ≡ Output) ⊎ (script_of script 
 abbrev pub IsNoBench : List ℕ → Refusal → Type 0
 IsNoBench script e = (e ≡ NotPlain) × NoBenchRuns script
 
+-- a bench is refused so
+abbrev pub IsBenchRefusal : List ℕ → Refusal → Type 0
+IsBenchRefusal script e = (e ≡ Memory) ⊎ (e ≡ Output) ⊎ (script_of script ≡ Err e) ⊎ IsNoBench script e
+
 -- or it has one order alone, so that none is compared
 abbrev pub HasOneOrder : List ℕ → Refusal → Type 0
 HasOneOrder script e = (e ≡ NotPlain) × (said : Said) × (script_of script ≡ Ok said) × (has_orders said.lines ≡ false)
@@ -152,7 +156,7 @@ HasOneOrder script e = (e ≡ NotPlain) × (said : Said) × (script_of script �
 -- show.
 abbrev pub IsRefusedWith : Work → List (List ℕ) → List ℕ → Refusal → Type 0
 IsRefusedWith (Report savers) payloads script e = IsAnyRefusal script e
-IsRefusedWith (Judge plan) payloads script e = (e ≡ Memory) ⊎ (e ≡ Output) ⊎ (script_of script ≡ Err e) ⊎ IsNoBench script e
+IsRefusedWith (Judge plan) payloads script e = IsBenchRefusal script e
 IsRefusedWith (ShowRow row) payloads script e =
     (e ≡ Memory) ⊎ (e ≡ Output) ⊎ (script_of script ≡ Err e) ⊎ IsNoBench script e
     ⊎ ((e ≡ BadShape) × NoRowOf row.bench row.number payloads script)

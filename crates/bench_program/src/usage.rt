@@ -5,7 +5,7 @@ ghost use Rattle.clap.specs.Words.{app_of, found_of, kind_of, rule_of};
 ghost use Rattle.clap.specs.declared.builder.value_parser.ValueParser.{ValueParser};
 ghost use Rattle.command_line.specs.Kinds.{no_work};
 ghost use Rattle.command_line.specs.Parses.{AreParsed};
-ghost use Rattle.bench_program.specs.Usage.{count_rule, crew_rule, jobs_rule, part_named, sbibench, script_rule, Flags, IsBounded, with_manners, with_schedules, work_asked, AreApart, AreOptions, IsFlag, IsNamedBy, NamesConflict, NamesNoWork};
+ghost use Rattle.bench_program.specs.Usage.{count_rule, crew_rule, jobs_rule, part_named, sbibench, script_rule, Flags, IsBounded, with_benches, with_manners, with_schedules, with_script, with_shown, work_asked, AreApart, AreOptions, IsFlag, IsNamedBy, NamesConflict, NamesNoWork};
 
 use crate::asked::{jobs_asked, part_named, tap_asked, work_asked};
 use bench_schedules::SchedulePlan;
@@ -215,22 +215,6 @@ fn count<'a>(alloc: Global, id: &'a str, value: &'a str, help: &'a str) -> Arg<'
     option(alloc, id, value, help).value_parser(ValueParser::unsigned(1, MOST_SCHEDULES))
 }
 
-/// The command with the options of schedules.
-fn with_schedules<'a>(alloc: Global, command: Command<'a>) -> Result<Command<'a>, AllocError>
-    ensures { IfOk result (λ c. app_of c ≡ with_schedules (app_of command.entry)) }
-{
-    let schedules = "Runs N schedules of the script, and tells which report otherwise";
-    let seed = "What the schedules are drawn from, 1 if not said";
-    let show = "Writes schedule K, or run K of --sweep or --faults, as a script";
-    let shrink =
-        "Writes an order with fewer rows that reports otherwise in the line in which schedule K does";
-    command
-        .arg(count(alloc, SCHEDULES, "N", schedules))?
-        .arg(option(alloc, SEED, "S", seed))?
-        .arg(count(alloc, SHOW, "K", show))?
-        .arg(count(alloc, SHRINK, "K", shrink))
-}
-
 /// The option with the number of threads.
 fn jobs<'a>(alloc: Global) -> Arg<'a>
     ensures rule { rule_of result ≡ jobs_rule }
@@ -239,6 +223,48 @@ fn jobs<'a>(alloc: Global) -> Arg<'a>
     let help =
         "How many threads make the runs of a bench, as many as there are processors if not said";
     option(alloc, JOBS, "N", help).value_parser(ValueParser::unsigned(1, MOST_JOBS))
+}
+
+/// The command with the script's file and the option of the crew.
+fn with_script<'a>(alloc: Global, command: Command<'a>) -> Result<Command<'a>, AllocError>
+    ensures { IfOk result (λ c. (crews : ValueParser) × (app_of c ≡ with_script crews (app_of command.entry))) }
+{
+    command.arg(script(alloc))?.arg(crew(alloc))
+}
+
+/// The command with the flags of the two benches, and the number of their threads.
+fn with_benches<'a>(alloc: Global, command: Command<'a>) -> Result<Command<'a>, AllocError>
+    ensures { IfOk result (λ c. app_of c ≡ with_benches (app_of command.entry)) }
+{
+    let sweep = "Cuts power at each call of the disk, and judges what is found";
+    let faults = "Fails each call of the disk in turn, and judges what is found";
+    command
+        .arg(flag(alloc, SWEEP, sweep))?
+        .arg(flag(alloc, FAULTS, faults))?
+        .arg(jobs(alloc))
+}
+
+/// The command with the options from which schedules are drawn.
+fn with_schedules<'a>(alloc: Global, command: Command<'a>) -> Result<Command<'a>, AllocError>
+    ensures { IfOk result (λ c. app_of c ≡ with_schedules (app_of command.entry)) }
+{
+    let schedules = "Runs N schedules of the script, and tells which report otherwise";
+    let seed = "What the schedules are drawn from, 1 if not said";
+    command
+        .arg(count(alloc, SCHEDULES, "N", schedules))?
+        .arg(option(alloc, SEED, "S", seed))
+}
+
+/// The command with the options that write one of the runs as a script.
+fn with_shown<'a>(alloc: Global, command: Command<'a>) -> Result<Command<'a>, AllocError>
+    ensures { IfOk result (λ c. app_of c ≡ with_shown (app_of command.entry)) }
+{
+    let show = "Writes schedule K, or run K of --sweep or --faults, as a script";
+    let shrink =
+        "Writes an order with fewer rows that reports otherwise in the line in which schedule K does";
+    command
+        .arg(count(alloc, SHOW, "K", show))?
+        .arg(count(alloc, SHRINK, "K", shrink))
 }
 
 /// The command with the options that say which runs of a bench are made and written, and how.
@@ -257,15 +283,11 @@ fn with_manners<'a>(alloc: Global, command: Command<'a>) -> Result<Command<'a>, 
 fn command<'a>(alloc: Global) -> Result<Command<'a>, AllocError>
     ensures { IfOk result (λ c. (crews : ValueParser) × (app_of c ≡ sbibench crews)) }
 {
-    let sweep = "Cuts power at each call of the disk, and judges what is found";
-    let faults = "Fails each call of the disk in turn, and judges what is found";
-    let command = program(alloc, "sbibench", USAGE, ABOUT, NUMBERS)
-        .arg(script(alloc))?
-        .arg(crew(alloc))?
-        .arg(flag(alloc, SWEEP, sweep))?
-        .arg(flag(alloc, FAULTS, faults))?
-        .arg(jobs(alloc))?;
+    let bare = program(alloc, "sbibench", USAGE, ABOUT, NUMBERS);
+    let command = with_script(alloc, bare)?;
+    let command = with_benches(alloc, command)?;
     let command = with_schedules(alloc, command)?;
+    let command = with_shown(alloc, command)?;
     let command = with_manners(alloc, command)?;
     with_payloads(alloc, command)
 }

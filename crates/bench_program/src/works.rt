@@ -1,20 +1,23 @@
 //! What each work makes of a script, written to any writer, and how many of its runs tell that something is wrong.
 
-ghost use Rattle.std.specs.Prelude.{◌≡◌, ◌⊎◌, ◌<◌, ◌≤◌, true, Err, IfOk, IfErr, OnOk};
+ghost use Rattle.std.specs.Prelude.{◌≡◌, ◌⊎◌, ◌<◌, ◌≤◌, ℕ, List, [], true, Ok, Err, Some, IfOk, IfErr, OnOk, MatchResult};
 ghost use Rattle.board_model.specs.declared.refusal.Refusal.TheVariants.{Memory, Output};
 ghost use Rattle.script_lang.specs.Scripts.{script_of};
 ghost use Rattle.bench_program.specs.Usage.{IsBounded};
 ghost use Rattle.std.specs.Io.KnownBytes.{Appends};
-ghost use Rattle.bench_program.specs.Written.{HasOneOrder, HasOrders, IsCompared, IsMade, IsPut, IsRefusedWith, IsReported, is_kept, put_text, shown_by, tested_text};
+ghost use Rattle.bench_sweep.specs.Swept.{IsBenchOf};
+ghost use Rattle.bench_sweep.specs.declared.judges.Sweep.{Sweep as Counts};
+ghost use Rattle.bench_program.specs.Digests.{part_tag, with_tag};
+ghost use Rattle.bench_program.specs.Written.{HasOneOrder, HasOrders, IsAnyRefusal, IsBenchRefusal, IsCompared, IsMade, IsPut, IsRefusedWith, IsReported, is_kept, put_text, shown_by, tested_text};
 
 use crate::digests::{is_part, part_tag, with_tag};
 use crate::orders::{has_orders, is_shown};
 use crate::taps::write_tap;
-use crate::usage::{BenchOptions, MOST_JOBS, Savers, Work};
+use crate::usage::{BenchOptions, DrawnSchedule, MOST_JOBS, Savers, Work};
 use crate::watched::Unpaused;
-use bench_report::{lane_by_lane, run_with};
+use bench_report::{StoppedRun, lane_by_lane, run_left_with};
 use bench_schedules::{SchedulePlan, schedules, show, shrink};
-use bench_sweep::{run_bench, show_row};
+use bench_sweep::{SweepPlan, run_bench, show_row};
 use board::Payloads;
 use board_model::{Refusal, unwritten};
 use jobs::{Jobs, Progress};
@@ -36,6 +39,26 @@ fn jobs_of<R: Threads>(threads: &R, asked: Option<usize>) -> usize
     }
 }
 
+/// What comes of a work of which no run tells that something is wrong.
+fn all_well<T: Drop>(done: Result<T, Refusal>) -> Result<u64, Refusal>
+    ensures { MatchResult done (λ made. result ≡ Ok 0) (λ e. result ≡ Err e) }
+{
+    match done {
+        Ok(_) => Ok(0),
+        Err(refusal) => Err(refusal),
+    }
+}
+
+/// What comes of a report.
+fn reported<L: Drop>(ran: Result<L, StoppedRun>) -> Result<u64, Refusal>
+    ensures { MatchResult ran (λ left. result ≡ Ok 0) (λ stopped. result ≡ Err stopped.refusal) }
+{
+    match ran {
+        Ok(_) => Ok(0),
+        Err(stopped) => Err(stopped.refusal),
+    }
+}
+
 /// Writes the report of the script, with the crew that was chosen.
 fn report<R: Threads + Sync, W: Write>(
     alloc: Global,
@@ -45,18 +68,17 @@ fn report<R: Threads + Sync, W: Write>(
     payloads: Payloads,
     out: &mut W,
 ) -> Result<u64, Refusal>
-    ensures reported { IfOk result (λ differ. (differ ≡ 0) × IsReported payloads script.now (W.contents out.old) (W.contents out.new)) }
-    ensures refused { IfErr result (λ e. (e ≡ Memory) ⊎ (e ≡ Output) ⊎ (script_of script.now ≡ Err e)) }
+    ensures made { IfOk result (λ differ. (differ ≡ 0) × IsReported payloads script.now (W.contents out.old) (W.contents out.new)) }
+    ensures refused { IfErr result (IsAnyRefusal script.now) }
 {
     match savers {
         Savers::Threads => {
-            run_with(alloc, script, &crew::Threads::new(threads), payloads, out)?;
-            Ok(0)
+            let savers = crew::Threads::new(threads);
+            reported(run_left_with(alloc, script, &savers, payloads, out))
         }
         Savers::Turns => {
             let crew = lane_by_lane::<R>();
-            run_with(alloc, script, &crew, payloads, out)?;
-            Ok(0)
+            reported(run_left_with(alloc, script, &crew, payloads, out))
         }
     }
 }
@@ -93,6 +115,25 @@ fn compare<R: Threads + Sync, P: Progress, W: Write>(
     Ok(compared.differ)
 }
 
+/// Makes the runs of a bench. None of them is wrong.
+fn judge<R: Threads + Sync, P: Progress, W: Write>(
+    jobs: &Jobs<'_, R, P>,
+    alloc: Global,
+    plan: SweepPlan,
+    script: &[u8],
+    payloads: Payloads,
+    out: &mut W,
+) -> Result<u64, Refusal>
+    ensures made { IfOk result (λ differ. (differ ≡ 0) × (counts : Counts)
+        × IsBenchOf plan payloads script.now (W.contents out.old) (W.contents out.new) counts) }
+    ensures refused { IfErr result (IsBenchRefusal script.now) }
+{
+    match run_bench(jobs, alloc, plan, script, payloads, out) {
+        Ok(counts) => Ok(counts.wrong),
+        Err(refusal) => Err(refusal),
+    }
+}
+
 /// Makes what the work makes of the script, with these payloads in the slots. Of a long run it is told how far that is.
 pub fn make<R: Threads + Sync, P: Progress + Drop, W: Write>(
     alloc: Global,
@@ -111,19 +152,16 @@ pub fn make<R: Threads + Sync, P: Progress + Drop, W: Write>(
     let jobs = Jobs::telling(threads, jobs_of(threads, options.jobs), progress);
     match options.work {
         Work::Report(savers) => report(alloc, threads, savers, script, payloads, out),
-        Work::Judge(plan) => Ok(run_bench(&jobs, alloc, plan, script, payloads, out)?.wrong),
-        Work::ShowRow(row) => {
-            show_row::<R, W>(alloc, row, script, payloads, out)?;
-            Ok(0)
-        }
+        Work::Judge(plan) => judge(&jobs, alloc, plan, script, payloads, out),
+        Work::ShowRow(row) => all_well(show_row::<R, W>(alloc, row, script, payloads, out)),
         Work::Compare(plan) => compare(&jobs, alloc, plan, script, &payloads, out),
         Work::Show(drawn) => {
-            show::<R, W>(alloc, script, &payloads, drawn.seed, drawn.number, out)?;
-            Ok(0)
+            let DrawnSchedule { seed, number } = drawn;
+            all_well(show::<R, W>(alloc, script, &payloads, seed, number, out))
         }
         Work::Shrink(drawn) => {
-            shrink::<R, W>(alloc, script, &payloads, drawn.seed, drawn.number, out)?;
-            Ok(0)
+            let DrawnSchedule { seed, number } = drawn;
+            all_well(shrink::<R, W>(alloc, script, &payloads, seed, number, out))
         }
     }
 }
@@ -166,7 +204,39 @@ fn write_tested<W: Write>(
     out.write_all(text)
 }
 
-/// Makes what the work makes in memory, and then writes it, or the tests of it. A part ends with its digest.
+/// Makes what the work makes in memory. A part ends with its digest.
+fn make_text<R: Threads + Sync, P: Progress + Drop>(
+    alloc: Global,
+    threads: &R,
+    options: &BenchOptions,
+    payloads: Payloads,
+    script: &[u8],
+    progress: P,
+) -> Result<(u64, Vec<u8>), Refusal>
+    requires most { IsBounded options.now.work }
+    ensures made { IfOk result (λ made. (text : List ℕ)
+        × IsMade options.now.work payloads script.now made.0 (Some []) (Some text)
+        × (made.1.items ≡ with_tag (part_tag options.now.work payloads script.now) text)) }
+    ensures refused { IfErr result (IsRefusedWith options.now.work payloads script.now) }
+{
+    let Ok(tag) = part_tag(alloc, options.work, &payloads, script) else {
+        return Err(Refusal::Memory);
+    };
+    let mut text = Vec::new(alloc);
+    let made = make::<R, P, Vec<u8>>(
+        alloc, threads, options, payloads, script, &mut text, progress,
+    );
+    let differ = match made {
+        Ok(differ) => differ,
+        Err(refusal) => return Err(refusal),
+    };
+    let Ok(text) = with_tag(text, &tag) else {
+        return Err(Refusal::Memory);
+    };
+    Ok((differ, text))
+}
+
+/// Makes what the work makes in memory, and then writes it, or the tests of it.
 pub fn make_kept<R: Threads + Sync, P: Progress + Copy + Drop, W: Write>(
     alloc: Global,
     threads: &R,
@@ -182,22 +252,19 @@ pub fn make_kept<R: Threads + Sync, P: Progress + Copy + Drop, W: Write>(
         (IsMade options.now.work payloads script.now) differ (W.contents out.old) (W.contents out.new)) }
     ensures refused { IfErr result (IsRefusedWith options.now.work payloads script.now) }
 {
-    let tag = part_tag(alloc, options.work, &payloads, script)?;
-    let shown = shown_by(alloc, options.work, script)?;
-    let mut text = Vec::new(alloc);
-    let made = make::<R, Unpaused<P>, Vec<u8>>(
-        alloc,
-        threads,
-        options,
-        payloads,
-        script,
-        &mut text,
-        Unpaused(progress),
-    );
+    let Ok(shown) = shown_by(alloc, options.work, script) else {
+        return Err(Refusal::Memory);
+    };
+    let unpaused = Unpaused(progress);
+    let made = make_text(alloc, threads, options, payloads, script, unpaused);
     progress.pause();
-    let differ = made?;
-    let text = with_tag(text, &tag)?;
+    let (differ, text) = match made {
+        Ok(made) => made,
+        Err(refusal) => return Err(refusal),
+    };
     let written = write_tested(alloc, options.tap, differ == 0, shown, &text, out);
-    written.map_err(|error| unwritten(error))?;
-    Ok(differ)
+    match written {
+        Ok(()) => Ok(differ),
+        Err(error) => Err(unwritten(error)),
+    }
 }

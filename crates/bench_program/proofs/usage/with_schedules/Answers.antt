@@ -6,6 +6,4 @@ use Rattle.bench_program.proofs.usage.with_schedules.Goals as goal
 pub returns : goal.returns
 returns c =
     let a1 = c.in_ok-arg.ensures.shape c.count.ensures.local ∙ ap₂ with_rule refl c.count.ensures.rule in
-    let a2 = c.in_ok-arg-2.ensures.shape c.option.ensures.local ∙ ap₂ with_rule a1 c.option.ensures.rule in
-    let a3 = c.in_ok-arg-3.ensures.shape c.count-2.ensures.local ∙ ap₂ with_rule a2 c.count-2.ensures.rule in
-    IfOk-weaker c.arg-4.result _ _ (λ r h. h.shape c.count-3.ensures.local ∙ ap₂ with_rule a3 c.count-3.ensures.rule) c.arg-4.ensures
+    IfOk-weaker c.arg-2.result _ _ (λ r h. h.shape c.option.ensures.local ∙ ap₂ with_rule a1 c.option.ensures.rule) c.arg-2.ensures
