@@ -59,30 +59,6 @@ fn reported<L: Drop>(ran: Result<L, StoppedRun>) -> Result<u64, Refusal>
     }
 }
 
-/// Writes the report of the script, with the crew that was chosen.
-fn report<R: Threads + Sync, W: Write>(
-    alloc: Global,
-    threads: &R,
-    savers: Savers,
-    script: &[u8],
-    payloads: Payloads,
-    out: &mut W,
-) -> Result<u64, Refusal>
-    ensures made { IfOk result (λ differ. (differ ≡ 0) × IsReported payloads script.now (W.contents out.old) (W.contents out.new)) }
-    ensures refused { IfErr result (IsAnyRefusal script.now) }
-{
-    match savers {
-        Savers::Threads => {
-            let savers = crew::Threads::new(threads);
-            reported(run_left_with(alloc, script, &savers, payloads, out))
-        }
-        Savers::Turns => {
-            let crew = lane_by_lane::<R>();
-            reported(run_left_with(alloc, script, &crew, payloads, out))
-        }
-    }
-}
-
 /// Refused `NotPlain` exactly where the script has no fault, and no stretch of rows of two harts: it has one order alone.
 fn check_orders(alloc: Global, script: &[u8]) -> Result<(), Refusal>
     ensures several { OnOk result (HasOrders script.now) }
@@ -151,7 +127,14 @@ pub fn make<R: Threads + Sync, P: Progress + Drop, W: Write>(
 {
     let jobs = Jobs::telling(threads, jobs_of(threads, options.jobs), progress);
     match options.work {
-        Work::Report(savers) => report(alloc, threads, savers, script, payloads, out),
+        Work::Report(Savers::Threads) => {
+            let savers = crew::Threads::new(threads);
+            reported(run_left_with(alloc, script, &savers, payloads, out))
+        }
+        Work::Report(Savers::Turns) => {
+            let crew = lane_by_lane::<R>();
+            reported(run_left_with(alloc, script, &crew, payloads, out))
+        }
         Work::Judge(plan) => judge(&jobs, alloc, plan, script, payloads, out),
         Work::ShowRow(row) => all_well(show_row::<R, W>(alloc, row, script, payloads, out)),
         Work::Compare(plan) => compare(&jobs, alloc, plan, script, &payloads, out),
