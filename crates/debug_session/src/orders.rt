@@ -68,11 +68,9 @@ fn others(lines: &[Line]) -> usize {
 
 /// Whether both lines have the same text.
 fn say_same(alloc: Global, one: &Line, other: &Line) -> Result<bool, AllocError> {
-    let one = LineText(one);
-    let other = LineText(other);
-    let left = format!(in alloc; "{one}")?;
-    let right = format!(in alloc; "{other}")?;
-    Ok(left.as_bytes() == right.as_bytes())
+    let one = LineText(one).to_string(alloc)?;
+    let other = LineText(other).to_string(alloc)?;
+    Ok(one.as_bytes() == other.as_bytes())
 }
 
 /// How many turns of a line do something, which is run.

@@ -14,12 +14,7 @@ use script_lang::{Line, LineText, board_line, scripts_read_as_written};
 use std::alloc::{AllocError, Global};
 
 /// Adds a comment that names the payload with which a slot begins, where it begins with one.
-fn add_begin(
-    alloc: Global,
-    begins: &Payloads,
-    number: u32,
-    text: &mut String,
-) -> Result<(), AllocError>
+fn add_begin(begins: &Payloads, number: u32, text: &mut String) -> Result<(), AllocError>
     requires { number ≤ 3 }
     ensures { OnOk result (string_bytes text.new ≡ string_bytes text.old ++ begin_text number (payload_at begins.now number)) }
 {
@@ -30,28 +25,26 @@ fn add_begin(
     if count == 0 {
         return Ok(());
     }
-    let comment = format!(in alloc; "\n# --p{number}: a file of {count} bytes")?;
-    text.push_str(comment.as_str())
+    write!(text, "\n# --p{number}: a file of {count} bytes")
 }
 
 /// Adds the comments of all slots.
-fn add_begins(alloc: Global, begins: &Payloads, text: &mut String) -> Result<(), AllocError>
+fn add_begins(begins: &Payloads, text: &mut String) -> Result<(), AllocError>
     ensures { OnOk result (string_bytes text.new ≡ string_bytes text.old ++ begins_text begins.now) }
 {
-    add_begin(alloc, begins, 0, text)?;
-    add_begin(alloc, begins, 1, text)?;
-    add_begin(alloc, begins, 2, text)?;
-    add_begin(alloc, begins, 3, text)
+    add_begin(begins, 0, text)?;
+    add_begin(begins, 1, text)?;
+    add_begin(begins, 2, text)?;
+    add_begin(begins, 3, text)
 }
 
 /// Adds the lines, each with a line feed before it.
-fn add_lines(alloc: Global, lines: &[Line], text: &mut String) -> Result<(), AllocError>
+fn add_lines(lines: &[Line], text: &mut String) -> Result<(), AllocError>
     ensures { OnOk result (string_bytes text.new ≡ string_bytes text.old ++ lines_text lines.now) }
 {
     for line in lines {
         let word = LineText(line);
-        let more = format!(in alloc; "\n{word}")?;
-        text.push_str(more.as_str())?;
+        write!(text, "\n{word}")?;
     }
     Ok(())
 }
@@ -72,7 +65,7 @@ pub(crate) fn script_of(
 {
     scripts_read_as_written();
     let mut text = board_line(alloc, shape)?;
-    add_begins(alloc, begins, &mut text)?;
-    add_lines(alloc, lines, &mut text)?;
+    add_begins(begins, &mut text)?;
+    add_lines(lines, &mut text)?;
     Ok(text)
 }

@@ -11,9 +11,3 @@ returns c = c.loop-line.invariant ∙ ap (λ (xs : List Line). string_bytes c.ar
 
 pub loop-line-init : goal.loop-line-init
 loop-line-init c = sym (append-nil (string_bytes c.args.text.now))
-
-pub returns-in_err-more : goal.returns-in_err-more
-returns-in_err-more c = IfOk-from_err c.from_residual.result _ c.from_residual.ensures.0
-
-pub returns-in_err-push_str : goal.returns-in_err-push_str
-returns-in_err-push_str c = IfOk-from_err c.from_residual-in_err-push_str.result _ c.from_residual-in_err-push_str.ensures.0
