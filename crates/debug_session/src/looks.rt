@@ -42,10 +42,10 @@ pub(crate) fn register_of(board: &mut Board<SimDisk>, hart: HartId, number: u64)
     ensures shown { result ≡ register_at (machine_in board.old) hart number }
 {
     if number < 32 {
-        return Some(board.hart(hart).reg(Reg::new(number as u8)));
+        return Some(board.machine().hart(hart).reg(Reg::new(number as u8)));
     }
     if number == PC {
-        return Some(board.hart(hart).pc());
+        return Some(board.machine().hart(hart).pc());
     }
     if REGISTERS <= number {
         return None;
@@ -120,7 +120,7 @@ pub fn pc(bench: &LiveBench, hart: HartId) -> Option<u64>
     ensures { result ≡ pc_in hart (machine_of bench.now) }
 {
     match &bench.power {
-        Power::On(board) if board.machine().has(hart) => Some(board.hart(hart).pc()),
+        Power::On(board) if board.machine().has(hart) => Some(board.machine().hart(hart).pc()),
         _ => None,
     }
 }
