@@ -30,6 +30,7 @@ use Rattle.debug_session.specs.declared.halts.HaltReason.TheVariants as halts
 use Rattle.debug_session.specs.declared.stops.Stops.{Stops}
 use Rattle.debug_session.specs.declared.stops.Watchpoint.{Watchpoint}
 use Rattle.debug_session.specs.Steps.{halt_step}
+use Rattle.debug_session.specs.Withins.{halt_within}
 use Rattle.debug_session.specs.Firsts.{KeepsWatched, PassAll, RanBy, RanTo, ReadsAs, Stretched, ToHalt, Touches, halt_after, halt_seen, halts_all, is_at_point, is_kept, is_of_turn, is_quiet, is_unread, minds_changes, one_turn, seen_all, seen_by, TellsTouched, touched_in, touched_since}
 
 pub ok_more : {A E : Type 0} (r : Result A E) (P Q : A → Type 0) → ((x : A) → P x → Q x) → IfOk r P → IfOk r Q
@@ -283,3 +284,13 @@ module _ (size : Size) (stops : Stops) where
   pub step_halts : (h made : ℕ) (halt : Option HaltReason) (old new : Timeline) → ToHalt size stops h halt old new → ToHalt size stops h (Some (halt_step halt made)) old new
   step_halts h made None old new did = by_count h made (made == 0) old new did
   step_halts h made (Some halt) old new did = did
+
+  -- a turn within addresses, after which the hart steps on or no more
+  by_place : (h : ℕ) (none stands : Bool) (old new : Timeline) → ToHalt size stops h None old new → ToHalt size stops h (if none then Some halts.Idle else (if stands then None else Some halts.Stepped)) old new
+  by_place h true stands old new did = other_halt h h halts.Idle old new refl did
+  by_place h false true old new did = did
+  by_place h false false old new did = other_halt h h halts.Stepped old new refl did
+
+  pub within_halts : (h made : ℕ) (stands : Bool) (halt : Option HaltReason) (old new : Timeline) → ToHalt size stops h halt old new → ToHalt size stops h (halt_within halt made stands) old new
+  within_halts h made stands None old new did = by_place h (made == 0) stands old new did
+  within_halts h made stands (Some halt) old new did = did

@@ -1,6 +1,7 @@
 -- Stepping while the pc lies within addresses.
-use Rattle.std.proofs.Common.{◌≡◌, ◌+◌, ◌⊎◌, inl, inr, ℕ, suc, Bool, true, false, List, ◌++◌, Option, Some, None, refl, sym, ap, ◌∙◌, subst, append_assoc, arith}
-use Rattle.std.specs.Prelude.{IfSome, replicate, if◌then◌else◌}
+use Rattle.std.proofs.Common.{◌≡◌, ◌≤◌, ◌+◌, ◌⊎◌, inl, inr, ℕ, suc, Bool, true, false, List, ◌++◌, Option, Some, None, refl, sym, ap, ◌∙◌, subst, append_assoc, arith}
+use Rattle.std.specs.Prelude.{IfSome, replicate, ◌==◌, if◌then◌else◌}
+use Rattle.std.proofs.lemmas.Bool.{eqb-false, eqb-true}
 use Rattle.std.proofs.lemmas.List.{append-nil, replicate-append-replicate}
 use Rattle.board_model.specs.Shapes.{Size}
 use Rattle.machine.specs.Machine.{Machine}
@@ -21,7 +22,7 @@ use Rattle.debug_session.specs.declared.halts.HaltReason.{HaltReason}
 use Rattle.debug_session.specs.declared.halts.HaltReason.TheVariants as halts
 use Rattle.debug_session.specs.declared.stops.Watchpoint.{Watchpoint}
 use Rattle.debug_session.specs.Firsts.{Stretched, halt_after, halt_seen, halts_all, is_of_turn, one_turn}
-use Rattle.debug_session.specs.Withins.{HaltsBy, LeftBy, MadeOne, StayedWithin, StaysWithin, IsSpent, StepsWithin, TurnsOnce, is_in, is_pc_in}
+use Rattle.debug_session.specs.Withins.{HaltsBy, LeftBy, MadeOne, StayedWithin, StaysWithin, IsSpent, StepsWithin, TurnsOnce, WithinTo, halt_within, is_in, is_pc_in}
 
 -- ---- one turn at most
 behind_turn : (ended stands : Bool) (changed : Option Watchpoint) → IfSome (halt_seen (if ended then Some halts.Ended else (if stands then Some halts.Point else None)) changed) (λ x. is_of_turn x ≡ true)
@@ -165,3 +166,23 @@ module _ (size : Size) (within : StepRange) (h : ℕ) where
         let same : halts.Ended ≡ why = cc in
         let P : HaltReason → Type 0 = λ x. StepsWithin size within h x first last in
         subst P same (once_left (rows.Lost k) halts.Ended turns (omega (arith, few)) (λ b left. refl))
+
+    -- the hart steps on, or no more
+    none_halted : (none stands : Bool) → (part.made == 0) ≡ none → stands ≡ is_in within (pc_in h (machine_of last.bench)) → MadeOne size h points part mid last → part.made ≤ 1 → part.halt ≡ None
+        → WithinTo size within h n (if none then Some halts.Idle else (if stands then None else Some halts.Stepped)) first last
+    none_halted true stands empty at made few none = steps_idle made (eqb-true part.made 0 empty) none
+    none_halted false true some at made few none = stayed_more made (omega (arith, few, eqb-false part.made 0 some)) (sym at)
+    none_halted false false some at made few none = steps_out made (omega (arith, few, eqb-false part.made 0 some)) (sym at)
+
+    pub turned_within : (halt : Option HaltReason) (stands : Bool) → part.halt ≡ halt → stands ≡ is_in within (pc_in h (machine_of last.bench)) → MadeOne size h points part mid last → part.made ≤ 1 → WithinTo size within h n (halt_within halt part.made stands) first last
+    turned_within None stands is at made few = none_halted (part.made == 0) stands refl at made few is
+    turned_within (Some why) stands is at made few = steps_halt why made is
+
+-- where it steps on a turn was made, and nothing halts
+some_made : (made : ℕ) (none stands : Bool) → (made == 0) ≡ none → (if none then Some halts.Idle else (if stands then None else Some halts.Stepped)) ≡ None → made ≡ 0 → ⊥
+some_made made true stands empty on zero = let never : ⊥ = cc in never
+some_made made false stands some on zero = eqb-false made 0 some zero
+
+pub steps_on : (halt : Option HaltReason) (made : ℕ) (stands : Bool) → halt_within halt made stands ≡ None → (halt ≡ None) × (made ≡ 0 → ⊥)
+steps_on None made stands on = (refl, some_made made (made == 0) stands refl on)
+steps_on (Some halt) made stands on = absurd (let never : ⊥ = cc in never)

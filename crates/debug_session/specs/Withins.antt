@@ -1,5 +1,5 @@
 -- Stepping while the pc lies within addresses.
-use Rattle.std.specs.Prelude.{◌≡◌, ◌⊎◌, ℕ, zero, suc, ◌+◌, Bool, true, false, List, ◌++◌, Option, Some, None, IfSome, nat_le, nat_lt, ◌&&◌, replicate, ⊤}
+use Rattle.std.specs.Prelude.{◌≡◌, ◌⊎◌, ℕ, zero, suc, ◌+◌, Bool, true, false, List, ◌++◌, Option, Some, None, IfSome, nat_le, nat_lt, ◌==◌, ◌&&◌, if◌then◌else◌, replicate, ⊤}
 use Rattle.board_model.specs.Shapes.{Size}
 use Rattle.debug_session.specs.Pasts.{moments}
 use Rattle.bench_report.specs.Bench.{Bench}
@@ -70,6 +70,16 @@ pub record StepsWithin (size : Size) (within : StepRange) (h : ℕ) (halt : Halt
 pub record StayedWithin (size : Size) (within : StepRange) (h count : ℕ) (old new : Timeline) : Type 0 where
   pub grew : moments new.history ≡ moments old.history ++ replicate count (one_turn h)
   pub ran : (b : Bench) → IsLeft size old b → (after : Bench) × StaysWithin size within h count b after × IsLeft size new after
+
+-- a hart that made n turns within addresses makes one more: it steps on, or no more
+abbrev pub WithinTo : Size → StepRange → ℕ → ℕ → Option HaltReason → Timeline → Timeline → Type 0
+WithinTo size within h n None old new = StayedWithin size within h (n + 1) old new
+WithinTo size within h n (Some halt) old new = StepsWithin size within h halt old new
+
+-- why it steps no more, by what came of its turn and whether its pc lies there then
+abbrev pub halt_within : Option HaltReason → ℕ → Bool → Option HaltReason
+halt_within None made stands = if made == 0 then Some halts.Idle else (if stands then None else Some halts.Stepped)
+halt_within (Some halt) made stands = Some halt
 
 -- ---- one turn at most
 -- why all halts after it, if it does

@@ -1,11 +1,12 @@
 //! Running forward: turns of one hart, and of harts in turn.
 
-ghost use Rattle.std.specs.Prelude.{◌≡◌, ◌≤◌, ◌<◌, ◌+◌, ℕ, true, false, slice_index_or, None, Some, IfOk, OnOk};
+ghost use Rattle.std.specs.Prelude.{◌≡◌, ◌≤◌, ◌<◌, ◌+◌, ℕ, true, false, slice_index_or, None, Some, IfErr, IfOk, IfSome, OnOk};
 ghost use Rattle.bench_report.specs.declared.rows.TurnRow.{TurnRow};
 ghost use Rattle.debug_session.specs.Ats.{IsAt};
+ghost use Rattle.debug_session.specs.declared.timeline.Timeline.{Timeline};
 ghost use Rattle.debug_session.specs.Steps.{IsStep, Went, halt_step};
-ghost use Rattle.debug_session.specs.Withins.{MadeOne, StepsWithin, is_in};
-ghost use Rattle.debug_session.specs.Firsts.{ReadsAs, Stretched, ToHalt, halt_after, halt_seen, halts_all, seen_in, touched_since, TellsTouched};
+ghost use Rattle.debug_session.specs.Withins.{MadeOne, StayedWithin, StepsWithin, WithinTo, halt_within, is_in};
+ghost use Rattle.debug_session.specs.Firsts.{ReadsAs, Stretched, ToHalt, halt_after, halt_seen, halts_all, is_of_turn, seen_in, touched_since, TellsTouched};
 ghost use Rattle.debug_session.specs.Lives.{machine_of, pc_in, stands_in};
 
 use crate::halts::{HaltReason, Stop};
@@ -16,9 +17,10 @@ use crate::rounds::{NextPart, Round};
 use crate::stops::{SeenBytes, Stops, Watchpoint, first_touched};
 use crate::timeline::Timeline;
 use bench_report::{Answer, Setting, TurnRow};
-use board_model::HartId;
+use board_model::{HartId, Shape};
 use crew::Crew;
 use machine::{Did, Word};
+use script_lang::Line;
 use std::alloc::AllocError;
 use std::sync::atomic::{AtomicBool, Ordering};
 
@@ -294,6 +296,44 @@ fn stands_within(timeline: &Timeline, hart: HartId, within: StepRange) -> bool
     }
 }
 
+/// Why a hart steps no more within addresses, by what came of its turn and whether its pc lies there then.
+fn halt_within(part: RoundPart, stands: bool) -> Option<HaltReason>
+    ensures { result ≡ halt_within part.halt part.made stands }
+{
+    match part.halt {
+        Some(halt) => Some(halt),
+        None if part.made == 0 => Some(HaltReason::Idle),
+        None if stands => None,
+        None => Some(HaltReason::Stepped),
+    }
+}
+
+/// One turn of a hart that steps while its pc lies within these addresses: why it steps no more, if it does not.
+fn turn_within<C: Crew>(
+    setting: &Setting<'_, C>,
+    stops: &Stops,
+    before: &Vec<SeenBytes>,
+    timeline: &mut Timeline,
+    hart: HartId,
+    within: StepRange,
+    told: &mut Vec<Answer>,
+) -> Result<Option<HaltReason>, AllocError>
+    requires at { IsAt setting.now.shape.now timeline.old }
+    requires hart { hart < setting.now.shape.now.harts }
+    requires tells { TellsTouched (machine_of timeline.old.bench) stops.now.watches.items (seen_in before.now.items) }
+    ensures went { OnOk result ((n : ℕ) × (n ≤ 1) × Went (λ h. h ≡ hart) n setting.now.shape.now timeline.old timeline.new) }
+    ensures first { IfOk result (λ halt. ToHalt setting.now.shape.now stops.now hart halt timeline.old timeline.new) }
+    // So do the turns before it and this one.
+    ensures within { IfOk result (λ halt. (first : Timeline) (n : ℕ) → StayedWithin setting.now.shape.now within hart n first timeline.old
+        → WithinTo setting.now.shape.now within hart n halt first timeline.new) }
+    ensures tells { IfOk result (λ halt. halt ≡ None
+        → TellsTouched (machine_of timeline.new.bench) stops.now.watches.items (seen_in before.now.items)) }
+{
+    let part = watched_turn(setting, stops, before, timeline, hart, told)?;
+    let stands = stands_within(timeline, hart, within);
+    Ok(halt_within(part, stands))
+}
+
 /// Steps a hart while its pc lies within these addresses, to the first halt.
 pub(crate) fn step_within<C: Crew>(
     setting: &Setting<'_, C>,
@@ -314,23 +354,10 @@ pub(crate) fn step_within<C: Crew>(
     let before = stops.watched(setting.alloc, timeline.bench())?;
     let mut done = 0;
     while done < within.most {
-        let part = watched_turn(setting, stops, &before, timeline, hart, told)?;
-        if let Some(halt) = part.halt {
+        if let Some(halt) = turn_within(setting, stops, &before, timeline, hart, within, told)? {
             return Ok(Stop { hart, halt });
         }
-        if part.made == 0 {
-            return Ok(Stop {
-                hart,
-                halt: HaltReason::Idle,
-            });
-        }
         done += 1;
-        if !stands_within(timeline, hart, within) {
-            return Ok(Stop {
-                hart,
-                halt: HaltReason::Stepped,
-            });
-        }
         if interrupt.swap(false, Ordering::SeqCst) {
             return Ok(Stop {
                 hart,
@@ -352,6 +379,33 @@ fn is_line(ahead: &Option<Ahead>) -> bool {
     }
 }
 
+/// The next part of a round after this history; none where the hart whose part comes may not run. Else why nothing goes on.
+fn next_part(
+    shape: &Shape,
+    order: &ScriptOrder,
+    history: &[Line],
+    round: &mut Round,
+) -> Result<Option<NextPart>, HaltReason>
+    ensures hart { IfOk result (λ next. IfSome next (λ part. (part.hart < shape.now.harts)
+        × (slice_index_or round.old.harts part.hart false ≡ true))) }
+    ensures most { IfOk result (λ next. IfSome next (λ part. (part.most ≤ round.old.left) × (part.most ≤ 1000000))) }
+    ensures harts { round.new.harts ≡ round.old.harts }
+    ensures left { round.new.left ≡ round.old.left }
+    ensures over { IfErr result (λ halt. is_of_turn halt ≡ false) }
+{
+    if round.left == 0 {
+        return Err(HaltReason::Spent);
+    }
+    if shape.harts() <= round.resting {
+        return Err(HaltReason::Idle);
+    }
+    let ahead = order.next(history);
+    if is_line(&ahead) {
+        return Err(HaltReason::AtLine);
+    }
+    Ok(round.next(shape, &ahead))
+}
+
 /// The part of a round that a hart has: why everything halts, if it does.
 fn round_part<C: Crew>(
     setting: &Setting<'_, C>,
@@ -368,7 +422,6 @@ fn round_part<C: Crew>(
         × Went (λ h. h ≡ part.hart) n setting.now.shape.now timeline.old timeline.new) }
     ensures first { IfOk result (λ halt. ToHalt setting.now.shape.now stops.now part.hart halt timeline.old timeline.new) }
     ensures harts { OnOk result (round.new.harts ≡ round.old.harts) }
-    ensures resting { OnOk result (round.new.resting ≤ round.old.resting) }
 {
     let did = run_part(setting, stops, timeline, part.hart, part.most, told)?;
     round.made(did.made);
@@ -382,38 +435,25 @@ pub(crate) fn go<C: Crew>(
     stops: &Stops,
     order: &ScriptOrder,
     timeline: &mut Timeline,
-    first: HartId,
     round: Round,
     interrupt: &AtomicBool,
     told: &mut Vec<Answer>,
 ) -> Result<Stop, AllocError>
     requires at { IsAt setting.now.shape.now timeline.old }
-    requires first { first < setting.now.shape.now.harts }
-    requires rested { round.resting ≡ 0 }
+    requires first { round.first < setting.now.shape.now.harts }
     ensures went { OnOk result ((n : ℕ) × (n ≤ round.left)
         × Went (λ h. slice_index_or round.harts h false ≡ true) n setting.now.shape.now timeline.old timeline.new) }
     ensures first { IfOk result (λ stop. ToHalt setting.now.shape.now stops.now stop.hart (Some stop.halt) timeline.old timeline.new) }
     ensures there { IfOk result (λ stop. stop.hart < setting.now.shape.now.harts) }
 {
+    let first = round.first;
     let mut round = round;
     'parts: for _ in 0..u64::MAX {
-        if round.left == 0 {
-            break;
-        }
-        if setting.shape.harts() <= round.resting {
-            return Ok(Stop {
-                hart: first,
-                halt: HaltReason::Idle,
-            });
-        }
-        let ahead = order.next(timeline.lines());
-        if is_line(&ahead) {
-            return Ok(Stop {
-                hart: first,
-                halt: HaltReason::AtLine,
-            });
-        }
-        let Some(part) = round.next(setting.shape, &ahead) else {
+        let next = match next_part(setting.shape, order, timeline.lines(), &mut round) {
+            Ok(next) => next,
+            Err(halt) => return Ok(Stop { hart: first, halt }),
+        };
+        let Some(part) = next else {
             continue;
         };
         let hart = part.hart;

@@ -20,6 +20,8 @@ pub(crate) struct NextPart {
 /// A round of harts that run in turn.
 #[derive(Clone, Copy, Drop)]
 pub(crate) struct Round {
+    /// The hart whose part comes first, and which is told where no turn is why all halts.
+    pub(crate) first: HartId,
     /// Which may run.
     pub(crate) harts: [bool; 8],
     /// The number of the hart whose part is next.
@@ -33,6 +35,22 @@ pub(crate) struct Round {
 }
 
 impl Round {
+    /// A round of these harts from that one on, which may make `left` turns.
+    pub(crate) fn new(first: HartId, harts: [bool; 8], quantum: u32, left: u64) -> Round
+        ensures first { result.first ≡ first }
+        ensures harts { result.harts ≡ harts }
+        ensures left { result.left ≡ left }
+    {
+        Round {
+            first,
+            harts,
+            place: u64::from(first.number()),
+            quantum,
+            left,
+            resting: 0,
+        }
+    }
+
     /// A part of that hart, where the board has it and it may run.
     fn part_of(&self, shape: &Shape, number: u64, most: u32) -> Option<NextPart>
         ensures hart { IfSome result (λ part. (part.hart < shape.now.harts) × (slice_index_or self.now.harts part.hart false ≡ true)) }
@@ -70,7 +88,6 @@ impl Round {
         ensures most { IfSome result (λ part. (part.most ≤ self.old.left) × (part.most ≤ 1000000)) }
         ensures harts { self.new.harts ≡ self.old.harts }
         ensures left { self.new.left ≡ self.old.left }
-        ensures resting { self.new.resting ≡ self.old.resting + 1 }
     {
         self.resting += 1;
         if let Some(part) = self.ahead(shape, ahead) {
@@ -103,7 +120,6 @@ impl Round {
         requires left { count ≤ self.old.left }
         ensures harts { self.new.harts ≡ self.old.harts }
         ensures left { self.new.left + count ≡ self.old.left }
-        ensures resting { self.new.resting ≤ self.old.resting }
     {
         self.left -= u64::from(count);
         if 0 < count {

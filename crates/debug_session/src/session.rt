@@ -297,41 +297,12 @@ impl<'a, C: Crew> Session<'a, C> {
         ensures there { IfOk result (λ stop. stop.hart < (size_of self.old).harts) }
         ensures rest { KeepsRest self.old self.new }
     {
-        let most = self.plan.most;
-        self.go_few(first, *harts, most, interrupt, told)
-    }
-
-    /// Goes on with these harts, in turn, from that one on, with `most` turns at most, to the first halt.
-    fn go_few(
-        &mut self,
-        first: HartId,
-        harts: [bool; 8],
-        most: u64,
-        interrupt: &AtomicBool,
-        told: &mut Vec<Answer>,
-    ) -> Result<Stop, AllocError>
-        requires at { IsAt (size_of self.old) (timeline_of self.old) }
-        requires first { first < (size_of self.old).harts }
-        ensures went { OnOk result ((n : ℕ) × (n ≤ most)
-            × Went (λ h. slice_index_or harts h false ≡ true) n (size_of self.old) (timeline_of self.old) (timeline_of self.new)) }
-        ensures first { IfOk result (λ stop. ToHalt (size_of self.old) (stops_of self.old) stop.hart (Some stop.halt)
-            (timeline_of self.old) (timeline_of self.new)) }
-        ensures there { IfOk result (λ stop. stop.hart < (size_of self.old).harts) }
-        ensures rest { KeepsRest self.old self.new }
-    {
-        let round = Round {
-            harts,
-            place: u64::from(first.number()),
-            quantum: self.plan.quantum,
-            left: most,
-            resting: 0,
-        };
+        let round = Round::new(first, *harts, self.plan.quantum, self.plan.most);
         forth::go(
             &self.setting,
             &self.stops,
             &self.order,
             &mut self.timeline,
-            first,
             round,
             interrupt,
             told,
@@ -357,7 +328,16 @@ impl<'a, C: Crew> Session<'a, C> {
         ensures rest { KeepsRest self.old self.new }
     {
         let most = counts::turns_left(self.timeline.lines(), turns, self.plan.most);
-        self.go_few(first, [true; 8], most, interrupt, told)
+        let round = Round::new(first, [true; 8], self.plan.quantum, most);
+        forth::go(
+            &self.setting,
+            &self.stops,
+            &self.order,
+            &mut self.timeline,
+            round,
+            interrupt,
+            told,
+        )
     }
 
     /// Goes back to before the last turn of that hart, and forgets it and whatever came after, and nothing else. Where it

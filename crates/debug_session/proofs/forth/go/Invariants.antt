@@ -1,4 +1,4 @@
-use Rattle.std.proofs.Common.{◌≡◌, ◌≤◌, ◌+◌, ℕ, None, true, false, slice_index_or}
+use Rattle.std.proofs.Common.{◌≡◌, ◌+◌, ℕ, None, true, false, slice_index_or}
 use Rattle.debug_session.specs.Firsts.{ToHalt}
 use Rattle.debug_session.specs.Steps.{Went}
 use Rattle.debug_session.proofs.forth.go.Given as goal
@@ -9,5 +9,4 @@ invariant-parts g l = record {
       × Went (λ h. slice_index_or l.fn.round.harts h false ≡ true) n l.setting.shape.now l.fn.timeline l.timeline;
   first : ToHalt l.setting.shape.now l.stops l.first None l.fn.timeline l.timeline;
   harts : l.round.harts ≡ l.fn.round.harts;
-  resting : l.round.resting ≤ 8;
 }

@@ -16,9 +16,6 @@ returns-clause-first g c = c.in_ok-did.ensures.first
 pub returns-clause-harts : goal.returns-clause-harts
 returns-clause-harts g c = c.made.ensures.harts
 
-pub returns-clause-resting : goal.returns-clause-resting
-returns-clause-resting g c = c.made.ensures.resting
-
 pub returns-clause-went : goal.returns-clause-went
 returns-clause-went g c = (c.in_ok-did.did.made, c.made.ensures.left, c.in_ok-did.ensures.went)
 
@@ -30,6 +27,3 @@ returns-in_err-did-clause-first g c = IfOk-from_err c.from_residual.result _ c.f
 
 pub returns-in_err-did-clause-harts : goal.returns-in_err-did-clause-harts
 returns-in_err-did-clause-harts g c = IfOk-from_err c.from_residual.result _ c.from_residual.ensures.0
-
-pub returns-in_err-did-clause-resting : goal.returns-in_err-did-clause-resting
-returns-in_err-did-clause-resting g c = IfOk-from_err c.from_residual.result _ c.from_residual.ensures.0
