@@ -2,7 +2,7 @@
 
 ghost use Rattle.std.specs.Prelude.{◌≡◌, ◌<◌, None, Some, length, MatchOption};
 ghost use Rattle.bench_report.specs.Views.{machine_in};
-ghost use Rattle.debug_session.specs.Lives.{csr_shown, machine_of, memory_in, pc_in, register_at, register_in, stands_in, state_in};
+ghost use Rattle.debug_session.specs.Lives.{csr_shown, machine_of, memory_in, pc_in, register_at, stands_in, state_in};
 ghost use Rattle.hart.specs.Csrs.{csr_number};
 
 use bench_report::{LiveBench, Power};
@@ -35,7 +35,8 @@ fn csr_at(number: u64) -> u32
     }
 }
 
-/// A register of a hart that a board has.
+/// A register of a hart that a board has: 0 to 31 its own, 32 the pc, 33 to 41 `sstatus`, `sie`, `stvec`, `sscratch`, `sepc`,
+/// `scause`, `stval`, `sip` and `satp`.
 pub(crate) fn register_of(board: &mut Board<SimDisk>, hart: HartId, number: u64) -> Option<u64>
     requires { hart < length (machine_in board.old).harts }
     ensures same { board.new ≡ board.old }
@@ -55,24 +56,6 @@ pub(crate) fn register_of(board: &mut Board<SimDisk>, hart: HartId, number: u64)
     match csr_of(board.machine(), hart, csr, pending) {
         MachineLine::Csr(_, _, value) => Some(value),
         _ => None,
-    }
-}
-
-/// A register of a hart of a board that is on: 0 to 31 its own, 32 the pc, 33 to 41 `sstatus`, `sie`, `stvec`,
-/// `sscratch`, `sepc`, `scause`, `stval`, `sip` and `satp`.
-pub(crate) fn register(bench: &mut LiveBench, hart: HartId, number: u64) -> Option<u64>
-    ensures same { bench.new ≡ bench.old }
-    ensures shown { result ≡ register_in hart number (machine_of bench.old) }
-{
-    match &mut bench.power {
-        Power::On(board) => {
-            if board.machine().has(hart) {
-                register_of(board, hart, number)
-            } else {
-                None
-            }
-        }
-        Power::Off(_) => None,
     }
 }
 

@@ -26,7 +26,7 @@ use crate::starts::begun;
 use crate::stops::{Stops, Watchpoint};
 use crate::timeline::Timeline;
 use crate::{back, counts, looks, script};
-use bench_report::{Answer, LiveBench, Setting};
+use bench_report::{Answer, LiveBench, Power, Setting};
 use board::Payloads;
 use board_model::HartId;
 use crew::Crew;
@@ -139,12 +139,21 @@ impl<'a, C: Crew> Session<'a, C> {
         )
     }
 
-    /// A register of a hart, as `looks::register` shows it.
+    /// A register of a hart of a board that is on, as `looks::register_of` shows it. It is a look: the board stays as it was.
     pub fn register(&mut self, hart: HartId, number: u64) -> Option<u64>
         ensures same { self.new ≡ self.old }
         ensures shown { result ≡ register_in hart number (machine_of_session self.old) }
     {
-        looks::register(&mut self.timeline.bench, hart, number)
+        match &mut self.timeline.bench.power {
+            Power::On(board) => {
+                if board.machine().has(hart) {
+                    looks::register_of(board, hart, number)
+                } else {
+                    None
+                }
+            }
+            Power::Off(_) => None,
+        }
     }
 
     /// Runs a line of the script language, which becomes part of the history: what it says.
