@@ -37,34 +37,35 @@ pub fn tell(alloc: Global, text: &[u8], out: &mut PacketPayloads) -> Result<(), 
     Ok(())
 }
 
-/// The line of a report that says what an open found, where there is one.
-fn found_text(alloc: Global, found: &Option<Durable>) -> Result<String, AllocError>
-    ensures { IfOk result (λ text. string_bytes text ≡ found_line found.now) }
+/// Adds the line of a report that says what an open found, where there is one.
+fn add_found(found: &Option<Durable>, text: &mut String) -> Result<(), AllocError>
+    ensures { OnOk result (string_bytes text.new ≡ string_bytes text.old ++ found_line found.now) }
 {
     match *found {
-        None => Ok(String::new(alloc)),
+        None => Ok(()),
         Some(durable) => {
             let state = StateText(durable);
-            format!(in alloc; "found {state}\n")
+            writeln!(text, "found {state}")
         }
     }
+}
+
+/// Adds the lines of a report that a line of a script makes.
+fn add_answer(answer: &Answer, text: &mut String) -> Result<(), AllocError>
+    ensures { OnOk result (string_bytes text.new ≡ string_bytes text.old ++ answer_text answer.now) }
+{
+    add_found(&answer.found, text)?;
+    let line = answer.line;
+    writeln!(text, "{line}")
 }
 
 /// The lines of a report that a line of a script makes.
 pub fn answer_text(alloc: Global, answer: &Answer) -> Result<String, AllocError>
     ensures { IfOk result (λ text. string_bytes text ≡ answer_text answer.now) }
 {
-    let found = found_text(alloc, &answer.found)?;
-    let line = answer.line;
-    format!(in alloc; "{found}{line}\n")
-}
-
-/// Adds the lines of a report that a line of a script makes.
-fn add_answer(alloc: Global, answer: &Answer, text: &mut String) -> Result<(), AllocError>
-    ensures { OnOk result (string_bytes text.new ≡ string_bytes text.old ++ answer_text answer.now) }
-{
-    let lines = answer_text(alloc, answer)?;
-    text.push_str(lines.as_str())
+    let mut text = String::new(alloc);
+    add_answer(answer, &mut text)?;
+    Ok(text)
 }
 
 /// The lines of a report that lines of a script make, one after another.
@@ -73,7 +74,7 @@ pub fn report_text(alloc: Global, answers: &[Answer]) -> Result<String, AllocErr
 {
     let mut text = String::new(alloc);
     for answer in answers {
-        add_answer(alloc, answer, &mut text)?;
+        add_answer(answer, &mut text)?;
     }
     Ok(text)
 }
@@ -88,18 +89,6 @@ pub fn board_text(alloc: Global, shape: &Shape) -> Result<String, AllocError>
     format!(in alloc; "board {harts} {pages} {lanes}\n")
 }
 
-/// Where a hart stands.
-fn hart_line<C: Crew>(session: &Session<'_, C>, hart: HartId) -> Result<String, AllocError>
-    ensures { IfOk result (λ text. string_bytes text ≡ hart_line (bench_of session.now) hart) }
-{
-    let alloc = session.setting().alloc;
-    let number = hart.number();
-    match pc(session.bench(), hart) {
-        Some(pc) => format!(in alloc; "hart {number} pc 0x{pc:x}\n"),
-        None => format!(in alloc; "hart {number} off\n"),
-    }
-}
-
 /// Adds where the hart of that number stands.
 fn add_hart<C: Crew>(
     session: &Session<'_, C>,
@@ -111,8 +100,10 @@ fn add_hart<C: Crew>(
     let Some(hart) = session.setting().shape.hart(number) else {
         return Err(AllocError);
     };
-    let line = hart_line(session, hart)?;
-    text.push_str(line.as_str())
+    match pc(session.bench(), hart) {
+        Some(pc) => writeln!(text, "hart {number} pc 0x{pc:x}"),
+        None => writeln!(text, "hart {number} off"),
+    }
 }
 
 /// Where each hart stands.
