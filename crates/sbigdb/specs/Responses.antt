@@ -20,10 +20,10 @@ abbrev pub ack_text : Bool → PacketEvent → List ℕ
 ack_text acknowledges (heards.Packet packet) = front_text acknowledges
 ack_text acknowledges what = []
 
--- that of the first thing that was heard, if there is one
-abbrev pub first_ack : Option PacketEvent → List ℕ
-first_ack None = []
-first_ack (Some what) = ack_text true what
+-- that of the next thing that was heard, if there is one
+abbrev pub next_ack : Bool → Option PacketEvent → List ℕ
+next_ack acknowledges None = []
+next_ack acknowledges (Some what) = ack_text acknowledges what
 
 -- A packet is answered. Where packets are acknowledged one that came damaged is wanted again, and the last answer is sent again
 -- that came so. Nothing else is sent.

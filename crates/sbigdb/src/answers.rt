@@ -2,9 +2,10 @@
 
 ghost use Rattle.std.specs.Prelude.{◌≡◌, ◌<◌, true, false, [], None, map, IfOk, OnOk};
 ghost use Rattle.debug_session.specs.Ats.{IsAt};
-ghost use Rattle.debug_session.specs.Sessions.{bench_of, points_of, size_of, stops_of, timeline_of, watches_of, KeepsPlan, KeepsRest};
-ghost use Rattle.sbigdb.specs.Replies.{IsReply, Replied, Shown, hart_shown};
-ghost use Rattle.sbigdb.specs.Kept.{IsKept, IsTalk, Keeps, Listed, points_after, watches_after};
+ghost use Rattle.debug_session.specs.Sessions.{bench_of, size_of, stops_of, timeline_of, KeepsPlan, KeepsRest};
+ghost use Rattle.sbigdb.specs.Replies.{Replied, Shown};
+ghost use Rattle.sbigdb.specs.Answers.{IsAllBut};
+ghost use Rattle.sbigdb.specs.Kept.{IsTalk, Keeps, Listed};
 ghost use Rattle.sbigdb.specs.Moved.{Moved};
 ghost use Rattle.sbigdb.specs.Stops.{stop_text};
 ghost use Rattle.sbigdb.specs.Talks.{acknowledges_in, hart_in, is_over_in, last_in, runner_in, selected_in, sent_in, session_in, takes_in};
@@ -17,7 +18,7 @@ use crate::talk::Talk;
 use board_model::{HartId, Shape};
 use crew::Crew;
 use debug_session::{HaltReason, Session, Stop};
-use gdb_protocol::{GdbLook, GdbRequest, Move, request_of};
+use gdb_protocol::{GdbRequest, Move, request_of};
 use std::alloc::{AllocError, Global};
 use std::sync::atomic::AtomicBool;
 
@@ -100,27 +101,6 @@ impl<'a, C: Crew> Talk<'a, C> {
         }
     }
 
-    /// Answers what looks: one payload, or none.
-    fn answer_look(&mut self, asked: GdbLook, packet: &[u8]) -> Result<PacketPayloads, AllocError>
-        ensures same { timeline_of self.new.session ≡ timeline_of self.old.session }
-        ensures rest { KeepsPlan self.old.session self.new.session }
-        ensures shown { OnOk result (self.new.hart ≡ hart_shown asked (size_of self.old.session) self.old.hart) }
-        ensures replied { IfOk result (λ out. IsReply asked (size_of self.old.session) self.old.hart
-            (bench_of self.old.session) (stop_text self.old.last self.old.takes_swbreak) (map (λ v. v.items) out.items)) }
-        ensures points { OnOk result (points_of self.new.session ≡ points_after asked (points_of self.old.session)) }
-        ensures watches { OnOk result (watches_of self.new.session ≡ watches_after asked (watches_of self.old.session)) }
-        ensures kept { OnOk result (IsKept asked self.old self.new) }
-    {
-        let mut out = Vec::new(self.alloc());
-        match self.look(asked, packet)? {
-            None => Ok(out),
-            Some(answer) => {
-                out.push(answer)?;
-                Ok(out)
-            }
-        }
-    }
-
     /// Answers what may move the board: texts for the console, and then the stop.
     fn answer_move(
         &mut self,
@@ -138,6 +118,14 @@ impl<'a, C: Crew> Talk<'a, C> {
         let answer = self.act(asked, packet, interrupt, &mut out)?;
         out.push(answer)?;
         Ok(out)
+    }
+
+    /// Keeps what is sent in answer to a packet, since it may be wanted again.
+    pub(crate) fn keep(&mut self, sent: Vec<u8>)
+        ensures rest { IsAllBut self.old self.new }
+        ensures sent { sent_in self.new ≡ sent.items }
+    {
+        self.sent = sent;
     }
 
     /// Whether packets are acknowledged.

@@ -1,14 +1,14 @@
 //! Requests that move nothing.
 
-ghost use Rattle.std.specs.Prelude.{◌≡◌, IfOk, OnOk};
-ghost use Rattle.std.specs.Option.{option_map};
+ghost use Rattle.std.specs.Prelude.{◌≡◌, map, IfOk, OnOk};
 ghost use Rattle.debug_session.specs.Sessions.{bench_of, points_of, size_of, timeline_of, watches_of, KeepsPlan};
 ghost use Rattle.sbigdb.specs.Kept.{IsKept, IsTalk, StaysOpen, named_or, points_after, watch_of, watches_after};
 ghost use Rattle.sbigdb.specs.Stops.{stop_text};
-ghost use Rattle.sbigdb.specs.Replies.{hart_named, hart_shown, IsLookReply};
+ghost use Rattle.sbigdb.specs.Replies.{hart_named, hart_shown, IsReply};
 ghost use Rattle.sbigdb.specs.Talks.{hart_or};
 
-use crate::replies::{hart_of, reply_of};
+use crate::answers::PacketPayloads;
+use crate::replies::{hart_of, text_of};
 use crate::talk::Talk;
 use crew::Crew;
 use debug_session::{WatchKind, Watchpoint};
@@ -32,30 +32,36 @@ fn watch_of(what: Watching, address: u64, count: u64) -> Watchpoint
 }
 
 impl<'a, C: Crew> Talk<'a, C> {
-    /// Answers a request that moves nothing: none where nothing is to be sent.
-    pub(crate) fn look(
+    /// Answers a request that moves nothing: one payload; none where the debugger is gone.
+    pub(crate) fn answer_look(
         &mut self,
         asked: GdbLook,
         packet: &[u8],
-    ) -> Result<Option<Vec<u8>>, AllocError>
+    ) -> Result<PacketPayloads, AllocError>
         ensures same { timeline_of self.new.session ≡ timeline_of self.old.session }
         ensures rest { KeepsPlan self.old.session self.new.session }
         ensures shown { OnOk result (self.new.hart ≡ hart_shown asked (size_of self.old.session) self.old.hart) }
-        ensures replied { IfOk result (λ out. IsLookReply asked (size_of self.old.session) self.old.hart
-            (bench_of self.old.session) (stop_text self.old.last self.old.takes_swbreak) (option_map (λ v. v.items) out)) }
+        ensures replied { IfOk result (λ out. IsReply asked (size_of self.old.session) self.old.hart
+            (bench_of self.old.session) (stop_text self.old.last self.old.takes_swbreak) (map (λ v. v.items) out.items)) }
         ensures points { OnOk result (points_of self.new.session ≡ points_after asked (points_of self.old.session)) }
         ensures watches { OnOk result (watches_of self.new.session ≡ watches_after asked (watches_of self.old.session)) }
         ensures kept { OnOk result (IsKept asked self.old self.new) }
     {
-        let reply = reply_of(
+        let mut out = Vec::new(self.alloc());
+        if let GdbLook::Kill = asked {
+            self.follow(asked, packet)?;
+            return Ok(out);
+        }
+        let text = text_of(
             &mut self.session,
             self.hart,
             self.last,
             self.takes_swbreak,
             asked,
         )?;
+        out.push(text)?;
         self.follow(asked, packet)?;
-        Ok(reply)
+        Ok(out)
     }
 
     /// Does what a request that moves nothing changes: the debugger's lists, and the talk.

@@ -22,20 +22,6 @@ use std::process::ExitCode;
 use std::sync::Wait;
 use std::thread::Threads;
 
-/// Debugs the board that the options ask for.
-fn run_session<R: Threads + Wait + Sync>(
-    rt: &HostRuntime,
-    threads: &R,
-    options: &DebugOptions,
-) -> Result<(), FileFault> {
-    let start = start_read::<R>(rt, options)?;
-    let plan = SessionPlan {
-        quantum: options.quantum,
-        most: u64::from(options.most),
-    };
-    converse(rt, threads, start, plan).map_err(FileFault::refused)
-}
-
 /// Reads the command line, and shows what it asks to be shown, or its fault.
 fn asked(rt: &HostRuntime) -> Result<DebugOptions, NoWork> {
     let words = words(rt, USAGE)?;
@@ -44,10 +30,16 @@ fn asked(rt: &HostRuntime) -> Result<DebugOptions, NoWork> {
 
 /// Does what the command line asks for.
 fn run_program<R: Threads + Wait + Sync>(rt: &HostRuntime, threads: &R) -> Result<(), FileFault> {
-    match asked(rt) {
-        Ok(options) => run_session(rt, threads, &options),
-        Err(why) => without_work(why).map_err(FileFault::from),
-    }
+    let options = match asked(rt) {
+        Ok(options) => options,
+        Err(why) => return without_work(why).map_err(FileFault::from),
+    };
+    let start = start_read::<R>(rt, &options)?;
+    let plan = SessionPlan {
+        quantum: options.quantum,
+        most: u64::from(options.most),
+    };
+    converse(rt, threads, start, plan).map_err(FileFault::refused)
 }
 
 /// Tells a fault; of a script that has one, its line too.

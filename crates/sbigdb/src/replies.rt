@@ -1,7 +1,6 @@
 //! What is replied to a request that moves nothing.
 
 ghost use Rattle.std.specs.Prelude.{◌≡◌, ◌+◌, ◌++◌, ◌∷◌, [], Some, codes, IfOk};
-ghost use Rattle.std.specs.Option.{option_map};
 ghost use Rattle.gdb_protocol.specs.Packets.{digit_of};
 ghost use Rattle.gdb_protocol.specs.Replies.{memory_map_text, part_text, registers_text};
 ghost use Rattle.sbigdb.specs.Texts.{threads_object};
@@ -164,7 +163,7 @@ fn features(alloc: Global) -> Result<Vec<u8>, AllocError>
 }
 
 /// The text that a request which moves nothing is replied, of a session whose hart is shown and that stands so.
-fn text_of<C: Crew>(
+pub(crate) fn text_of<C: Crew>(
     session: &mut Session<'_, C>,
     hart: HartId,
     last: Stop,
@@ -203,24 +202,5 @@ fn text_of<C: Crew>(
         | GdbLook::Detach => payload(alloc, b"OK"),
         GdbLook::Write | GdbLook::Malformed => payload(alloc, b"E01"),
         GdbLook::Unknown | GdbLook::Kill => payload(alloc, b""),
-    }
-}
-
-/// What a request that moves nothing is replied, of a session whose hart is shown and that stands so: none where nothing
-/// is to be sent.
-pub(crate) fn reply_of<C: Crew>(
-    session: &mut Session<'_, C>,
-    hart: HartId,
-    last: Stop,
-    takes_swbreak: bool,
-    asked: GdbLook,
-) -> Result<Option<Vec<u8>>, AllocError>
-    ensures same { session.new ≡ session.old }
-    ensures replied { IfOk result (λ out. IsLookReply asked (size_of session.old) hart (bench_of session.old)
-        (stop_text last takes_swbreak) (option_map (λ v. v.items) out)) }
-{
-    match asked {
-        GdbLook::Kill => Ok(None),
-        _ => Ok(Some(text_of(session, hart, last, takes_swbreak, asked)?)),
     }
 }

@@ -1,28 +1,28 @@
 //! The talk on the process's own streams. One thread reads, so that an interrupt is heard while turns run.
 
-ghost use Rattle.std.specs.Prelude.{◌≡◌, ℕ, false, List, [], Some, All, length, codes, if◌then◌else◌, IfOk, OnOk, OnSome};
+ghost use Rattle.std.specs.Prelude.{◌≡◌, ℕ, List, [], All, length, codes, if◌then◌else◌, IfOk, OnOk, OnSome};
 ghost use Rattle.std.specs.Io.KnownBytes.{Appends};
 ghost use Rattle.std.specs.Iterator.{IsFinite};
 ghost use Rattle.debug_session.specs.Ats.{IsAt};
 ghost use Rattle.script_lang.specs.Lines.{IsLineInRange};
 ghost use Rattle.debug_session.specs.Sessions.{size_of, timeline_of};
-ghost use Rattle.sbigdb.specs.Talks.{acknowledges_in, is_over_in, session_in};
+ghost use Rattle.sbigdb.specs.Talks.{acknowledges_in, session_in};
 ghost use Rattle.sbigdb.specs.declared.talk.Talk.{Talk};
-ghost use Rattle.sbigdb.specs.Responses.{AnswersAll, AnswersFrom, Begins, Responds, Says, ack_text, first_ack};
+ghost use Rattle.sbigdb.specs.Responses.{AnswersAll, AnswersFrom, Begins, Says, next_ack};
 
 use crate::listening::{Signals, Silence, hand_on, listen};
 use crate::start::Start;
 use crate::talk::Talk;
 use crate::told::{PayloadScript, told_payloads};
-use crate::wire::{acknowledge, prepare, reply_again, send_answer};
+use crate::wire::{acknowledge, reply_again, send_answer};
 use bench_report::{Setting, lane_by_lane};
 use board_model::{Refusal, Shape};
 use crew::Crew;
 use crossbeam_channel::{Receiver, bounded};
 use debug_session::{Session, SessionPlan};
-use gdb_protocol::PacketEvent;
+use gdb_protocol::{PacketEvent, packets};
 use script_lang::Script;
-use std::alloc::Global;
+use std::alloc::{AllocError, Global};
 use std::io::{self, BufReader, Write};
 use std::sync::Wait;
 use std::sync::atomic::Ordering;
@@ -43,11 +43,15 @@ fn again<C: Crew>(talk: &Talk<'_, C>) -> &'static [u8]
 }
 
 /// Acknowledges what was heard, where it is a packet, and that is wanted.
-fn confirm<W: Write>(acknowledges: bool, what: &PacketEvent, out: &mut W) -> Result<(), Refusal>
-    ensures { OnOk result (Appends (W.contents out.old) (W.contents out.new) (ack_text acknowledges what.now)) }
+fn confirm<W: Write>(
+    acknowledges: bool,
+    what: &Option<PacketEvent>,
+    out: &mut W,
+) -> Result<(), Refusal>
+    ensures { OnOk result (Appends (W.contents out.old) (W.contents out.new) (next_ack acknowledges what.now)) }
 {
     match what {
-        PacketEvent::Packet(_) => acknowledge(acknowledges, out),
+        Some(PacketEvent::Packet(_)) => acknowledge(acknowledges, out),
         _ => acknowledge(false, out),
     }
 }
@@ -56,7 +60,6 @@ fn confirm<W: Write>(acknowledges: bool, what: &PacketEvent, out: &mut W) -> Res
 /// damaged, and that the last answer did.
 fn respond<C: Crew, W: Write>(
     talk: &mut Talk<'_, C>,
-    alloc: Global,
     what: PacketEvent,
     signals: &Signals,
     out: &mut W,
@@ -68,7 +71,9 @@ fn respond<C: Crew, W: Write>(
 {
     match what {
         PacketEvent::Packet(packet) => {
-            prepare(talk, alloc, &packet, &signals.interrupt)?;
+            let payloads = talk.answer(&packet, &signals.interrupt)?;
+            let sent = packets(talk.alloc(), &payloads)?;
+            talk.keep(sent);
             // From its first byte on the answer may be said to have come damaged.
             signals.answering.store(false, Ordering::SeqCst);
             send_answer(talk, out)
@@ -82,73 +87,9 @@ fn respond<C: Crew, W: Write>(
     }
 }
 
-/// Acknowledges and answers what was heard.
-fn take_up<C: Crew, W: Write>(
-    talk: &mut Talk<'_, C>,
-    alloc: Global,
-    what: PacketEvent,
-    signals: &Signals,
-    out: &mut W,
-) -> Result<(), Refusal>
-    requires at { IsAt (size_of (session_in talk.old)) (timeline_of (session_in talk.old)) }
-    ensures at { OnOk result (IsAt (size_of (session_in talk.new)) (timeline_of (session_in talk.new))) }
-    ensures sent { OnOk result ((sent : List ℕ) × Responds what talk.old talk.new sent
-        × Appends (W.contents out.old) (W.contents out.new) sent) }
-{
-    confirm(talk.acknowledges(), &what, out)?;
-    respond(talk, alloc, what, signals, out)
-}
-
-/// Answers whatever is heard, in its order, until the talk is over or no more is heard.
+/// Answers the first thing that was heard, which is acknowledged already, and then whatever is heard, in its order, until the
+/// talk is over or no more is heard.
 fn answers<I: Iterator<Item = PacketEvent>, C: Crew, W: Write>(
-    alloc: Global,
-    talk: &mut Talk<'_, C>,
-    heard: I,
-    signals: &Signals,
-    out: &mut W,
-) -> Result<(), Refusal>
-    requires at { IsAt (size_of (session_in talk.old)) (timeline_of (session_in talk.old)) }
-    requires ongoing { is_over_in talk.old ≡ false }
-    requires can { I.can_next heard }
-    requires ends { IsFinite (I.remaining heard) }
-    // Each thing heard is answered in its turn, and nothing else is sent.
-    ensures sent { OnOk result ((sent : List ℕ) × AnswersAll I.next_gives heard talk.old talk.new sent
-        × Appends (W.contents out.old) (W.contents out.new) sent) }
-{
-    for what in heard {
-        take_up(talk, alloc, what, signals, out)?;
-        if talk.is_over() {
-            return Ok(());
-        }
-    }
-    Ok(())
-}
-
-/// Answers one thing that was heard, which is acknowledged already, and then whatever is heard.
-fn answers_behind<I: Iterator<Item = PacketEvent>, C: Crew, W: Write>(
-    alloc: Global,
-    talk: &mut Talk<'_, C>,
-    what: PacketEvent,
-    heard: I,
-    signals: &Signals,
-    out: &mut W,
-) -> Result<(), Refusal>
-    requires at { IsAt (size_of (session_in talk.old)) (timeline_of (session_in talk.old)) }
-    requires can { I.can_next heard }
-    requires ends { IsFinite (I.remaining heard) }
-    ensures sent { OnOk result ((sent : List ℕ) × AnswersFrom (Some what) I.next_gives heard talk.old talk.new sent
-        × Appends (W.contents out.old) (W.contents out.new) sent) }
-{
-    respond(talk, alloc, what, signals, out)?;
-    if talk.is_over() {
-        return Ok(());
-    }
-    answers(alloc, talk, heard, signals, out)
-}
-
-/// Answers the first thing that was heard, which is acknowledged already, and then whatever is heard; nothing where there was no first.
-fn answers_from<I: Iterator<Item = PacketEvent>, C: Crew, W: Write>(
-    alloc: Global,
     talk: &mut Talk<'_, C>,
     first: Option<PacketEvent>,
     heard: I,
@@ -158,23 +99,21 @@ fn answers_from<I: Iterator<Item = PacketEvent>, C: Crew, W: Write>(
     requires at { IsAt (size_of (session_in talk.old)) (timeline_of (session_in talk.old)) }
     requires can { OnSome first (I.can_next heard) }
     requires ends { IsFinite (I.remaining heard) }
+    // Each thing heard is answered in its turn, and nothing else is sent.
     ensures sent { OnOk result ((sent : List ℕ) × AnswersFrom first I.next_gives heard talk.old talk.new sent
         × Appends (W.contents out.old) (W.contents out.new) sent) }
 {
-    match first {
-        Some(what) => answers_behind(alloc, talk, what, heard, signals, out),
-        None => Ok(()),
+    let mut heard = heard;
+    let mut next = first;
+    while let Some(what) = next {
+        respond(talk, what, signals, out)?;
+        if talk.is_over() {
+            return Ok(());
+        }
+        next = heard.next();
+        confirm(talk.acknowledges(), &next, out)?;
     }
-}
-
-/// Acknowledges the first thing that was heard, if there is one: packets are acknowledged then.
-fn confirm_first<W: Write>(first: &Option<PacketEvent>, out: &mut W) -> Result<(), Refusal>
-    ensures { OnOk result (Appends (W.contents out.old) (W.contents out.new) (first_ack first.now)) }
-{
-    match first {
-        Some(what) => confirm(true, what, out),
-        None => acknowledge(false, out),
-    }
+    Ok(())
 }
 
 /// The talk that begins about the board that a script's lines leave.
@@ -182,7 +121,7 @@ fn begin_talk<'a, C: Crew>(
     setting: Setting<'a, C>,
     plan: SessionPlan,
     told: PayloadScript,
-) -> Result<Talk<'a, C>, Refusal>
+) -> Result<Talk<'a, C>, AllocError>
     requires ranges { All (IsLineInRange setting.shape.now) told.lines.items }
     ensures at { IfOk result (λ talk. IsAt (size_of (session_in talk)) (timeline_of (session_in talk))) }
     ensures begins { IfOk result (Begins setting.entry.shape.now plan told.begins told.lines.items) }
@@ -214,9 +153,13 @@ fn discuss<I: Iterator<Item = PacketEvent>, C: Crew, W: Write>(
 {
     let mut heard = heard;
     let first = heard.next();
-    confirm_first(&first, out)?;
-    let mut talk = begin_talk(setting, plan, told)?;
-    answers_from(setting.alloc, &mut talk, first, heard, signals, out)
+    let Ok(()) = confirm(true, &first, out) else {
+        return Err(Refusal::Output);
+    };
+    let Ok(mut talk) = begin_talk(setting, plan, told) else {
+        return Err(Refusal::Memory);
+    };
+    answers(&mut talk, first, heard, signals, out)
 }
 
 /// The shape of the board, and the script with its payloads told.
