@@ -3,7 +3,6 @@ use Rattle.std.specs.Prelude.{string_bytes}
 use Rattle.script_lang.specs.declared.line.Line.{Line}
 use Rattle.debug_session.specs.Texts.{lines_text}
 use Rattle.std.proofs.lemmas.List.{take_all, append-nil}
-use Rattle.std.proofs.lemmas.Result.{IfOk-from_err}
 use Rattle.debug_session.proofs.script.add_lines.Goals as goal
 
 pub returns : goal.returns

@@ -1,5 +1,4 @@
-use Rattle.std.proofs.Common.{Option, Some, [], ◌++◌, ◌∙◌, sym, subst}
-use Rattle.std.proofs.lemmas.Result.{IfOk-from_err}
+use Rattle.std.proofs.Common.{Option, [], ◌++◌, ◌∙◌, sym, subst}
 use Rattle.board_model.proofs.Written.{appended, unwritten}
 use Rattle.gdb_protocol.specs.declared.heard.PacketEvent.{PacketEvent}
 use Rattle.sbigdb.specs.Responses.{next_ack}

@@ -1,4 +1,4 @@
-use Rattle.std.proofs.Common.{◌≡◌, ◌++◌, None, Option, sym, subst}
+use Rattle.std.proofs.Common.{◌≡◌, ◌++◌, Option, sym, subst}
 use Rattle.std.specs.Prelude.{string_bytes}
 use Rattle.std.proofs.lemmas.List.{append-nil}
 use Rattle.board_model.specs.declared.durable.Durable.{Durable}
