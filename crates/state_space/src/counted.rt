@@ -177,7 +177,6 @@ impl<S: Counts + Carries> Carries for Counting<S> {
         Ok(true)
     }
 
-    #[tactic(auto, using(crate::proofs::Spending::stays_counted))]
     fn carry(
         &mut self,
         from: &Self,

@@ -120,7 +120,6 @@ fn go_on<S: System>(system: &S, graph: &Graph, goals: &[bool], marks: &mut [bool
 }
 
 /// Of each row whether some steps lead from it to a goal. Steps by failures do not count.
-#[tactic(auto, using(crate::proofs::Dead::reaching_none))]
 pub fn reaching<S: System>(
     alloc: Global,
     system: &S,

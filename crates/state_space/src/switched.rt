@@ -249,7 +249,6 @@ impl<S: Preempted + Carries> Carries for Switching<S> {
         Ok(true)
     }
 
-    #[tactic(auto, using(crate::proofs::Priced::stays_within))]
     fn carry(
         &mut self,
         from: &Self,
