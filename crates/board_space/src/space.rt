@@ -97,6 +97,23 @@ fn writers(alloc: Global, shape: &Shape, map: &TouchMap) -> Result<Vec<u8>, Refu
     Ok(masks)
 }
 
+/// No row yet of the boards of that shape whose boot slot holds the payload: rows tell each word that some hart may write by the map.
+fn rows_of(
+    alloc: Global,
+    shape: &Shape,
+    payload: &[u8],
+    map: &TouchMap,
+) -> Result<BoardRows, Refused>
+    requires { length payload.now ≤ ram_bytes_of shape.now }
+    ensures size { IfOk result (λ rows. size_of rows.layout ≡ shape.now) }
+    ensures base { IfOk result (λ rows. base_of rows.layout ≡ boot_memory shape.now payload.now) }
+    ensures tracks { IfOk result (λ rows. Tracks rows.layout (map_in map.now)) }
+{
+    let masks = writers(alloc, shape, map)?;
+    let layout = Layout::new(alloc, shape, payload, &masks)?;
+    BoardRows::new(alloc, layout)
+}
+
 impl BoardSpace {
     ghost use Rattle.state_space.specs.declared.found.Successors.{Successors as Found};
     ghost use Rattle.board_space.specs.Rows.{Stands};
@@ -125,19 +142,21 @@ impl BoardSpace {
           refusals = failures.refusals;
         }) }
     {
+        let rows = rows_of(alloc, shape, payload, &guess.map)?;
+        let board = fresh_board(alloc, shape, payload, reason)?;
+        let payload = payload.to_vec(alloc)?;
         let Guess { map, lives } = guess;
-        let masks = writers(alloc, shape, &map)?;
         Ok(BoardSpace {
             alloc,
             shape: *shape,
-            payload: payload.to_vec(alloc)?,
+            payload,
             reason,
             failures,
             map,
             lives,
             leaves,
-            rows: BoardRows::new(alloc, Layout::new(alloc, shape, payload, &masks)?)?,
-            board: fresh_board(alloc, shape, payload, reason)?,
+            rows,
+            board,
             row: Vec::new(alloc),
             stood: [0; 8],
             broke: None,
@@ -336,8 +355,7 @@ impl BoardSpace {
         ensures setting { setting_of self.new ≡ setting_of self.old }
     {
         let board = self.first_board()?;
-        self.rows.row_of(&board, &[], &mut self.row)?;
-        Ok(())
+        self.rows.row_of(&board, &[], &mut self.row)
     }
 
     /// What was guessed wrong of the next turn of some hart, where something was.
