@@ -30,6 +30,17 @@ struct Readings {
     looks: usize,
 }
 
+impl Readings {
+    /// Nothing was read yet.
+    fn none(alloc: Global) -> Readings {
+        Readings {
+            values: Vec::new(alloc),
+            greater: Vec::new(alloc),
+            looks: 0,
+        }
+    }
+}
+
 /// The word of 8 bytes of that number; 0 where there is none.
 fn word_at(ram: &[u8], number: u64) -> u64 {
     let mut value = 0u64;
@@ -153,17 +164,13 @@ fn look_along(
     Ok(())
 }
 
-/// What counts on: words of memory and registers that are greater each time that the way to the last board is looked at.
-pub fn counting(setting: Setting<'_>, explored: &Explored) -> Result<Vec<String>, Refusal> {
+/// What is read of the boards on the way to the last one that was found.
+fn readings_of(setting: Setting<'_>, explored: &Explored) -> Result<Readings, Refusal> {
+    let mut readings = Readings::none(setting.alloc);
+    let way = last_way(setting, explored)?;
     let Ok(mut board) = explored.first_board() else {
         return Err(Refusal::Memory);
     };
-    let mut readings = Readings {
-        values: Vec::new(setting.alloc),
-        greater: Vec::new(setting.alloc),
-        looks: 0,
-    };
-    let way = last_way(setting, explored)?;
     look_along(
         setting.alloc,
         explored,
@@ -171,6 +178,12 @@ pub fn counting(setting: Setting<'_>, explored: &Explored) -> Result<Vec<String>
         way.as_slice(),
         &mut readings,
     )?;
+    Ok(readings)
+}
+
+/// What counts on: words of memory and registers that are greater each time that the way to the last board is looked at.
+pub fn counting(setting: Setting<'_>, explored: &Explored) -> Result<Vec<String>, Refusal> {
+    let readings = readings_of(setting, explored)?;
     if readings.looks < LOOKS - 1 {
         return Ok(Vec::new(setting.alloc));
     }

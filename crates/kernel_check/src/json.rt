@@ -9,8 +9,70 @@ use crate::looks::Look;
 use crate::texts::{Hex, failure_word, state_word};
 use board_model::Shape;
 use board_space::Bound;
-use serde_json::{Value, json};
+use serde_json::{Map, ToValue, Value};
 use std::alloc::{AllocError, Global};
+
+/// An object as it is built, member after member. Once memory was refused it takes no more, and there is one way out of a function that builds
+/// it, where `json!` has two for each member.
+#[derive(Drop)]
+struct Object {
+    alloc: Global,
+    members: Result<Map<String, Value>, AllocError>,
+}
+
+/// The members with one more.
+fn with_member(
+    alloc: Global,
+    members: Result<Map<String, Value>, AllocError>,
+    name: &str,
+    value: Result<Value, AllocError>,
+) -> Result<Map<String, Value>, AllocError> {
+    let mut members = members?;
+    let value = value?;
+    let name = name.to_string(alloc)?;
+    let _before = members.insert(name, value)?;
+    Ok(members)
+}
+
+impl Object {
+    /// With no member.
+    fn new(alloc: Global) -> Object {
+        Object {
+            alloc,
+            members: Ok(Map::new(alloc)),
+        }
+    }
+
+    /// With one more member.
+    fn with<V: ToValue>(self, name: &str, value: V) -> Object {
+        let Object { alloc, members } = self;
+        let value = value.to_value(alloc);
+        Object {
+            alloc,
+            members: with_member(alloc, members, name, value),
+        }
+    }
+
+    /// With one more member, for which memory may have been refused.
+    fn with_made(self, name: &str, value: Result<Value, AllocError>) -> Object {
+        let Object { alloc, members } = self;
+        Object {
+            alloc,
+            members: with_member(alloc, members, name, value),
+        }
+    }
+
+    /// What was built.
+    fn value(self) -> Result<Value, AllocError> {
+        let Object { members, .. } = self;
+        Ok(Value::Object(members?))
+    }
+}
+
+/// A line of that kind, with no other member.
+fn line(alloc: Global, kind: &str) -> Object {
+    Object::new(alloc).with("line", kind)
+}
 
 /// An address or a register as a text, since a number of JSON may lose its last bits.
 fn hex_value(alloc: Global, number: u64) -> Result<Value, AllocError> {
@@ -25,17 +87,26 @@ pub fn kernel_value(
     shape: &Shape,
     asked: Asked,
 ) -> Result<Value, AllocError> {
-    json!(in alloc; {
-        "line": "kernel",
-        "name": name,
-        "bytes": bytes,
-        "harts": shape.harts(),
-        "pages": shape.pages(),
-        "lanes": shape.lanes(),
-        "reason": asked.reason.number(),
-        "cuts": asked.cuts,
-        "refusals": asked.refusals
-    })
+    line(alloc, "kernel")
+        .with("name", name)
+        .with("bytes", bytes)
+        .with("harts", shape.harts())
+        .with("pages", shape.pages())
+        .with("lanes", shape.lanes())
+        .with("reason", asked.reason.number())
+        .with("cuts", asked.cuts)
+        .with("refusals", asked.refusals)
+        .value()
+}
+
+/// A look by its name, and what it shows.
+fn look_value(alloc: Global, name: &str, bytes: &[u8]) -> Result<Value, AllocError> {
+    let shown = Hex(bytes);
+    let text = format!(in alloc; "{shown}")?;
+    Object::new(alloc)
+        .with("name", name)
+        .with("bytes", text)
+        .value()
 }
 
 /// The looks of an end, by their names.
@@ -43,9 +114,8 @@ fn looks_value(alloc: Global, looks: &[Look], bytes: &[u8]) -> Result<Value, All
     let mut shown = Vec::new(alloc);
     let mut rest = bytes;
     for look in looks {
-        let part = Hex(rest.get(..look.bytes).unwrap_or(rest));
-        let text = format!(in alloc; "{part}")?;
-        shown.push(json!(in alloc; {"name": look.name.as_str(), "bytes": text})?)?;
+        let part = rest.get(..look.bytes).unwrap_or(rest);
+        shown.push(look_value(alloc, look.name.as_str(), part)?)?;
         rest = rest.get(look.bytes..).unwrap_or(&[]);
     }
     Ok(Value::Array(shown))
@@ -102,15 +172,14 @@ fn own_harts(alloc: Global, own: &OwnOrder) -> Result<Value, AllocError> {
 
 /// The kernel's own order: the line "own".
 pub fn own_value(alloc: Global, own: &OwnOrder, looks: &[Look]) -> Result<Value, AllocError> {
-    json!(in alloc; {
-        "line": "own",
-        "turns": own.turns,
-        "sleeps": own.sleeps,
-        "reboots": own.reboots,
-        "looks": own_looks(alloc, own, looks)?,
-        "shutdown": own_shutdown(own),
-        "harts": own_harts(alloc, own)?
-    })
+    line(alloc, "own")
+        .with("turns", own.turns)
+        .with("sleeps", own.sleeps)
+        .with("reboots", own.reboots)
+        .with_made("looks", own_looks(alloc, own, looks))
+        .with("shutdown", own_shutdown(own))
+        .with_made("harts", own_harts(alloc, own))
+        .value()
 }
 
 /// The word for what stopped a search; null where nothing did.
@@ -151,15 +220,19 @@ fn lives_value(bound: Bound) -> Value {
     }
 }
 
+/// A word that harts share.
+fn word_value(alloc: Global, word: &SharedWord) -> Result<Value, AllocError> {
+    Object::new(alloc)
+        .with_made("address", hex_value(alloc, word.address))
+        .with_made("name", name_value(alloc, &word.name))
+        .value()
+}
+
 /// The words that harts share.
 fn shared_value(alloc: Global, shared: &[SharedWord]) -> Result<Value, AllocError> {
     let mut values = Vec::new(alloc);
     for word in shared {
-        let value = json!(in alloc; {
-            "address": hex_value(alloc, word.address)?,
-            "name": name_value(alloc, &word.name)?
-        })?;
-        values.push(value)?;
+        values.push(word_value(alloc, word)?)?;
     }
     Ok(Value::Array(values))
 }
@@ -175,29 +248,27 @@ fn names_value(alloc: Global, names: &[String]) -> Result<Value, AllocError> {
 
 /// How far a search went: a line "search".
 pub fn search_value(alloc: Global, search: &SearchFacts) -> Result<Value, AllocError> {
-    json!(in alloc; {
-        "line": "search",
-        "preemptions": preemptions_value(search.bound),
-        "lives": lives_value(search.bound),
-        "boards": search.boards,
-        "stopped": stop_value(alloc, search.stop)?,
-        "counting": names_value(alloc, search.counting.as_slice())?,
-        "shared": shared_value(alloc, search.shared.as_slice())?,
-        "images": search.images,
-        "ends": search.ends
-    })
+    line(alloc, "search")
+        .with("preemptions", preemptions_value(search.bound))
+        .with("lives", lives_value(search.bound))
+        .with("boards", search.boards)
+        .with_made("stopped", stop_value(alloc, search.stop))
+        .with_made("counting", names_value(alloc, search.counting.as_slice()))
+        .with_made("shared", shared_value(alloc, search.shared.as_slice()))
+        .with("images", search.images)
+        .with("ends", search.ends)
+        .value()
 }
 
 /// Ends that show the same: a line "end".
 pub fn end_value(alloc: Global, kind: &EndKind, looks: &[Look]) -> Result<Value, AllocError> {
-    json!(in alloc; {
-        "line": "end",
-        "ends": kind.count,
-        "expected": kind.is_expected,
-        "own": kind.is_own,
-        "looks": looks_shown(alloc, looks, &kind.shown)?,
-        "shutdown": shutdown_shown(&kind.shown)
-    })
+    line(alloc, "end")
+        .with("ends", kind.count)
+        .with("expected", kind.is_expected)
+        .with("own", kind.is_own)
+        .with_made("looks", looks_shown(alloc, looks, &kind.shown))
+        .with("shutdown", shutdown_shown(&kind.shown))
+        .value()
 }
 
 /// How a run of turns ends.
@@ -214,24 +285,51 @@ fn run_end_value(alloc: Global, end: &RunEnd) -> Result<Value, AllocError> {
     Ok(Value::from(word.to_string(alloc)?))
 }
 
+/// A step of that kind, with no other member.
+fn begun(alloc: Global, step: &str) -> Object {
+    Object::new(alloc).with("step", step)
+}
+
+/// Turns of a hart in a row.
+fn turns_value(alloc: Global, hart: u32, turns: u64, end: &RunEnd) -> Result<Value, AllocError> {
+    begun(alloc, "turns")
+        .with("hart", hart)
+        .with("turns", turns)
+        .with_made("to", run_end_value(alloc, end))
+        .value()
+}
+
+/// The word for what a hart asks of the store.
+fn call_word(call: StoreCall) -> &'static str {
+    match call {
+        StoreCall::Sleep => "sleep",
+        StoreCall::Reset => "reset",
+    }
+}
+
+/// What a hart asks of the store and is refused.
+fn refused_value(
+    alloc: Global,
+    hart: u32,
+    call: StoreCall,
+    down: bool,
+) -> Result<Value, AllocError> {
+    begun(alloc, "refused")
+        .with("hart", hart)
+        .with("call", call_word(call))
+        .with("down", down)
+        .value()
+}
+
 /// A step of an order.
 fn step_value(alloc: Global, step: &OrderStep) -> Result<Value, AllocError> {
     match step {
-        OrderStep::PowerOn(false) => json!(in alloc; {"step": "boot"}),
-        OrderStep::PowerOn(true) => json!(in alloc; {"step": "resume"}),
-        OrderStep::Turns(hart, turns, end) => {
-            let to = run_end_value(alloc, end)?;
-            json!(in alloc; {"step": "turns", "hart": *hart, "turns": *turns, "to": to})
-        }
-        OrderStep::Refused(hart, call, down) => {
-            let call = match call {
-                StoreCall::Sleep => "sleep",
-                StoreCall::Reset => "reset",
-            };
-            json!(in alloc; {"step": "refused", "hart": *hart, "call": call, "down": *down})
-        }
-        OrderStep::Wake => json!(in alloc; {"step": "wake"}),
-        OrderStep::Cut => json!(in alloc; {"step": "cut"}),
+        OrderStep::PowerOn(false) => begun(alloc, "boot").value(),
+        OrderStep::PowerOn(true) => begun(alloc, "resume").value(),
+        OrderStep::Turns(hart, turns, end) => turns_value(alloc, *hart, *turns, end),
+        OrderStep::Refused(hart, call, down) => refused_value(alloc, *hart, *call, *down),
+        OrderStep::Wake => begun(alloc, "wake").value(),
+        OrderStep::Cut => begun(alloc, "cut").value(),
     }
 }
 
@@ -240,22 +338,22 @@ fn trap_value(alloc: Global, trap: &Option<TrapFacts>) -> Result<Value, AllocErr
     let Some(trap) = trap else {
         return Ok(Value::Null);
     };
-    json!(in alloc; {
-        "scause": hex_value(alloc, trap.cause)?,
-        "at": trap.place.as_str(),
-        "stval": hex_value(alloc, trap.value)?
-    })
+    Object::new(alloc)
+        .with_made("scause", hex_value(alloc, trap.cause))
+        .with("at", trap.place.as_str())
+        .with_made("stval", hex_value(alloc, trap.value))
+        .value()
 }
 
 /// A hart where a failure shows.
 fn hart_value(alloc: Global, hart: &HartFacts) -> Result<Value, AllocError> {
-    json!(in alloc; {
-        "hart": hart.hart,
-        "state": state_word(hart.state),
-        "at": hart.place.as_str(),
-        "pending": hart.is_pending,
-        "trap": trap_value(alloc, &hart.trap)?
-    })
+    Object::new(alloc)
+        .with("hart", hart.hart)
+        .with("state", state_word(hart.state))
+        .with("at", hart.place.as_str())
+        .with("pending", hart.is_pending)
+        .with_made("trap", trap_value(alloc, &hart.trap))
+        .value()
 }
 
 /// The steps of an order.
@@ -269,13 +367,12 @@ fn order_value(alloc: Global, order: &[OrderStep]) -> Result<Value, AllocError> 
 
 /// A failure: a line "failure".
 pub fn failure_value(alloc: Global, failure: &Failure) -> Result<Value, AllocError> {
-    json!(in alloc; {
-        "line": "failure",
-        "failure": failure_word(failure.kind),
-        "ends": failure.ends,
-        "order": order_value(alloc, failure.order.as_slice())?,
-        "harts": harts_value(alloc, failure.harts.as_slice())?
-    })
+    line(alloc, "failure")
+        .with("failure", failure_word(failure.kind))
+        .with("ends", failure.ends)
+        .with_made("order", order_value(alloc, failure.order.as_slice()))
+        .with_made("harts", harts_value(alloc, failure.harts.as_slice()))
+        .value()
 }
 
 /// The verdict: the line "verdict".
@@ -286,11 +383,10 @@ pub fn verdict_value(alloc: Global, verdict: Verdict, bound: Bound) -> Result<Va
         Verdict::Found => "found",
         Verdict::Open(_) | Verdict::Blank => "open",
     };
-    json!(in alloc; {
-        "line": "verdict",
-        "verdict": word,
-        "preemptions": preemptions_value(bound),
-        "lives": lives_value(bound),
-        "status": verdict.status()
-    })
+    line(alloc, "verdict")
+        .with("verdict", word)
+        .with("preemptions", preemptions_value(bound))
+        .with("lives", lives_value(bound))
+        .with("status", verdict.status())
+        .value()
 }

@@ -393,6 +393,29 @@ fn failures_of(
     Ok(failures)
 }
 
+/// How far a search went that found so many images and ends.
+fn search_facts(
+    setting: Setting<'_>,
+    explored: &Explored,
+    images: usize,
+    ends: usize,
+) -> Result<SearchFacts, Refusal> {
+    let stop = stop_of(explored);
+    let counting = match stop {
+        Some(_) => counting(setting, explored)?,
+        None => Vec::new(setting.alloc),
+    };
+    Ok(SearchFacts {
+        bound: explored.bound(),
+        boards: explored.count(),
+        stop,
+        counting,
+        shared: shared_words(setting, explored)?,
+        images,
+        ends,
+    })
+}
+
 /// Judges a kernel by a search.
 #[tactic(auto, using(crate::proofs::Telling::verdict_says))]
 pub fn judge(
@@ -414,24 +437,11 @@ pub fn judge(
     let scan = scan(setting, explored);
     let rows = failing_rows(explored, &ends, scan.first_trap)?;
     let failures = failures_of(setting, explored, looks, ends.kinds.as_slice(), rows)?;
-    let stop = stop_of(explored);
     let bound = explored.bound();
-    let counting = match stop {
-        Some(_) => counting(setting, explored)?,
-        None => Vec::new(setting.alloc),
-    };
-    let search = SearchFacts {
-        bound,
-        boards: explored.count(),
-        stop,
-        counting,
-        shared: shared_words(setting, explored)?,
-        images: scan.images,
-        ends: ends.count,
-    };
+    let search = search_facts(setting, explored, scan.images, ends.count)?;
     let verdict = verdict_of(
         failures.len(),
-        stop,
+        search.stop,
         shows_all(explored, ends.kinds.as_slice(), looks),
         holds(setting.alloc, explored, looks, ends.kinds.as_slice())?,
         bound,

@@ -305,8 +305,30 @@ fn way_to(alloc: Global, explored: &Explored, row: usize) -> Result<Vec<u8>, Ref
     }
 }
 
+/// Lets the events of a way come to the board one after the other, adds them and the turns by which it settles after each, and notes traps.
+/// Whether each could come.
+#[tactic(auto, using(crate::proofs::Leading::leads_none))]
+fn follow(
+    setting: Setting<'_>,
+    explored: &Explored,
+    way: &[u8],
+    order: &mut Vec<OrderStep>,
+    board: &mut Board,
+    traps: &mut [Option<Trap>; 8],
+) -> Result<bool, AllocError>
+    requires { board.old.size ≡ explored.now.asked.size }
+    ensures { result ≡ Ok true → Leads (Happens explored.now.asked) board.old.board board.new.board }
+{
+    for event in way {
+        if !add_event(setting, explored, order, board, *event)? {
+            return Ok(false);
+        }
+        note_traps(traps, board, setting.shape);
+    }
+    Ok(true)
+}
+
 /// Follows a shortest way to a board that was found. None where an event of it can't come, which does not happen.
-#[tactic(auto, using(crate::proofs::Leading::leads_none, crate::proofs::Leading::leads_on))]
 pub fn walk_to(
     setting: Setting<'_>,
     explored: &Explored,
@@ -321,11 +343,15 @@ pub fn walk_to(
     };
     let mut order = Vec::new(setting.alloc);
     let mut traps: [Option<Trap>; 8] = [None; 8];
-    for event in way.iter() {
-        if !add_event(setting, explored, &mut order, &mut board, *event)? {
-            return Ok(None);
-        }
-        note_traps(&mut traps, &board, setting.shape);
+    if !follow(
+        setting,
+        explored,
+        way.as_slice(),
+        &mut order,
+        &mut board,
+        &mut traps,
+    )? {
+        return Ok(None);
     }
     Ok(Some(Walk {
         order,
