@@ -1,7 +1,7 @@
 //! The command, its options, and what `--help` says.
 
 ghost use Rattle.std.specs.Prelude.{◌≡◌, false, codes, IfOk};
-ghost use Rattle.clap.specs.Words.{app_of, rule_of};
+ghost use Rattle.clap.specs.Words.{App, app_of, rule_of, with_rule};
 ghost use Rattle.clap.specs.declared.builder.value_parser.ValueParser.TheVariants.{Unsigned};
 ghost use Rattle.command_line.specs.Options.{value_rule};
 ghost use Rattle.kernel_check.specs.Usage.{sbicheck, kernel_rule, several_rule, reason_rule, memory_rule, with_board, with_looks, with_orders, with_bounds, with_writing};
@@ -221,17 +221,27 @@ fn jobs<'a>(alloc: Global) -> Arg<'a>
     option(alloc, JOBS, "N", help).value_parser(ValueParser::unsigned(1, MOST_JOBS))
 }
 
+/// The command with one more argument, unless memory was refused before: what adds several has one way out.
+fn with_arg<'a>(
+    command: Result<Command<'a>, AllocError>,
+    arg: Arg<'a>,
+) -> Result<Command<'a>, AllocError>
+    requires { arg.global ≡ false }
+    ensures { (app : App) → IfOk command.entry (λ c. app_of c ≡ app) → IfOk result (λ c. app_of c ≡ with_rule app (rule_of arg.entry)) }
+{
+    command?.arg(arg)
+}
+
 /// The command with the options of the board.
 fn with_board<'a>(alloc: Global, command: Command<'a>) -> Result<Command<'a>, AllocError>
     ensures { IfOk result (λ c. app_of c ≡ with_board (app_of command.entry)) }
 {
     let harts = "How many harts the board has, 1 to 8";
     let lanes = "How many saver lanes it has, 1 to 4, for the script of --show";
-    command
-        .arg(number(alloc, HARTS, MOST_HARTS, "1", harts))?
-        .arg(pages(alloc))?
-        .arg(number(alloc, LANES, MOST_LANES, "1", lanes))?
-        .arg(reason(alloc))
+    let command = with_arg(Ok(command), number(alloc, HARTS, MOST_HARTS, "1", harts));
+    let command = with_arg(command, pages(alloc));
+    let command = with_arg(command, number(alloc, LANES, MOST_LANES, "1", lanes));
+    with_arg(command, reason(alloc))
 }
 
 /// The command with the options that say what is looked at.
@@ -240,9 +250,8 @@ fn with_looks<'a>(alloc: Global, command: Command<'a>) -> Result<Command<'a>, Al
 {
     let look = "Looks at NAME[:BYTES] or ADDRESS:BYTES; at `shown` if nothing is said";
     let expect = "Expects these bytes at each end: NAME=HEX or ADDRESS=HEX";
-    command
-        .arg(several(alloc, LOOK, "NAME", look))?
-        .arg(several(alloc, EXPECT, "BYTES", expect))
+    let command = with_arg(Ok(command), several(alloc, LOOK, "NAME", look));
+    with_arg(command, several(alloc, EXPECT, "BYTES", expect))
 }
 
 /// The command with the options that say which orders are followed.
@@ -251,10 +260,9 @@ fn with_orders<'a>(alloc: Global, command: Command<'a>) -> Result<Command<'a>, A
 {
     let without =
         "Leaves out power cuts, or refused sleeps and resets [possible values: cuts, refusals]";
-    command
-        .arg(several(alloc, WITHOUT, "WHAT", without))?
-        .arg(preemptions(alloc))?
-        .arg(lives(alloc))
+    let command = with_arg(Ok(command), several(alloc, WITHOUT, "WHAT", without));
+    let command = with_arg(command, preemptions(alloc));
+    with_arg(command, lives(alloc))
 }
 
 /// The command with the options that bound the search.
@@ -262,10 +270,12 @@ fn with_bounds<'a>(alloc: Global, command: Command<'a>) -> Result<Command<'a>, A
     ensures { IfOk result (λ c. app_of c ≡ with_bounds (app_of command.entry)) }
 {
     let boards = "Stops at N boards";
-    command
-        .arg(number(alloc, BOARDS, MOST_BOARDS, "10000000", boards))?
-        .arg(memory(alloc))?
-        .arg(jobs(alloc))
+    let command = with_arg(
+        Ok(command),
+        number(alloc, BOARDS, MOST_BOARDS, "10000000", boards),
+    );
+    let command = with_arg(command, memory(alloc));
+    with_arg(command, jobs(alloc))
 }
 
 /// The command with the options that say how the verdict is written.
@@ -276,10 +286,9 @@ fn with_writing<'a>(alloc: Global, command: Command<'a>) -> Result<Command<'a>, 
     let tap = "Writes the verdict in the Test Anything Protocol";
     let show =
         "Writes its order as a script that sbibench runs [possible values: differs, stuck, traps, fails]";
-    command
-        .arg(flag(alloc, JSON, json))?
-        .arg(flag(alloc, TAP, tap))?
-        .arg(option(alloc, SHOW, "FAILURE", show))
+    let command = with_arg(Ok(command), flag(alloc, JSON, json));
+    let command = with_arg(command, flag(alloc, TAP, tap));
+    with_arg(command, option(alloc, SHOW, "FAILURE", show))
 }
 
 /// The command.

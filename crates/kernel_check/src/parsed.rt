@@ -4,7 +4,7 @@ ghost use Rattle.std.specs.Prelude.{◌≡◌, ◌++◌, List, true, Some, codes
 ghost use Rattle.clap.specs.Words.{HasKind, fault_of, first_value, found_of};
 ghost use Rattle.command_line.specs.Parses.{AreParsed};
 ghost use Rattle.kernel_check.specs.Looks.{IsExpectWord, IsLookWord};
-ghost use Rattle.kernel_check.specs.Options.{AreForms, AreLooked, AreNamedBy, AreOptions, IsAsked, IsBoundBy, IsBounded, IsGiven, IsShown, is_among, memory_of, number_in, values_of};
+ghost use Rattle.kernel_check.specs.Options.{AreForms, AreLooked, AreNamedBy, AreOptions, IsAsked, IsBoundBy, IsBounded, IsGiven, IsShown, is_among, memory_of, number_in, reason_of, values_of};
 ghost use Rattle.kernel_check.specs.Usage.{sbicheck};
 ghost use Rattle.kernel_check.specs.declared.given.LookWord.{LookWord};
 
@@ -124,24 +124,38 @@ fn looks(alloc: Global, matches: &ArgMatches<'_>) -> Result<Option<Vec<LookWord>
     Ok(Some(looks))
 }
 
+/// Whether power cuts and refusals are left out. None where a word is neither.
+fn left_out_given(matches: &ArgMatches<'_>) -> Option<(bool, bool)>
+    ensures cuts { IfSome result (λ out. out.0 ≡ is_among (codes "cuts") (values_of (found_of matches.now) (codes "without"))) }
+    ensures refusals { IfSome result (λ out. out.1 ≡ is_among (codes "refusals") (values_of (found_of matches.now) (codes "without"))) }
+{
+    match matches.get_strs(WITHOUT) {
+        Some(words) => left_out(words),
+        None => Some((false, false)),
+    }
+}
+
+/// The reset reason that the first boot finds. None where the word is no number.
+fn reason_given(matches: &ArgMatches<'_>) -> Option<Reason>
+    ensures { IfSome result (λ reason. reason ≡ reason_of (first_value (found_of matches.now) (codes "reason"))) }
+{
+    let Some(word) = matches.get_str(REASON) else {
+        return Some(Reason::NoReason);
+    };
+    match number_in(word.as_bytes())? {
+        1 => Some(Reason::SystemFailure),
+        _ => Some(Reason::NoReason),
+    }
+}
+
 /// What is done of each order. None where a word says nothing of it.
 fn asked(matches: &ArgMatches<'_>) -> Option<Asked>
     ensures { IfSome result (IsAsked (found_of matches.now)) }
 {
-    let (cuts, refusals) = match matches.get_strs(WITHOUT) {
-        Some(words) => left_out(words)?,
-        None => (false, false),
-    };
-    let reason = match matches.get_str(REASON) {
-        Some(word) => number_in(word.as_bytes())?,
-        None => 0,
-    };
+    let (cuts, refusals) = left_out_given(matches)?;
+    let reason = reason_given(matches)?;
     Some(Asked {
-        reason: if reason == 1 {
-            Reason::SystemFailure
-        } else {
-            Reason::NoReason
-        },
+        reason,
         cuts: !cuts,
         refusals: !refusals,
     })

@@ -5,7 +5,5 @@ use Rattle.kernel_check.proofs.help.with_board.Goals as goal
 
 pub returns : goal.returns
 returns c =
-    let a1 = c.in_ok-arg.ensures.shape c.number.ensures.local ∙ ap₂ with_rule refl c.number.ensures.rule in
-    let a2 = c.in_ok-arg-2.ensures.shape c.pages.ensures.local ∙ ap₂ with_rule a1 c.pages.ensures.rule in
-    let a3 = c.in_ok-arg-3.ensures.shape c.number-2.ensures.local ∙ ap₂ with_rule a2 c.number-2.ensures.rule in
-    IfOk-weaker c.arg-4.result _ _ (λ r h. h.shape c.reason.ensures.local ∙ ap₂ with_rule a3 c.reason.ensures.rule) c.arg-4.ensures
+    let rules = ap₂ with_rule (ap₂ with_rule (ap₂ with_rule (ap₂ with_rule refl c.number.ensures.rule) c.pages.ensures.rule) c.number-2.ensures.rule) c.reason.ensures.rule in
+    IfOk-weaker c.with_arg.result _ _ (λ r h. h ∙ rules) (c.with_arg.ensures _ (c.with_arg-command-3.ensures _ (c.with_arg-command-2.ensures _ (c.with_arg-command.ensures _ refl))))

@@ -5,5 +5,5 @@ use Rattle.kernel_check.proofs.help.with_looks.Goals as goal
 
 pub returns : goal.returns
 returns c =
-    let a1 = c.in_ok-arg.ensures.shape c.several.ensures.local ∙ ap₂ with_rule refl c.several.ensures.rule in
-    IfOk-weaker c.arg-2.result _ _ (λ r h. h.shape c.several-2.ensures.local ∙ ap₂ with_rule a1 c.several-2.ensures.rule) c.arg-2.ensures
+    let rules = ap₂ with_rule (ap₂ with_rule refl c.several.ensures.rule) c.several-2.ensures.rule in
+    IfOk-weaker c.with_arg.result _ _ (λ r h. h ∙ rules) (c.with_arg.ensures _ (c.with_arg-command.ensures _ refl))

@@ -5,6 +5,5 @@ use Rattle.kernel_check.proofs.help.with_writing.Goals as goal
 
 pub returns : goal.returns
 returns c =
-    let a1 = c.in_ok-arg.ensures.shape c.flag.ensures.local ∙ ap₂ with_rule refl c.flag.ensures.rule in
-    let a2 = c.in_ok-arg-2.ensures.shape c.flag-2.ensures.local ∙ ap₂ with_rule a1 c.flag-2.ensures.rule in
-    IfOk-weaker c.arg-3.result _ _ (λ r h. h.shape c.option.ensures.local ∙ ap₂ with_rule a2 c.option.ensures.rule) c.arg-3.ensures
+    let rules = ap₂ with_rule (ap₂ with_rule (ap₂ with_rule refl c.flag.ensures.rule) c.flag-2.ensures.rule) c.option.ensures.rule in
+    IfOk-weaker c.with_arg.result _ _ (λ r h. h ∙ rules) (c.with_arg.ensures _ (c.with_arg-command-2.ensures _ (c.with_arg-command.ensures _ refl)))
