@@ -233,45 +233,57 @@ fn with_arg<'a>(
 }
 
 /// The command with the options of the board.
-fn with_board<'a>(alloc: Global, command: Command<'a>) -> Result<Command<'a>, AllocError>
-    ensures { IfOk result (λ c. app_of c ≡ with_board (app_of command.entry)) }
+fn with_board<'a>(
+    alloc: Global,
+    command: Result<Command<'a>, AllocError>,
+) -> Result<Command<'a>, AllocError>
+    ensures { (app : App) → IfOk command.entry (λ c. app_of c ≡ app) → IfOk result (λ c. app_of c ≡ with_board app) }
 {
     let harts = "How many harts the board has, 1 to 8";
     let lanes = "How many saver lanes it has, 1 to 4, for the script of --show";
-    let command = with_arg(Ok(command), number(alloc, HARTS, MOST_HARTS, "1", harts));
+    let command = with_arg(command, number(alloc, HARTS, MOST_HARTS, "1", harts));
     let command = with_arg(command, pages(alloc));
     let command = with_arg(command, number(alloc, LANES, MOST_LANES, "1", lanes));
     with_arg(command, reason(alloc))
 }
 
 /// The command with the options that say what is looked at.
-fn with_looks<'a>(alloc: Global, command: Command<'a>) -> Result<Command<'a>, AllocError>
-    ensures { IfOk result (λ c. app_of c ≡ with_looks (app_of command.entry)) }
+fn with_looks<'a>(
+    alloc: Global,
+    command: Result<Command<'a>, AllocError>,
+) -> Result<Command<'a>, AllocError>
+    ensures { (app : App) → IfOk command.entry (λ c. app_of c ≡ app) → IfOk result (λ c. app_of c ≡ with_looks app) }
 {
     let look = "Looks at NAME[:BYTES] or ADDRESS:BYTES; at `shown` if nothing is said";
     let expect = "Expects these bytes at each end: NAME=HEX or ADDRESS=HEX";
-    let command = with_arg(Ok(command), several(alloc, LOOK, "NAME", look));
+    let command = with_arg(command, several(alloc, LOOK, "NAME", look));
     with_arg(command, several(alloc, EXPECT, "BYTES", expect))
 }
 
 /// The command with the options that say which orders are followed.
-fn with_orders<'a>(alloc: Global, command: Command<'a>) -> Result<Command<'a>, AllocError>
-    ensures { IfOk result (λ c. app_of c ≡ with_orders (app_of command.entry)) }
+fn with_orders<'a>(
+    alloc: Global,
+    command: Result<Command<'a>, AllocError>,
+) -> Result<Command<'a>, AllocError>
+    ensures { (app : App) → IfOk command.entry (λ c. app_of c ≡ app) → IfOk result (λ c. app_of c ≡ with_orders app) }
 {
     let without =
         "Leaves out power cuts, or refused sleeps and resets [possible values: cuts, refusals]";
-    let command = with_arg(Ok(command), several(alloc, WITHOUT, "WHAT", without));
+    let command = with_arg(command, several(alloc, WITHOUT, "WHAT", without));
     let command = with_arg(command, preemptions(alloc));
     with_arg(command, lives(alloc))
 }
 
 /// The command with the options that bound the search.
-fn with_bounds<'a>(alloc: Global, command: Command<'a>) -> Result<Command<'a>, AllocError>
-    ensures { IfOk result (λ c. app_of c ≡ with_bounds (app_of command.entry)) }
+fn with_bounds<'a>(
+    alloc: Global,
+    command: Result<Command<'a>, AllocError>,
+) -> Result<Command<'a>, AllocError>
+    ensures { (app : App) → IfOk command.entry (λ c. app_of c ≡ app) → IfOk result (λ c. app_of c ≡ with_bounds app) }
 {
     let boards = "Stops at N boards";
     let command = with_arg(
-        Ok(command),
+        command,
         number(alloc, BOARDS, MOST_BOARDS, "10000000", boards),
     );
     let command = with_arg(command, memory(alloc));
@@ -279,14 +291,17 @@ fn with_bounds<'a>(alloc: Global, command: Command<'a>) -> Result<Command<'a>, A
 }
 
 /// The command with the options that say how the verdict is written.
-fn with_writing<'a>(alloc: Global, command: Command<'a>) -> Result<Command<'a>, AllocError>
-    ensures { IfOk result (λ c. app_of c ≡ with_writing (app_of command.entry)) }
+fn with_writing<'a>(
+    alloc: Global,
+    command: Result<Command<'a>, AllocError>,
+) -> Result<Command<'a>, AllocError>
+    ensures { (app : App) → IfOk command.entry (λ c. app_of c ≡ app) → IfOk result (λ c. app_of c ≡ with_writing app) }
 {
     let json = "Writes the verdict as lines of JSON";
     let tap = "Writes the verdict in the Test Anything Protocol";
     let show =
         "Writes its order as a script that sbibench runs [possible values: differs, stuck, traps, fails]";
-    let command = with_arg(Ok(command), flag(alloc, JSON, json));
+    let command = with_arg(command, flag(alloc, JSON, json));
     let command = with_arg(command, flag(alloc, TAP, tap));
     with_arg(command, option(alloc, SHOW, "FAILURE", show))
 }
@@ -295,10 +310,11 @@ fn with_writing<'a>(alloc: Global, command: Command<'a>) -> Result<Command<'a>, 
 pub fn command<'a>(alloc: Global) -> Result<Command<'a>, AllocError>
     ensures { IfOk result (λ c. app_of c ≡ sbicheck) }
 {
-    let command = program(alloc, "sbicheck", USAGE, ABOUT, STATUS).arg(kernel(alloc))?;
-    let command = with_board(alloc, command)?;
-    let command = with_looks(alloc, command)?;
-    let command = with_orders(alloc, command)?;
-    let command = with_bounds(alloc, command)?;
+    let command = Ok(program(alloc, "sbicheck", USAGE, ABOUT, STATUS));
+    let command = with_arg(command, kernel(alloc));
+    let command = with_board(alloc, command);
+    let command = with_looks(alloc, command);
+    let command = with_orders(alloc, command);
+    let command = with_bounds(alloc, command);
     with_writing(alloc, command)
 }

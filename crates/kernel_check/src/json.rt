@@ -12,8 +12,8 @@ use board_space::Bound;
 use serde_json::{Map, ToValue, Value};
 use std::alloc::{AllocError, Global};
 
-/// An object as it is built, member after member. Once memory was refused it takes no more, and there is one way out of a function that builds
-/// it, where `json!` has two for each member.
+/// An object as it is built, member after member. Once memory was refused it takes no more: a function that builds it has one way out, where
+/// `json!` has two for each member.
 #[derive(Drop)]
 struct Object {
     alloc: Global,

@@ -1,14 +1,13 @@
-use Rattle.std.proofs.Common.{◌∙◌, ap, ap₂}
+use Rattle.std.proofs.Common.{◌∙◌, ap, codes}
 use Rattle.std.proofs.lemmas.Result.{IfOk-weaker}
-use Rattle.clap.specs.Words.{with_rule}
+use Rattle.clap.specs.Words.{Rule, with_rule}
+use Rattle.command_line.specs.Programs.{named_app}
 use Rattle.kernel_check.specs.Usage.{with_board, with_looks, with_orders, with_bounds, with_writing}
 use Rattle.kernel_check.proofs.help.command.Goals as goal
 
 pub returns : goal.returns
 returns c =
-    let kernel = c.in_ok-command.ensures.shape c.kernel.ensures.local ∙ ap₂ with_rule c.program.ensures c.kernel.ensures.rule in
-    let board = c.in_ok-command-2.ensures ∙ ap with_board kernel in
-    let looks = c.in_ok-command-3.ensures ∙ ap with_looks board in
-    let orders = c.in_ok-command-4.ensures ∙ ap with_orders looks in
-    let bounds = c.in_ok-command-5.ensures ∙ ap with_bounds orders in
-    IfOk-weaker c.with_writing.result _ _ (λ r h. h ∙ ap with_writing bounds) c.with_writing.ensures
+    let kernel = ap (λ (r : Rule). with_writing (with_bounds (with_orders (with_looks (with_board (with_rule (named_app (codes "sbicheck")) r)))))) c.kernel.ensures.rule in
+    IfOk-weaker c.with_writing.result _ _ (λ r h. h ∙ kernel)
+    (c.with_writing.ensures _ (c.with_bounds-command.ensures _ (c.with_orders-command.ensures _ (c.with_looks-command.ensures _ (c.with_board-command.ensures _
+    (c.with_arg-command.ensures _ c.program.ensures))))))
