@@ -1,7 +1,7 @@
 use Rattle.std.proofs.Common.{ℕ, List, sym, subst}
 use Rattle.model_board.specs.Boards.{Board}
 use Rattle.board_space.specs.Covering.{StandsAll}
-use Rattle.board_space.specs.Searches.{StandsBy, board_part}
+use Rattle.board_space.specs.Searches.{StandsBy}
 use Rattle.board_space.specs.Shown.{Shows}
 use Rattle.board_space.proofs.Answered.{ok_some}
 use Rattle.board_space.proofs.Searching.{part_stands}

@@ -1,4 +1,4 @@
-use Rattle.std.proofs.Common.{ℕ, List, ◌≡◌, ◌≢◌, ◌∙◌, ◌<◌, length, ap, subst}
+use Rattle.std.proofs.Common.{ℕ, List, ◌≢◌, ◌∙◌, ◌<◌, length, ap, subst}
 use Rattle.std.specs.Prelude.{slice_index}
 use Rattle.std.proofs.lemmas.Result.{IfOk-weaker}
 use Rattle.board_model.specs.Shapes.{ram_bytes_of}

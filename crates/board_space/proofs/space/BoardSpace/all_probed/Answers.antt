@@ -1,4 +1,4 @@
-use Rattle.std.proofs.Common.{◌≡◌, ◌∙◌, ◌<◌, ◌≤◌, Bool, true, false, sym, subst, arith}
+use Rattle.std.proofs.Common.{◌≡◌, ◌∙◌, ◌<◌, ◌≤◌, Bool, true, sym, subst, arith}
 use Rattle.model_board.specs.Boards.{Board}
 use Rattle.model_board.specs.LeftOut.{AreProbed}
 use Rattle.board_space.specs.Mapped.{map_in}
