@@ -1,7 +1,7 @@
 //! The rows of a window, which several systems expand side by side, and which are entered in their order.
 
-ghost use Rattle.std.specs.Prelude.{◌≡◌, ◌<◌, ◌≤◌, ◌+◌, ℕ, All, length, IfOk, OnOk, true, slice_index_or};
-ghost use Rattle.std.specs.Thread.{IsSync};
+ghost use Rattle.std.specs.Prelude.{◌≡◌, ◌<◌, ◌≤◌, ◌+◌, ℕ, All, length, IfOk, OnOk, true, slice_index_or, vec_len, vec_capacity};
+ghost use Rattle.std.specs.Thread.{IsSend, IsSync};
 ghost use Rattle.state_space.specs.Carried.{AreMade, IsCarried, IsLater, IsMade, IsPushed};
 ghost use Rattle.state_space.specs.Graphs.{IsSearched, count_of, expanded_of, row_at};
 ghost use Rattle.state_space.specs.Numbered.{row_width};
@@ -16,8 +16,8 @@ use crate::limits::Limits;
 use crate::refusal::Refused;
 use crate::workers::{Made, Worker};
 use std::alloc::Global;
-use std::thread;
 use std::thread::Threads;
+use std::{mem, thread};
 
 /// The fewest rows that each system expands in a window, but for the last ones of it.
 const ROWS_EACH: usize = 16;
@@ -152,43 +152,91 @@ fn enter_share<S: Carries>(
     Ok(())
 }
 
-/// Lets each system expand its share of a window: so many rows each, from that one on.
-fn make_shares<R: Threads + Sync, S: Carries>(
+/// A system that has expanded its share of a window: so many rows, from that one on by its place among the systems.
+fn with_share<S: Carries>(
+    system: &S,
+    graph: &Graph,
+    each: usize,
+    memos: &[S::Memo],
+    index: usize,
+    worker: Worker<S>,
+) -> Worker<S>
+    requires setting { S.setting worker.system ≡ S.setting system.now }
+    requires searched { IsSearched (S.rules (S.setting system.now)) (S.stands system.now) graph.now }
+    ensures { AreMade S.setting S.rules S.stands system.now graph.now result.system result.made.items }
+{
+    let mut worker = worker;
+    match memos.get(index) {
+        None => worker.forget(),
+        Some(memo) => {
+            let from = index.saturating_mul(each).saturating_add(graph.expanded());
+            worker.make_all(system, graph, memo, from, from.saturating_add(each));
+        }
+    }
+    worker
+}
+
+/// The last of the systems, which is taken out of their list. The system that is searched is an argument only so that its setting can be
+/// named.
+fn last_of<S: Carries>(system: &S, workers: &mut Vec<Worker<S>>) -> Worker<S>
+    requires some { 0 < vec_len workers.old }
+    requires setting { All (λ worker. S.setting worker.system ≡ S.setting system.now) workers.old.items }
+    ensures setting { S.setting result.system ≡ S.setting system.now }
+    ensures rest { All (λ worker. S.setting worker.system ≡ S.setting system.now) workers.new.items }
+    ensures many { vec_len workers.new + 1 ≡ vec_len workers.old }
+    ensures room { vec_capacity workers.new ≡ vec_capacity workers.old }
+{
+    let _ = system;
+    let Some(last) = workers.pop() else {
+        unreachable!()
+    };
+    last
+}
+
+/// Lets each system expand its share of a window: so many rows each. This thread makes each of the others, so that the system finds a
+/// processor of its own for each, and then expands a share beside them.
+#[cycle(shares)]
+fn with_shares<R: Threads + Sync, S: Carries>(
     rt: &R,
     system: &S,
     graph: &Graph,
     each: usize,
     memos: &[S::Memo],
-    workers: &mut [Worker<S>],
-)
+    workers: Vec<Worker<S>>,
+) -> Vec<Worker<S>>
     requires searched { IsSearched (S.rules (S.setting system.now)) (S.stands system.now) graph.now }
-    requires setting { All (λ worker. S.setting worker.system ≡ S.setting system.now) workers.old }
-    ensures many { length workers.new ≡ length workers.old }
-    ensures made { All (λ worker. AreMade S.setting S.rules S.stands system.now graph.now worker.system worker.made.items) workers.new }
+    requires setting { All (λ worker. S.setting worker.system ≡ S.setting system.now) workers.items }
+    ensures many { vec_len result ≡ vec_len workers }
+    ensures room { vec_capacity result ≡ vec_capacity workers }
+    ensures made { All (λ worker. AreMade S.setting S.rules S.stands system.now graph.now worker.system worker.made.items)
+        result.items }
 {
-    let count = workers.len();
-    if count == 0 {
-        return;
+    let mut rest = workers;
+    if rest.is_empty() {
+        return rest;
     }
-    let first = graph.expanded();
-    thread::for_each_mut(
-        rt,
-        workers,
-        count,
-        &|index: usize, worker: &mut Worker<S>|
-            requires { (S.setting worker.old.system ≡ S.setting system.now)
-                × ((k : ℕ) → k < count_of graph.now → (b : S.State) × S.stands system.now (row_at graph.now k) b) }
-            ensures { AreMade S.setting S.rules S.stands system.entry.now graph.entry.now worker.new.system worker.new.made.items }
-        {
-            match memos.get(index) {
-                None => worker.forget(),
-                Some(memo) => {
-                    let from = index.saturating_mul(each).saturating_add(first);
-                    worker.make_all(system, graph, memo, from, from.saturating_add(each));
-                }
-            }
-        },
-    );
+    let last = last_of(system, &mut rest);
+    let index = rest.len();
+    if index == 0 {
+        rest.push_reserved(with_share(system, graph, each, memos, index, last));
+        return rest;
+    }
+    let one = move || -> Worker<S>
+        requires { IsSync S.row × IsSend S.row × IsSync S.Memo.row × IsSend S.Memo.row × (S.setting last.system ≡ S.setting system.now)
+            × IsSearched (S.rules (S.setting system.now)) (S.stands system.now) graph.now }
+        ensures { AreMade S.setting S.rules S.stands system.entry.now graph.entry.now result.system result.made.items }
+    { with_share(system, graph, each, memos, index, last) };
+    let others = move || -> Vec<Worker<S>>
+        requires { IsSync R.row × IsSync S.row × IsSend S.row × IsSync S.Memo.row × IsSend S.Memo.row
+            × All (λ worker. S.setting worker.system ≡ S.setting system.now) rest.items
+            × IsSearched (S.rules (S.setting system.now)) (S.stands system.now) graph.now }
+        ensures { (vec_len result ≡ vec_len rest) × (vec_capacity result ≡ vec_capacity rest)
+            × All (λ worker. AreMade S.setting S.rules S.stands system.entry.now graph.entry.now worker.system worker.made.items)
+            result.items }
+    { with_shares(rt, system, graph, each, memos, rest) };
+    let (one, mut all) = thread::join(rt, one, others);
+    all.push_reserved(one);
+    all
 }
 
 /// One of several.
@@ -219,6 +267,7 @@ fn add_one<S: Carries>(
 /// The systems beside the one that is searched.
 #[derive(Drop)]
 pub struct Workers<S: Carries> {
+    alloc: Global,
     workers: Vec<Worker<S>>,
     /// What the one that is searched remembers of the numbers of each.
     memos: Vec<S::Memo>,
@@ -238,6 +287,7 @@ impl<S: Carries> Workers<S> {
             add_one(alloc, system, &mut workers, &mut memos)?;
         }
         Ok(Workers {
+            alloc,
             workers,
             memos,
             row: Vec::new(alloc),
@@ -314,7 +364,8 @@ impl<S: Carries> Workers<S> {
         if each == 0 {
             return Ok(());
         }
-        make_shares(rt, system, graph, each, &self.memos, &mut self.workers);
+        let workers = mem::replace(&mut self.workers, Vec::new(self.alloc));
+        self.workers = with_shares(rt, system, graph, each, &self.memos, workers);
         self.enter_all(system, graph, limits, found)
     }
 }
