@@ -5,7 +5,7 @@ use Rattle.std.specs.Io.KnownBytes.{prepend_known}
 use Rattle.std.specs.Option.{option_map}
 use Rattle.std.specs.declared.io.buffered.BufReader.{BufReader}
 use Rattle.board_session.specs.Commands.{party}
-use Rattle.board_session.specs.Dialogues.{dialogue_ends}
+use Rattle.board_session.specs.Dialogues.{Written, dialogue_ends}
 use Rattle.board_session.specs.declared.talks.Left.{Left}
 use Rattle.board_model.specs.declared.refusal.Refusal.{Refusal}
 use Rattle.board_model.specs.declared.refusal.Refusal.TheVariants.{Memory}
@@ -36,7 +36,7 @@ use Rattle.simdisk.specs.declared.sim.SimDisk.{SimDisk}
 
 -- ---- a session
 -- what a session gives back of a disk, an input and an output, by why its console left
-abbrev pub HasEnded : Options → List (List ℕ) → Facts → Facts → List ℕ → Option (List ℕ) → Option (List ℕ) → Option (List ℕ) → Option (List ℕ) → Option Left → Hearing → List HartEnd
+abbrev pub HasEnded : Options → List (List ℕ) → Facts → Facts → List ℕ → Option (List ℕ) → Written → Option (List ℕ) → Written → Option Left → Hearing → List HartEnd
     → Result (Unit {0}) Refusal → Type 0
 HasEnded o payloads old now moments input begun rest written left heard ends ran =
     (RefusesSession o.new o.shape o.mode payloads old ran now × (left ≡ None))
@@ -44,7 +44,7 @@ HasEnded o payloads old now moments input begun rest written left heard ends ran
     × (ran ≡ outcome_of left))
 
 -- the output is told that the console begins, which changes nothing that is known of it
-pub has_run : (o : Options) (payloads : List (List ℕ)) (old now : Facts) (moments : List ℕ) (input out begun rest written : Option (List ℕ))
+pub has_run : (o : Options) (payloads : List (List ℕ)) (old now : Facts) (moments : List ℕ) (input : Option (List ℕ)) (out begun : Written) (rest : Option (List ℕ)) (written : Written)
     (left : Option Left) (heard : Hearing) (ends : List HartEnd) (ran : Result (Unit {0}) Refusal)
     → HasEnded o payloads old now moments input begun rest written left heard ends ran
     → (left ≡ None → written ≡ begun) → begun ≡ out → HasRun o payloads old now moments input out written ran
@@ -103,7 +103,7 @@ written_found new disk ran known held now f g left done same more is = record {
 }
 
 module _ {H D K : Type 0} (bytes : H → Option (List ℕ)) (at : H → LeftAt) (facts : SimDisk → Facts) (file_facts : D → Facts) (in_file : K → FileKnown) (o : Options)
-    (bytes_at : List ℕ → Option (List ℕ)) (found : List ℕ → Type 0) (payloads : List (List ℕ)) (begun : SimDisk) (held disk read input out written : Option (List ℕ))
+    (bytes_at : List ℕ → Option (List ℕ)) (found : List ℕ → Type 0) (payloads : List (List ℕ)) (begun : SimDisk) (held disk read input : Option (List ℕ)) (out written : Written)
     (left : FileLeft H K) (done : Result (Unit {0}) ProgramFault) (files : AreFilesOf bytes_at (map (option_map string_bytes) o.payloads) payloads)
     (begins : Begins o.new o.shape disk (facts begun)) (buffered : read ≡ input) where
   -- The disk that is there where the session begins is that of the file. It was written there at the end.

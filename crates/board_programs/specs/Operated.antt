@@ -5,6 +5,7 @@ use Rattle.board_files.specs.Disks.{HoldsDisk, IsDiskFile, IsNoDisk, KeepsOrHold
 use Rattle.board_files.specs.Faults.{IsFileFault}
 use Rattle.board_model.specs.Shapes.{Size, sectors_of}
 use Rattle.board_model.specs.declared.refusal.Refusal.{Refusal}
+use Rattle.board_session.specs.Dialogues.{Written}
 use Rattle.board_session.specs.Parses.{AreParsed, AreRefused}
 use Rattle.board_session.specs.Reads.{ReadsOptions}
 use Rattle.board_session.specs.Refused.{AreNoOptions}
@@ -61,14 +62,14 @@ pub record IsWritten (new : Bool) (disk : Facts) (ran : Result (Unit {0}) Refusa
   pub told : done ≡ first_fault (told_of ran) written
 
 -- ---- a session over a disk
--- the bytes of the disk's file where it begins, those of the input and of the output then, and those of the output at the end
+-- the bytes of the disk's file where it begins and those of the input then, and what was given to the output by then and at the end
 pub record Known : Type 0 where
   pub disk : Option (List ℕ)
   pub input : Option (List ℕ)
-  pub out : Option (List ℕ)
-  pub written : Option (List ℕ)
+  pub out : Written
+  pub written : Written
 
-abbrev pub known : Option (List ℕ) → Option (List ℕ) → Option (List ℕ) → Option (List ℕ) → Known
+abbrev pub known : Option (List ℕ) → Option (List ℕ) → Written → Written → Known
 known disk input out written = record { disk = disk; input = input; out = out; written = written }
 
 -- it is written into its file at the end

@@ -1,6 +1,7 @@
 //! What the program does with the words of its command line.
 
 ghost use Rattle.std.specs.Prelude.{◌≡◌, ◌≤◌, ◌⊎◌, map, string_bytes, Result};
+ghost use Rattle.board_session.specs.Dialogues.{output_of};
 ghost use Rattle.board_session.specs.declared.given.Options.{Options};
 ghost use Rattle.command_line.specs.Faults.{status_after, without_work};
 ghost use Rattle.command_line.specs.Told.{fault_of};
@@ -17,7 +18,7 @@ use disk::Disk;
 use simdisk::SimDisk;
 use std::alloc::Global;
 use std::convert::AsStr;
-use std::io::{IsTerminal, Read, Write};
+use std::io::{BufWriter, IsTerminal, Read, Write};
 use std::sync::Wait;
 use std::thread::Threads;
 
@@ -29,7 +30,7 @@ pub struct Operated<H: Drop, K: Drop, O: Write + Drop> {
     /// What stands of the file of its disk.
     pub file_left: FileLeft<H, K>,
     /// What the answers were written to.
-    pub out: O,
+    pub out: BufWriter<O>,
 }
 
 /// What is done where the words ask for no session.
@@ -68,8 +69,8 @@ pub fn operate_on<
         × (((options : Options) × IsReadFrom (map S.text words.now) options
         × HasLeft B.Held.bytes B.Held.left ⟦<SimDisk as Disk>⟧.facts ⟦<FileDisk<B::Kept> as Disk>⟧.facts B.Kept.file_facts options
         (B.bytes_at files.now) (B.left_at files.now (string_bytes options.disk))
-        (known (B.disk_at files.now (string_bytes options.disk)) (I.remaining streams.input) (O.contents streams.out)
-        (O.contents result.out))
+        (known (B.disk_at files.now (string_bytes options.disk)) (I.remaining streams.input) (output_of O.contents streams.out)
+        (output_of O.contents result.out))
         result.file_left done)
         ⊎ ((why : NoWork) × AskForNone (map S.text words.now) why × (done ≡ without_work why)
         × (result.file_left ≡ FileLeft.None))) }

@@ -3,6 +3,7 @@
 ghost use Rattle.std.specs.Prelude.{◌≡◌, ℕ, List, Option, IfErr, IfOk, IfSome, OnErr, OnOk, string_bytes};
 ghost use Rattle.store.specs.Leaves.{IsIdle};
 ghost use Rattle.command_line.specs.Told.{fault_of};
+ghost use Rattle.board_session.specs.Dialogues.{output_of};
 ghost use Rattle.board_files.specs.Disks.{HoldsDisk, KeepsOrHolds};
 ghost use Rattle.board_files.specs.Faults.{IsFileFault};
 ghost use Rattle.board_files.specs.Folders.{PutsDisk};
@@ -25,7 +26,7 @@ use disk::Disk;
 use hart_threads::Moments;
 use simdisk::SimDisk;
 use std::alloc::Global;
-use std::io::{BufReader, IsTerminal, Read, Write};
+use std::io::{BufReader, BufWriter, IsTerminal, Read, Write};
 use std::sync::Wait;
 use std::thread::Threads;
 use store::format;
@@ -52,7 +53,7 @@ pub enum FileLeft<H: Drop, K: Drop> {
 #[derive(Drop)]
 pub struct RunEnd<H: Drop, K: Drop, O: Write + Drop> {
     pub file_left: FileLeft<H, K>,
-    pub out: O,
+    pub out: BufWriter<O>,
     pub ended: Result<(), FileFault>,
 }
 
@@ -148,7 +149,10 @@ fn disk_in_file<B: BoardFiles>(
 }
 
 /// What a run gives back where that fault kept it from beginning a session.
-fn no_session<H: Drop, K: Drop, O: Write + Drop>(out: O, fault: FileFault) -> RunEnd<H, K, O>
+fn no_session<H: Drop, K: Drop, O: Write + Drop>(
+    out: BufWriter<O>,
+    fault: FileFault,
+) -> RunEnd<H, K, O>
     ensures file_left { result.file_left ≡ FileLeft.None }
     ensures out { result.out ≡ out }
     ensures ended { result.ended ≡ Err fault }
@@ -158,6 +162,13 @@ fn no_session<H: Drop, K: Drop, O: Write + Drop>(out: O, fault: FileFault) -> Ru
         out,
         ended: Err(fault),
     }
+}
+
+/// Tells the writer below an output that a console begins. Of the output nothing changes.
+fn begin<O: Answers + Drop>(out: &mut BufWriter<O>, is_synced: bool)
+    ensures { output_of O.contents out.new ≡ output_of O.contents out.old }
+{
+    out.get_mut().begin(is_synced);
 }
 
 /// Runs the session over the disk. The output is told that its console begins, and where notices are wanted, how each hart ended
@@ -178,11 +189,11 @@ fn run_session<
 ) -> SessionEnd<D, I, O>
     requires { IsIdle (D.facts disk) }
     ensures { HasRun setup.now.options.now setup.now.payloads.now (D.facts disk) (D.facts result.disk)
-        result.moments.at (I.remaining streams.input) (O.contents streams.out) (O.contents result.streams.out) result.ran }
+        result.moments.at (I.remaining streams.input) (output_of O.contents streams.out) (output_of O.contents result.streams.out) result.ran }
 {
     let BoardSetup { options, payloads } = *setup;
     let Streams { input, mut out } = streams;
-    out.begin(options.sync);
+    begin(&mut out, options.sync);
     let streams = Streams { input, out };
     let end = session(threads, alloc, options, disk, payloads, streams);
     tell_harts(faults, options, &end.harts);
@@ -209,7 +220,7 @@ fn run_then_write<
     requires { IsIdle (⟦<SimDisk as Disk>⟧.facts disk) }
     ensures { EndsInFile H.bytes H.left ⟦<SimDisk as Disk>⟧.facts setup.now.options.now setup.now.payloads.now
         (⟦<SimDisk as Disk>⟧.facts disk) (H.left held).ever
-        (known (H.bytes held) (I.remaining streams.input) (O.contents streams.out) (O.contents result.out))
+        (known (H.bytes held) (I.remaining streams.input) (output_of O.contents streams.out) (output_of O.contents result.out))
         result.file_left (fault_of result.ended) }
 {
     let mut held = held;
@@ -241,7 +252,7 @@ fn run_in_file<
     requires { IsIdle (⟦<FileDisk<K> as Disk>⟧.facts disk) }
     ensures { (bytes : Option (List ℕ)) → StaysInFile ⟦<FileDisk<K> as Disk>⟧.facts K.file_facts setup.now.options.now
         setup.now.payloads.now (⟦<FileDisk<K> as Disk>⟧.facts disk)
-        (known bytes (I.remaining streams.input) (O.contents streams.out) (O.contents result.out))
+        (known bytes (I.remaining streams.input) (output_of O.contents streams.out) (output_of O.contents result.out))
         result.file_left (fault_of result.ended) }
 {
     let SessionEnd {
@@ -283,7 +294,7 @@ pub fn run_from_files<
     ensures { HasLeft B.Held.bytes B.Held.left ⟦<SimDisk as Disk>⟧.facts ⟦<FileDisk<B::Kept> as Disk>⟧.facts B.Kept.file_facts
         options.now (B.bytes_at files.now) (B.left_at files.now (string_bytes options.now.disk))
         (known (B.disk_at files.now (string_bytes options.now.disk)) (I.remaining streams.input)
-        (O.contents streams.out) (O.contents result.out))
+        (output_of O.contents streams.out) (output_of O.contents result.out))
         result.file_left (fault_of result.ended) }
 {
     let Streams { input, out } = streams;

@@ -6,8 +6,10 @@ ghost use Rattle.std.specs.Process.{exit_status};
 use crate::operates::operate_on;
 use crate::screen::Screen;
 use board_files::SystemFiles;
+use board_model::Refusal;
 use board_session::{EndHint, Streams, USAGE};
 use command_line::{FileFault, end_with, hold_streams, without_work, words};
+use std::io::BufWriter;
 use std::process::ExitCode;
 use std::sync::Wait;
 use std::thread::Threads;
@@ -30,9 +32,9 @@ pub fn operate<R: Threads + Wait + Sync>(rt: &HostRuntime, threads: &R) -> ExitC
         Ok(words) => words,
         Err(why) => return end(rt, &without_work(why).map_err(FileFault::from)),
     };
-    let out = match Screen::new(rt) {
-        Ok(out) => out,
-        Err(refusal) => return end(rt, &Err(FileFault::refused(refusal))),
+    // A line of an answer is one write, since it is flushed as a whole.
+    let Ok(out) = BufWriter::new(rt.alloc(), Screen::new(rt)) else {
+        return end(rt, &Err(FileFault::refused(Refusal::Memory)));
     };
     // Not `rt.reader()`: it holds 8 KiB by value, and LLVM does not finish with a session that moves them.
     let streams = Streams {

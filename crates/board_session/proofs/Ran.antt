@@ -11,7 +11,7 @@ use Rattle.board.specs.Moments.{commands_by}
 use Rattle.machine.specs.Machine.{Machine}
 use Rattle.hart_threads.specs.Heard.{Hearing}
 use Rattle.board_session.specs.Commands.{party}
-use Rattle.board_session.specs.Dialogues.{DialogueEnds, Talks, dialogue_ends}
+use Rattle.board_session.specs.Dialogues.{DialogueEnds, Talks, Written, dialogue_ends}
 use Rattle.board_session.specs.declared.talks.Left.{Left}
 use Rattle.hart_threads.specs.declared.ends.HartEnd.{HartEnd}
 use Rattle.board_session.specs.Histories.{HasHistory}
@@ -69,7 +69,7 @@ named z size s found issued commands failures before said from moments console h
     (subst (λ (x : Machine). Named z s issued failures x) same ended))))
 
 -- what is of the life of the store that the board gave up is of the one that it had
-pub ran_over : (new : Bool) (shape : Size) (mode : BootMode) (payloads : List (List ℕ)) (turns : ℕ) (old disk : Facts) (moments : List ℕ) (left : Option Left) (a : DialogueEnds) (input output : Option (List ℕ)) (heard : Hearing) (ends : List HartEnd) (size z : Size) (found s : DurableState) (issued : List Change) (machine board : Machine) (failures : ℕ) (earlier : ℕ → Content → Type 0) (moment : ℕ)
+pub ran_over : (new : Bool) (shape : Size) (mode : BootMode) (payloads : List (List ℕ)) (turns : ℕ) (old disk : Facts) (moments : List ℕ) (left : Option Left) (a : DialogueEnds) (input : Option (List ℕ)) (output : Written) (heard : Hearing) (ends : List HartEnd) (size z : Size) (found s : DurableState) (issued : List Change) (machine board : Machine) (failures : ℕ) (earlier : ℕ → Content → Type 0) (moment : ℕ)
     → said_since new old ≤ moment → ((t : ℕ) (c : Content) → t ≤ said_since new old → earlier t c → LeftBefore new old size found (commands_by mode found) t c)
     → z ≡ size → s ≡ found → issued ≡ commands_by mode found → board ≡ machine → failures ≡ old.failures → RunsOver new shape mode payloads old.content → Begins new shape old.content size found → IsBegun mode size payloads found machine
     → (console : List (ℕ × Entry)) → HasEnded z s issued failures earlier moment moments console heard disk board turns left ends

@@ -1,7 +1,9 @@
 -- The console's work: lines that are taken from an input, each obeyed and answered.
 -- Source: docs/CONSOLE.md, "The console".
 use Rattle.std.specs.Prelude.{◌≡◌, ◌⊎◌, ◌++◌, ℕ, zero, suc, Bool, true, false, List, [], ◌∷◌, Option, Some, None}
+use Rattle.std.specs.Io.Buffered.{writer_buffer, writer_contents}
 use Rattle.std.specs.Io.KnownBytes.{Appends}
+use Rattle.std.specs.declared.io.buffered.BufWriter.{BufWriter}
 use Rattle.board_model.specs.Durable.{Change, DurableState}
 use Rattle.board_session.specs.declared.lines.LineEnd.{LineEnd}
 use Rattle.board_session.specs.declared.lines.LineEnd.TheVariants as line_ends
@@ -14,14 +16,26 @@ use Rattle.board_session.specs.Commands.{Party, IsAnswerTo}
 use Rattle.board_session.specs.Lines.{TakesLine, is_line, line_meaning}
 use Rattle.board_session.specs.Texts.{reply_text}
 
--- an input and an output, by what is left of the one and stands in the other, where that is known; and what the
--- console was told
+-- what a writer was given, where that is known, and which bytes of it are not written yet
+pub record Written : Type 0 where
+  pub known : Option (List ℕ)
+  pub held : List ℕ
+
+abbrev pub output_of : {W A : Type 0} → (W → Option (List ℕ)) → BufWriter W A → Written
+output_of contents w = record { known = writer_contents contents w; held = writer_buffer w }
+
+-- so many bytes more are written, and none is held back
+abbrev pub Shows : Written → Written → List ℕ → Type 0
+Shows a b bytes = Appends a.known b.known bytes × (b.held ≡ [])
+
+-- an input and an output, by what is left of the one, where that is known, and what was given to the other; and what the console was
+-- told
 pub record DialogueEnds : Type 0 where
   pub input : Option (List ℕ)
-  pub output : Option (List ℕ)
+  pub output : Written
   pub party : Party
 
-abbrev pub dialogue_ends : Option (List ℕ) → Option (List ℕ) → Party → DialogueEnds
+abbrev pub dialogue_ends : Option (List ℕ) → Written → Party → DialogueEnds
 dialogue_ends i o p = record { input = i; output = o; party = p }
 
 -- ---- when the console leaves
@@ -60,11 +74,11 @@ Obeyed found issued ended said answer a b =
     (kept : List ℕ) × TakesLine a.input b.input kept ended × (is_line ended kept ≡ true)
     × (said ≡ line_meaning kept) × IsAnswerTo found issued said answer a.party b.party
 
--- and the answer is written as a line
+-- and the answer is written as a line, of which no byte is held back
 abbrev pub Exchanged : DurableState → List Change → LineEnd → Said → DialogueEnds → DialogueEnds → Type 0
 Exchanged found issued ended said a b =
     (answer : Reply) × Obeyed found issued ended said answer a b
-    × Appends a.output b.output (reply_text answer ++ 10 ∷ [])
+    × Shows a.output b.output (reply_text answer ++ 10 ∷ [])
 
 -- so many lines, none of which says `quit`, and in none of which the input failed
 abbrev pub TalksOn : DurableState → List Change → ℕ → DialogueEnds → DialogueEnds → Type 0

@@ -32,7 +32,7 @@ use Rattle.hart_threads.specs.Doubts.{IsDoubtOf}
 use Rattle.hart_threads.specs.Heard.{Hearing}
 use Rattle.hart_threads.specs.Since.{AreKept}
 use Rattle.board_session.specs.Commands.{party}
-use Rattle.board_session.specs.Dialogues.{DialogueEnds, Talks, dialogue_ends}
+use Rattle.board_session.specs.Dialogues.{DialogueEnds, Talks, Written, dialogue_ends}
 use Rattle.board_session.specs.Histories.{HasHistory}
 use Rattle.board_session.specs.declared.talks.Left.{Left}
 use Rattle.board_session.specs.declared.talks.Left.TheVariants as lefts
@@ -168,7 +168,7 @@ AreOfLife harts journal (Some left) ends =
 -- board that was on, were driven, and ended so, with what that history has of them and the receipts that they were told; where a hart ended
 -- the life, by the last command of its journal.
 pub record RanOver (new : Bool) (shape : Size) (mode : BootMode) (payloads : List (List ℕ)) (turns : ℕ)
-    (old disk : Facts) (moments : List ℕ) (left : Option Left) (a : DialogueEnds) (input output : Option (List ℕ))
+    (old disk : Facts) (moments : List ℕ) (left : Option Left) (a : DialogueEnds) (input : Option (List ℕ)) (output : Written)
     (heard : Hearing) (ends : List HartEnd) : Type 0 where
   pub allowed : RunsOver new shape mode payloads old.content
   pub size : Size

@@ -14,7 +14,7 @@ ghost use Rattle.store.specs.Leaves.{IsIdle};
 ghost use Rattle.store.specs.Taken.{are_taken};
 ghost use Rattle.store.specs.Views.{disk_of, doubt_of, failures_at_open, found_state, journal_of, life_of, size_of_store};
 ghost use Rattle.board_session.specs.Commands.{party};
-ghost use Rattle.board_session.specs.Dialogues.{Talks, dialogue_ends};
+ghost use Rattle.board_session.specs.Dialogues.{Talks, dialogue_ends, output_of};
 ghost use Rattle.board_session.specs.Histories.{HasHistory, IsUnsaved, harts_after};
 ghost use Rattle.board_session.specs.Sessions.{AreOfLife, IsOfLife, TalksIf, outcome_of};
 
@@ -90,8 +90,8 @@ fn attend<'c, R: Wait, D: Disk + Drop, J: Threaded, I: Read + Drop, W: Write + D
     side: ConsoleSide<J, I, W>,
 ) -> Talked<'c, J, I, W>
     ensures { Talks J.found J.issued result.left
-        (dialogue_ends (I.remaining side.streams.input) (W.contents side.streams.out) (party side.part.told side.heard))
-        (dialogue_ends (I.remaining result.side.streams.input) (W.contents result.side.streams.out)
+        (dialogue_ends (I.remaining side.streams.input) (output_of W.contents side.streams.out) (party side.part.told side.heard))
+        (dialogue_ends (I.remaining result.side.streams.input) (output_of W.contents result.side.streams.out)
         (party result.side.part.told result.side.heard)) }
 {
     let ConsoleSide {
@@ -159,8 +159,8 @@ pub(crate) fn run_board<
         × (life : IsOfLife J.size J.found J.issued J.failures J.earlier J.moment result.moments.at console
         result.heard.doubt (D.facts result.disk))
         × TalksIf J.found J.issued result.console_left
-        (dialogue_ends (I.remaining streams.input) (W.contents streams.out) (party [] heard_nothing))
-        (dialogue_ends (I.remaining result.streams.input) (W.contents result.streams.out) (party console result.heard))
+        (dialogue_ends (I.remaining streams.input) (output_of W.contents streams.out) (party [] heard_nothing))
+        (dialogue_ends (I.remaining result.streams.input) (output_of W.contents result.streams.out) (party console result.heard))
         × AreOfLife life.acknowledged.harts life.journal result.console_left result.harts.items
         × HasHistory J.size J.machine J.turns life.journal life.doubt result.heard.woken result.console_left
         result.harts.items }
@@ -247,8 +247,8 @@ fn drive_beside_console<
     requires machine { J.machine ≡ board_of hardware.shape J.memory booted.doze booted.harts.items booted.seats }
     ensures none { length (parts_with result.0) ≡ 0 }
     ensures said { IfOk result.2 (λ r. Talks J.found J.issued r.1.left
-        (dialogue_ends (I.remaining side.streams.input) (W.contents side.streams.out) (party side.part.told side.heard))
-        (dialogue_ends (I.remaining r.1.side.streams.input) (W.contents r.1.side.streams.out)
+        (dialogue_ends (I.remaining side.streams.input) (output_of W.contents side.streams.out) (party side.part.told side.heard))
+        (dialogue_ends (I.remaining r.1.side.streams.input) (output_of W.contents r.1.side.streams.out)
         (party r.1.side.part.told r.1.side.heard))) }
     ensures loops { IfOk result.2 (λ r. vec_len r.0 ≡ vec_len booted.harts) }
     ensures side { IfErr result.2 (λ e. e.side ≡ side) }
@@ -276,9 +276,9 @@ fn drive_beside_console<
         side,
         move |side: ConsoleSide<J, I, W>| -> Talked<'_, J, I, W>
             ensures { Talks J.found J.issued result.left
-                (dialogue_ends (I.remaining side.streams.input) (W.contents side.streams.out)
+                (dialogue_ends (I.remaining side.streams.input) (output_of W.contents side.streams.out)
                 (party side.part.told side.heard))
-                (dialogue_ends (I.remaining result.side.streams.input) (W.contents result.side.streams.out)
+                (dialogue_ends (I.remaining result.side.streams.input) (output_of W.contents result.side.streams.out)
                 (party result.side.part.told result.side.heard)) }
         { attend(rt, bus, store, closing, side) },
     );

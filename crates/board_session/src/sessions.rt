@@ -5,7 +5,7 @@ ghost use Rattle.board_model.specs.Shapes.{Size};
 ghost use Rattle.hart_threads.specs.Heard.{heard_nothing};
 ghost use Rattle.store.specs.Leaves.{IsIdle, IsKept};
 ghost use Rattle.board_session.specs.Commands.{party};
-ghost use Rattle.board_session.specs.Dialogues.{dialogue_ends};
+ghost use Rattle.board_session.specs.Dialogues.{dialogue_ends, output_of};
 ghost use Rattle.board_session.specs.Sessions.{RanOver, RefusesSession, outcome_of};
 
 use crate::beside_threads::{Hardware, HartsOn, run_board};
@@ -21,16 +21,16 @@ use board_model::Refusal;
 use disk::Disk;
 use hart_threads::{HartEnd, Moments};
 use std::alloc::Global;
-use std::io::{Read, Write};
+use std::io::{BufWriter, Read, Write};
 use std::marker::Brand;
 use std::sync::Wait;
 use std::thread::Threads;
 
-/// What a console reads its lines from, and what it writes its answers to.
+/// What a console reads its lines from, and what it writes its answers to: each is a line, which is written at once.
 #[derive(Drop)]
 pub struct Streams<I: Read + Drop, W: Write + Drop> {
     pub input: I,
-    pub out: W,
+    pub out: BufWriter<W>,
 }
 
 /// What a session gives back.
@@ -84,8 +84,8 @@ pub fn session<R: Threads + Wait + Sync, D: Disk + Drop + Send, I: Read + Drop, 
         result.ran (D.facts result.disk) × (result.console_left ≡ None))
         ⊎ (RanOver options.now.new options.now.shape options.now.mode payloads.now options.now.turns (D.facts disk)
         (D.facts result.disk) result.moments.at result.console_left
-        (dialogue_ends (I.remaining streams.input) (W.contents streams.out) (party [] heard_nothing))
-        (I.remaining result.streams.input) (W.contents result.streams.out) result.heard result.harts.items
+        (dialogue_ends (I.remaining streams.input) (output_of W.contents streams.out) (party [] heard_nothing))
+        (I.remaining result.streams.input) (output_of W.contents result.streams.out) result.heard result.harts.items
         × (result.ran ≡ outcome_of result.console_left)) }
     ensures unheard { result.console_left ≡ None → (result.streams ≡ streams) × (result.heard ≡ heard_nothing) }
     // Whatever it answers, a disk of which each crash leaves a state is given back as one.

@@ -1,11 +1,10 @@
 //! The console's lines and their answers.
 
 ghost use Rattle.std.specs.Prelude.{◌≡◌, ◌++◌, ◌∷◌, [], OnOk, IfErr};
-ghost use Rattle.std.specs.Io.KnownBytes.{Appends};
 ghost use Rattle.board_model.specs.declared.refusal.Refusal.TheVariants.{Output};
 ghost use Rattle.hart_threads.specs.Locks.{no_locks};
 ghost use Rattle.board_session.specs.Commands.{HoldsReceipt, IsAnswerTo, party};
-ghost use Rattle.board_session.specs.Dialogues.{Talks, dialogue_ends, left_after, left_before, left_behind, left_without};
+ghost use Rattle.board_session.specs.Dialogues.{Talks, Shows, dialogue_ends, left_after, left_before, left_behind, left_without, output_of};
 ghost use Rattle.board_session.specs.Lines.{TakesLine, is_line};
 ghost use Rattle.board_session.specs.Texts.{reply_text};
 
@@ -17,7 +16,7 @@ use arrayvec::ArrayVec;
 use board_model::{Entry, Refusal};
 use disk::Disk;
 use hart_threads::{BookPart, Heard, Journal, Locks};
-use std::io::{Read, Write};
+use std::io::{BufWriter, Read, Write};
 use std::sync::Wait;
 
 /// Why the console left.
@@ -98,17 +97,18 @@ fn take_line<I: Read, D: Disk + Drop, J: Journal>(
     next_line(input, line)
 }
 
-/// Writes an answer as a line, so that it is seen at once, with no lock held. An `ok N` is written only where the console has the
+/// Writes an answer as a line, of which nothing is held back, with no lock held. An `ok N` is written only where the console has the
 /// receipt of that command in its hand, which a shared store makes once the command is durable.
-fn write_answer<W: Write, D: Disk + Drop, J: Journal>(
+fn write_answer<W: Write + Drop, D: Disk + Drop, J: Journal>(
     locks: &Locks<'_, D, J>,
     part: &BookPart<J, Entry>,
-    out: &mut W,
+    out: &mut BufWriter<W>,
     answer: Reply,
 ) -> Result<(), Refusal>
     requires free { locks.now ≡ no_locks }
     requires told { HoldsReceipt answer part.now.told }
-    ensures written { OnOk result (Appends (W.contents out.old) (W.contents out.new) (reply_text answer ++ 10 ∷ [])) }
+    ensures written { OnOk result (Shows (output_of W.contents out.old) (output_of W.contents out.new)
+        (reply_text answer ++ 10 ∷ [])) }
     ensures refused { IfErr result (λ e. e ≡ Output) }
 {
     let _ = (locks, part);
@@ -148,22 +148,22 @@ fn answer_to<R: Wait, D: Disk + Drop, J: Journal>(
 }
 
 /// Takes one line after another from the input, obeys each in one hold of the store or of the bus at the most, and
-/// writes its answer with no lock held. It leaves after `quit`, at the end of input, where the input fails, and where an
+/// writes its answer with no lock held, of which nothing is held back. It leaves after `quit`, at the end of input, where the input fails, and where an
 /// answer could not be written. Its part of the journal's receipts is told those that it answers, and it has heard of
 /// each refusal and each state that it answers, and of each time that it woke the board.
-pub fn console<R: Wait, D: Disk + Drop, J: Journal, I: Read, W: Write>(
+pub fn console<R: Wait, D: Disk + Drop, J: Journal, I: Read, W: Write + Drop>(
     rt: &R,
     locks: &mut Locks<'_, D, J>,
     part: BookPart<J, Entry>,
     heard: &mut Heard<J>,
     input: &mut I,
-    out: &mut W,
+    out: &mut BufWriter<W>,
 ) -> (BookPart<J, Entry>, Left)
     requires free { locks.old ≡ no_locks }
     ensures free { locks.new ≡ no_locks }
     ensures talks { Talks J.found J.issued result.1
-        (dialogue_ends (I.remaining input.old) (W.contents out.old) (party part.told heard.old))
-        (dialogue_ends (I.remaining input.new) (W.contents out.new) (party result.0.told heard.new)) }
+        (dialogue_ends (I.remaining input.old) (output_of W.contents out.old) (party part.told heard.old))
+        (dialogue_ends (I.remaining input.new) (output_of W.contents out.new) (party result.0.told heard.new)) }
 {
     let mut line = ArrayVec::new();
     let mut part = part;

@@ -62,14 +62,14 @@ pub const PLAIN: Run = Run {
 };
 
 /// How a run of `sbiboard` over these files ends, and the faults that it tells.
-fn operated<R: Threads + Wait + Sync>(
+fn operated<R: Abort + Threads + Wait + Sync>(
     rt: &R,
     files: &MemoryFiles,
     run: &Run,
 ) -> (Operated<MemoryDisk, MemoryFile, Page>, FaultOutput) {
     let streams = Streams {
         input: run.lines,
-        out: Page::new(files.alloc, run.room),
+        out: BufWriter::new(files.alloc, Page::new(files.alloc, run.room)).expect(rt, "memory"),
     };
     let mut faults = FaultOutput(Vec::new(files.alloc));
     let ended = operate_on(files.alloc, rt, files, run.words, streams, &mut faults);
@@ -127,7 +127,7 @@ fn board_left<R: Abort + Threads + Wait + Sync>(
     run: &Run,
 ) -> Result<Vec<u8>, AllocError> {
     let (ended, faults) = operated(rt, &files, run);
-    compare(rt, run, ended.status, &ended.out.text, &faults.0);
+    compare(rt, run, ended.status, &ended.out.get_ref().text, &faults.0);
     bytes_left(files.alloc, files.disk, ended.file_left)
 }
 

@@ -13,7 +13,7 @@ use board_session::{Left, Options, Streams, options, session};
 use disk::Disk;
 use simdisk::SimDisk;
 use std::alloc::Global;
-use std::io::{self, ErrorKind, Read, Write};
+use std::io::{self, BufWriter, ErrorKind, Read, Write};
 use std::process::Abort;
 use std::sync::Wait;
 use std::test::*;
@@ -160,14 +160,15 @@ fn rest_of<R: Abort + Threads + Wait + Sync, I: Read + Drop>(
     let (given, disk) = begun(alloc, ending.words)?;
     let streams = Streams {
         input,
-        out: Flushed::new(alloc, ending.room),
+        out: BufWriter::new(alloc, Flushed::new(alloc, ending.room)).expect(rt, "memory"),
     };
     let ended = session(rt, alloc, &given, disk, &Payloads::new(alloc), streams);
     let why = (ended.ran, ended.console_left);
     same(rt, why, (ending.ran, ending.left));
     let Streams { input, out } = ended.streams;
-    same(rt, out.page.text.as_slice(), ending.told);
-    same(rt, out.seen, ending.seen);
+    let shown = out.get_ref();
+    same(rt, shown.page.text.as_slice(), ending.told);
+    same(rt, shown.seen, ending.seen);
     Ok(input)
 }
 

@@ -14,7 +14,7 @@ use Rattle.board.specs.Unbooted.{LeavesLife}
 use Rattle.hart_threads.specs.Doubts.{IsDoubtOf}
 use Rattle.hart_threads.specs.Heard.{Hearing}
 use Rattle.board_session.specs.Commands.{party}
-use Rattle.board_session.specs.Dialogues.{DialogueEnds, dialogue_ends}
+use Rattle.board_session.specs.Dialogues.{DialogueEnds, Written, dialogue_ends}
 use Rattle.board_session.specs.declared.talks.Left.{Left}
 use Rattle.board_session.specs.Sessions.{Begins, IsOfLife, TalksIf, LeftBefore, RanOver, said_since}
 use Rattle.hart_threads.specs.declared.ends.HartEnd.{HartEnd}
@@ -22,12 +22,12 @@ use Rattle.theorem.specs.Sessions.{FindsSession, KeepsJournal}
 use Rattle.theorem.proofs.PowerLost.{OneStanding}
 
 -- of a life that began in s, with that board: its disk, and what was read and answered
-abbrev pub IsSession : Size → DurableState → BootMode → List (List ℕ) → Facts → Facts → List ℕ → Option Left → DialogueEnds → Option (List ℕ) → Option (List ℕ) → Hearing → Type 0
+abbrev pub IsSession : Size → DurableState → BootMode → List (List ℕ) → Facts → Facts → List ℕ → Option Left → DialogueEnds → Option (List ℕ) → Written → Hearing → Type 0
 IsSession size s mode payloads old disk moments left a input output heard =
     (machine : Machine) × IsBegun mode size payloads s machine × (console : List (ℕ × Entry)) × IsOfLife size s (commands_by mode s) old.failures (LeftBefore false old size s (commands_by mode s)) old.moment moments console heard.doubt disk
     × TalksIf s (commands_by mode s) left a (dialogue_ends input output (party console heard))
 
-module _ (one : OneStanding) (new : Bool) (shape : Size) (mode : BootMode) (payloads : List (List ℕ)) (turns : ℕ) (old disk : Facts) (moments : List ℕ) (left : Option Left) (a : DialogueEnds) (input output : Option (List ℕ)) (heard : Hearing) (ends : List HartEnd) where
+module _ (one : OneStanding) (new : Bool) (shape : Size) (mode : BootMode) (payloads : List (List ℕ)) (turns : ℕ) (old disk : Facts) (moments : List ℕ) (left : Option Left) (a : DialogueEnds) (input : Option (List ℕ)) (output : Written) (heard : Hearing) (ends : List HartEnd) where
   over : RanOver new shape mode payloads turns old disk moments left a input output heard ends → (size : Size) (s : DurableState) → new ≡ false → StandsFor old.content size s → IsSession size s mode payloads old disk moments left a input output heard
   over ran size s is stands =
       let begins : Begins false shape old.content ran.size ran.found = subst (λ (n : Bool). Begins n shape old.content ran.size ran.found) is ran.begins in
@@ -44,11 +44,11 @@ module _ (one : OneStanding) (new : Bool) (shape : Size) (mode : BootMode) (payl
   begun R S (inr ran) some size s is stands = over ran.0 size s is stands
 
 -- what it keeps, and what was read and answered
-abbrev pub IsKept : Size → DurableState → BootMode → Facts → Facts → List ℕ → Option Left → DialogueEnds → Option (List ℕ) → Option (List ℕ) → Hearing → Type 0
+abbrev pub IsKept : Size → DurableState → BootMode → Facts → Facts → List ℕ → Option Left → DialogueEnds → Option (List ℕ) → Written → Hearing → Type 0
 IsKept size s mode old disk moments left a input output heard =
     (kept : KeepsJournal size s (commands_by mode s) old disk moments heard) × TalksIf s (commands_by mode s) left a (dialogue_ends input output (party kept.console heard))
 
-pub keeps : (size : Size) (s : DurableState) (mode : BootMode) (payloads : List (List ℕ)) (old disk : Facts) (moments : List ℕ) (left : Option Left) (a : DialogueEnds) (input output : Option (List ℕ)) (heard : Hearing)
+pub keeps : (size : Size) (s : DurableState) (mode : BootMode) (payloads : List (List ℕ)) (old disk : Facts) (moments : List ℕ) (left : Option Left) (a : DialogueEnds) (input : Option (List ℕ)) (output : Written) (heard : Hearing)
     → IsSession size s mode payloads old disk moments left a input output heard → IsKept size s mode old disk moments left a input output heard
 keeps size s mode payloads old disk moments left a input output heard session = (record { console = session.2; life = session.3 }, session.4)
 
@@ -63,7 +63,7 @@ read_after (Some c) disk given size z t found only gone reads =
       | inr is ↦ inr (c, refl, is)
     ]
 
-finds : (size z : Size) (s found : DurableState) (mode : BootMode) (payloads : List (List ℕ)) (old : Facts) (next : ℕ) (disk given : Facts) (moments : List ℕ) (left : Option Left) (a : DialogueEnds) (input output : Option (List ℕ)) (heard : Hearing) → IsSession size s mode payloads old disk moments left a input output heard
+finds : (size z : Size) (s found : DurableState) (mode : BootMode) (payloads : List (List ℕ)) (old : Facts) (next : ℕ) (disk given : Facts) (moments : List ℕ) (left : Option Left) (a : DialogueEnds) (input : Option (List ℕ)) (output : Written) (heard : Hearing) → IsSession size s mode payloads old disk moments left a input output heard
     → IsLeft disk given → StandsFor given.content z found → next ≡ given.failures → FindsSession size s mode old.failures next left a input output heard found
 finds size z s found mode payloads old next disk given moments left a input output heard session gone reads counts =
     let life = session.3 in record {
@@ -87,7 +87,7 @@ finds size z s found mode payloads old next disk given moments left a input outp
     )
 
 -- and what the next open finds then
-pub left_by : (one : OneStanding) (new : Bool) (shape : Size) (mode : BootMode) (payloads : List (List ℕ)) (turns : ℕ) (old disk : Facts) (moments : List ℕ) (left : Option Left) (a : DialogueEnds) (input output : Option (List ℕ)) (heard : Hearing) (ends : List HartEnd)
+pub left_by : (one : OneStanding) (new : Bool) (shape : Size) (mode : BootMode) (payloads : List (List ℕ)) (turns : ℕ) (old disk : Facts) (moments : List ℕ) (left : Option Left) (a : DialogueEnds) (input : Option (List ℕ)) (output : Written) (heard : Hearing) (ends : List HartEnd)
     → (R S : Type 0) → (R × (left ≡ None)) ⊎ (RanOver new shape mode payloads turns old disk moments left a input output heard ends × S) → (left ≡ None → ⊥) → (size : Size) (s : DurableState) → new ≡ false → StandsFor old.content size s
     → (z : Size) (found : DurableState) (given : Facts) (next : ℕ) → IsLeft disk given → StandsFor given.content z found → next ≡ given.failures → FindsSession size s mode old.failures next left a input output heard found
 left_by one new shape mode payloads turns old disk moments left a input output heard ends R S ended some size s is stands z found given next gone reads counts =

@@ -12,7 +12,7 @@ use Rattle.hart_threads.specs.Doubts.{IsDoubtOf}
 use Rattle.hart_threads.specs.Heard.{Hearing}
 use Rattle.hart_threads.specs.Since.{IsOfFirst}
 use Rattle.board_session.specs.Commands.{party}
-use Rattle.board_session.specs.Dialogues.{DialogueEnds, dialogue_ends}
+use Rattle.board_session.specs.Dialogues.{DialogueEnds, Written, dialogue_ends}
 use Rattle.board_session.specs.declared.talks.Left.{Left}
 use Rattle.board_session.specs.Sessions.{IsAcknowledged, IsOfLife, LeftBefore, TalksIf}
 
@@ -27,7 +27,7 @@ pub record KeepsJournal (size : Size) (s : DurableState) (issued : List Change) 
 -- only where the disk failed, by how often it had failed before the session and after it. It is the console's, which was
 -- answered 6, or one that a durable call of a hart asks for. What was read and answered is of that journal.
 pub record FindsSession (size : Size) (s : DurableState) (mode : BootMode) (before after_it : ℕ) (left : Option Left) (a : DialogueEnds)
-    (input output : Option (List ℕ)) (heard : Hearing) (found : DurableState) : Type 0 where
+    (input : Option (List ℕ)) (output : Written) (heard : Hearing) (found : DurableState) : Type 0 where
   pub journal : List Change
   pub console : List (ℕ × Entry)
   pub acknowledged : IsAcknowledged size (commands_by mode s) journal console

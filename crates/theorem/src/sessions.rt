@@ -5,7 +5,7 @@ ghost use Rattle.board_model.specs.Durable.{Change, DurableState, fold};
 ghost use Rattle.board_model.specs.Shapes.{Size};
 ghost use Rattle.board.specs.Moments.{commands_by};
 ghost use Rattle.board_session.specs.Commands.{party};
-ghost use Rattle.board_session.specs.Dialogues.{dialogue_ends};
+ghost use Rattle.board_session.specs.Dialogues.{dialogue_ends, output_of};
 ghost use Rattle.board_session.specs.Sessions.{TalksIf};
 ghost use Rattle.hart_threads.specs.Heard.{heard_nothing};
 ghost use Rattle.hart_threads.specs.Since.{IsOfFirst, sent};
@@ -76,8 +76,8 @@ pub fn a_session_answers<
         → (result.console_left ≡ None → ⊥) → (kept : KeepsJournal size s (commands_by options.now.mode s) (D.facts disk)
         (D.facts result.disk) result.moments.at result.heard)
         × TalksIf s (commands_by options.now.mode s) result.console_left
-        (dialogue_ends (I.remaining streams.input) (W.contents streams.out) (party [] heard_nothing))
-        (dialogue_ends (I.remaining result.streams.input) (W.contents result.streams.out)
+        (dialogue_ends (I.remaining streams.input) (output_of W.contents streams.out) (party [] heard_nothing))
+        (dialogue_ends (I.remaining result.streams.input) (output_of W.contents result.streams.out)
         (party kept.console result.heard)) }
 {
     content_determines_state();
@@ -106,8 +106,8 @@ pub fn a_session_cut_anywhere<
         → LeavesOnly (D.facts disk) size s → (result.console_left ≡ None → ⊥)
         → (kept : KeepsJournal size s (commands_by options.now.mode s) (D.facts disk) (D.facts result.disk) result.moments.at result.heard)
         × TalksIf s (commands_by options.now.mode s) result.console_left
-        (dialogue_ends (I.remaining streams.input) (W.contents streams.out) (party [] heard_nothing))
-        (dialogue_ends (I.remaining result.streams.input) (W.contents result.streams.out)
+        (dialogue_ends (I.remaining streams.input) (output_of W.contents streams.out) (party [] heard_nothing))
+        (dialogue_ends (I.remaining result.streams.input) (output_of W.contents result.streams.out)
         (party kept.console result.heard))
         × IsCutAnywhere size s (sent kept.life.journal kept.life.doubt) (D.facts disk) (D.facts result.disk) }
 {
@@ -140,8 +140,8 @@ pub fn a_session_in_a_file_cut_anywhere<
         → (kept : KeepsJournal size s (commands_by options.now.mode s) (⟦<FileDisk<F> as Disk>⟧.facts disk)
         (⟦<FileDisk<F> as Disk>⟧.facts result.disk) result.moments.at result.heard)
         × TalksIf s (commands_by options.now.mode s) result.console_left
-        (dialogue_ends (I.remaining streams.input) (W.contents streams.out) (party [] heard_nothing))
-        (dialogue_ends (I.remaining result.streams.input) (W.contents result.streams.out)
+        (dialogue_ends (I.remaining streams.input) (output_of W.contents streams.out) (party [] heard_nothing))
+        (dialogue_ends (I.remaining result.streams.input) (output_of W.contents result.streams.out)
         (party kept.console result.heard))
         × IfKnown (⟦<FileDisk<F> as Filed>⟧.file result.disk) (KeepsSession size s (sent kept.life.journal kept.life.doubt)
         (length (commands_by options.now.mode s)) (length kept.life.journal) (⟦<FileDisk<F> as Disk>⟧.facts disk).moment
@@ -213,8 +213,8 @@ pub fn power_lost_between_sessions<R: Threads + Wait + Sync, I: Read + Drop, W: 
         → StandsFor (⟦<SimDisk as Disk>⟧.facts disk).content size s → (result.0.console_left ≡ None → ⊥)
         → IfOk result.1 (λ next. FindsSession size s options.now.mode
         (⟦<SimDisk as Disk>⟧.facts disk).failures (disk_of next).failures result.0.console_left
-        (dialogue_ends (I.remaining streams.input) (W.contents streams.out) (party [] heard_nothing))
-        (I.remaining result.0.streams.input) (W.contents result.0.streams.out) result.0.heard (found_state next)) }
+        (dialogue_ends (I.remaining streams.input) (output_of W.contents streams.out) (party [] heard_nothing))
+        (I.remaining result.0.streams.input) (output_of W.contents result.0.streams.out) result.0.heard (found_state next)) }
 {
     content_determines_state();
     let SessionEnd {

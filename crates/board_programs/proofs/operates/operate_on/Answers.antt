@@ -3,6 +3,7 @@ use Rattle.clap.specs.Words.{kind_of}
 use Rattle.command_line.specs.Told.{fault_of}
 use Rattle.board_files.specs.contracts.file_disk.FileDiskDisk.TheImpl as file_disk
 use Rattle.simdisk.specs.contracts.device.SimDiskDisk.TheImpl as sim_disk
+use Rattle.board_session.specs.Dialogues.{output_of}
 use Rattle.board_programs.proofs.FilesLeft.{asks_for_none}
 use Rattle.board_programs.proofs.Statuses.{gives_none, no_usage}
 use Rattle.board_programs.specs.Operated.{GiveNoOptions, known}
@@ -22,7 +23,7 @@ returns-in-Ok-clause-usage g c = λ two.
     let options = c.in-Ok.options in
     let done = c.run_from_files-done.result in
     let s = known (g.B.BoardFiles.disk_at c.args.files.now (string_bytes options.disk)) (g.I.Read.remaining c.args.streams.input)
-    (g.O.Write.contents c.args.streams.out) (g.O.Write.contents done.out) in
+    (output_of g.O.Write.contents c.args.streams.out) (output_of g.O.Write.contents done.out) in
     no_usage g.B.Held.DiskFile.bytes g.B.Held.HeldFile.left sim_disk.facts-value.it kept.it g.B.Kept.SectorFile.file_facts options
     (g.B.BoardFiles.left_at c.args.files.now (string_bytes options.disk)) s (GiveNoOptions (map g.S.AsStr.text c.args.words.now))
     (g.B.PayloadFiles.bytes_at c.args.files.now) done.file_left (fault_of done.ended) c.end_with.result c.run_from_files-done.ensures c.end_with.ensures.status two

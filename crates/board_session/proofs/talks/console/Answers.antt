@@ -1,14 +1,14 @@
 use Rattle.std.proofs.Common.{Some, None}
 use Rattle.board_session.specs.Commands.{party}
-use Rattle.board_session.specs.Dialogues.{dialogue_ends}
+use Rattle.board_session.specs.Dialogues.{dialogue_ends, output_of}
 use Rattle.board_session.proofs.Talking.{none_left, left_as, obeyed, held, goes_on, leaves_after, unwritten}
 use Rattle.board_session.proofs.talks.console.Goals as goal
 
 pub returns-in_default-write_answer-clause-talks : goal.returns-in_default-write_answer-clause-talks
 returns-in_default-write_answer-clause-talks g c =
-    let first = dialogue_ends (g.I.Read.remaining c.args.input.now) (g.W.Write.contents c.args.out.now) (party c.args.part.told c.args.heard.now) in
-    let mid = dialogue_ends (g.I.Read.remaining c.loop.input) (g.W.Write.contents c.loop.out) (party c.loop.part.told c.loop.heard) in
-    let last = dialogue_ends (g.I.Read.remaining c.take_line-ended.new.input) (g.W.Write.contents c.write_answer.new.out) (party c.answer_to-told.result.0.told c.answer_to-told.new.heard) in
+    let first = dialogue_ends (g.I.Read.remaining c.args.input.now) (output_of g.W.Write.contents c.args.out.now) (party c.args.part.told c.args.heard.now) in
+    let mid = dialogue_ends (g.I.Read.remaining c.loop.input) (output_of g.W.Write.contents c.loop.out) (party c.loop.part.told c.loop.heard) in
+    let last = dialogue_ends (g.I.Read.remaining c.take_line-ended.new.input) (output_of g.W.Write.contents c.write_answer.new.out) (party c.answer_to-told.result.0.told c.answer_to-told.new.heard) in
     let ended = c.take_line-ended.result in
     let kept = c.take_line-ended.new.line.items in
     let said = c.line_said-said.result in
@@ -20,9 +20,9 @@ returns-in_default-write_answer-clause-talks g c =
 
 pub returns-in-Some-left_after-clause-talks : goal.returns-in-Some-left_after-clause-talks
 returns-in-Some-left_after-clause-talks g c =
-    let first = dialogue_ends (g.I.Read.remaining c.args.input.now) (g.W.Write.contents c.args.out.now) (party c.args.part.told c.args.heard.now) in
-    let mid = dialogue_ends (g.I.Read.remaining c.loop.input) (g.W.Write.contents c.loop.out) (party c.loop.part.told c.loop.heard) in
-    let last = dialogue_ends (g.I.Read.remaining c.take_line-ended.new.input) (g.W.Write.contents c.write_answer.new.out) (party c.answer_to-told.result.0.told c.answer_to-told.new.heard) in
+    let first = dialogue_ends (g.I.Read.remaining c.args.input.now) (output_of g.W.Write.contents c.args.out.now) (party c.args.part.told c.args.heard.now) in
+    let mid = dialogue_ends (g.I.Read.remaining c.loop.input) (output_of g.W.Write.contents c.loop.out) (party c.loop.part.told c.loop.heard) in
+    let last = dialogue_ends (g.I.Read.remaining c.take_line-ended.new.input) (output_of g.W.Write.contents c.write_answer.new.out) (party c.answer_to-told.result.0.told c.answer_to-told.new.heard) in
     let ended = c.take_line-ended.result in
     let kept = c.take_line-ended.new.line.items in
     let said = c.line_said-said.result in
@@ -34,9 +34,9 @@ returns-in-Some-left_after-clause-talks g c =
 
 pub loop-preserved : goal.loop-preserved
 loop-preserved g c =
-    let first = dialogue_ends (g.I.Read.remaining c.args.input.now) (g.W.Write.contents c.args.out.now) (party c.args.part.told c.args.heard.now) in
-    let mid = dialogue_ends (g.I.Read.remaining c.loop.input) (g.W.Write.contents c.loop.out) (party c.loop.part.told c.loop.heard) in
-    let last = dialogue_ends (g.I.Read.remaining c.take_line-ended.new.input) (g.W.Write.contents c.write_answer.new.out) (party c.answer_to-told.result.0.told c.answer_to-told.new.heard) in
+    let first = dialogue_ends (g.I.Read.remaining c.args.input.now) (output_of g.W.Write.contents c.args.out.now) (party c.args.part.told c.args.heard.now) in
+    let mid = dialogue_ends (g.I.Read.remaining c.loop.input) (output_of g.W.Write.contents c.loop.out) (party c.loop.part.told c.loop.heard) in
+    let last = dialogue_ends (g.I.Read.remaining c.take_line-ended.new.input) (output_of g.W.Write.contents c.write_answer.new.out) (party c.answer_to-told.result.0.told c.answer_to-told.new.heard) in
     let ended = c.take_line-ended.result in
     let kept = c.take_line-ended.new.line.items in
     let said = c.line_said-said.result in
