@@ -19,11 +19,12 @@ use crate::guesses::{Broke, Guess};
 use crate::happenings::Happening;
 use crate::orders::{StandsFor, every_order};
 use crate::outcomes::Outcome;
+use crate::questions::Question;
 use crate::seeds::{seed, seed_on};
 use crate::settling::settle_one;
 use crate::showing::{board_part, shown_at, shown_by_all};
-use crate::space::{BoardSpace, Failures};
-use board_model::{HartId, Reason, Shape};
+use crate::space::BoardSpace;
+use board_model::HartId;
 use hart::Hart;
 use model_board::{Board, Rest, TouchMap};
 use state_space::{
@@ -32,25 +33,6 @@ use state_space::{
 use std::alloc::Global;
 use std::marker::Model;
 use std::thread::Threads;
-
-/// What is asked of a kernel.
-#[derive(Drop)]
-pub struct Question<'a> {
-    /// The board.
-    pub shape: Shape,
-    /// The kernel: what its boot slot holds, at most as long as RAM.
-    pub payload: &'a [u8],
-    /// The reset reason that its first boot finds.
-    pub reason: Reason,
-    /// Which failures may come.
-    pub failures: Failures,
-    /// How the orders are bounded that are followed.
-    pub bound: Bound,
-    /// Where the search is given up.
-    pub limits: Limits,
-    /// How many threads search. What is found is the same by any number of them; each has tables of its own, which count to no limit.
-    pub threads: usize,
-}
 
 /// How often a search starts over with a wider map before it is given up.
 const MOST_MAPS: u32 = 10_000;

@@ -3,8 +3,8 @@
 ghost use Rattle.std.specs.Prelude.{◌≡◌, ◌<◌, ◌≤◌, length};
 ghost use Rattle.board_model.specs.Shapes.{ram_bytes_of};
 
-use crate::explored::Question;
 use crate::guesses::{Broke, Guess};
+use crate::questions::Question;
 use crate::space::Failures;
 use board_model::HartId;
 use model_board::{Board, Status};
