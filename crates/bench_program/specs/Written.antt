@@ -8,9 +8,9 @@ use Rattle.std.specs.declared.io.buffered.BufWriter.{BufWriter}
 use Rattle.script_lang.specs.Scripts.{script_of, Script as Said}
 use Rattle.bench_report.specs.Bench.{Bench}
 use Rattle.bench_report.specs.Prefix.{KeepsPrefixLaw}
-use Rattle.bench_report.specs.Texts.{report_text}
+use Rattle.report_lines.specs.Texts.{report_text}
 use Rattle.bench_report.specs.Reports.{AreByFirmware, IsReportWith}
-use Rattle.bench_report.specs.declared.printed.Answer.{Answer}
+use Rattle.report_lines.specs.declared.printed.Answer.{Answer}
 use Rattle.bench_sweep.specs.Shown.{IsRowOf, NoRowOf}
 use Rattle.bench_sweep.specs.Swept.{IsBenchOf, NoBenchRuns}
 use Rattle.bench_schedules.specs.Numbers.{number_of_other}

@@ -5,11 +5,12 @@ ghost use Rattle.script_lang.specs.Lines.{IsLineInRange};
 ghost use Rattle.script_lang.specs.Looks.{IsLookInRange};
 ghost use Rattle.bench_report.specs.Lives.{IsSound};
 
-use bench_report::{Answer, LiveBench, Printed, Setting, lane_by_lane};
+use bench_report::{LiveBench, Setting, lane_by_lane};
 use board::Payloads;
 use board_model::{HartId, Refusal, Value};
 use crew::Crew;
 use machine::{Did, MachineLine, Word};
+use report_lines::{Answer, Printed};
 use script_lang::{Line, Look, parse_script};
 use std::alloc::{AllocError, Global};
 use std::io::Write;

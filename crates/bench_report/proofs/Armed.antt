@@ -16,7 +16,7 @@ use Rattle.bench_report.specs.Happens.{armed_with}
 use Rattle.bench_report.specs.Agree.{LifeIs, BoardIs, DeviceIs, OffIs, OnIs, ArmsIts, CutsIts, PokesIts}
 use Rattle.bench_report.specs.Steps.{Step}
 use Rattle.bench_report.specs.declared.power.Power.{Power}
-use Rattle.bench_report.specs.declared.printed.Answer.{Answer}
+use Rattle.report_lines.specs.declared.printed.Answer.{Answer}
 use Rattle.script_lang.specs.declared.line.Line.{Line}
 use Rattle.script_lang.specs.declared.line.Line.TheVariants as lines
 use Rattle.bench_report.proofs.Ended.{left_on}

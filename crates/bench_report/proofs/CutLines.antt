@@ -11,8 +11,8 @@ use Rattle.bench_report.specs.Happens.{says, unpowered}
 use Rattle.bench_report.specs.Steps.{Step, Moves}
 use Rattle.bench_report.specs.Agree.{Agrees, Matches, IsBench, HasDisk, IsCutBy, EndsBy, ArmsIts, CutsIts, MovesEnough, PokesIts, InspectsIts, InspectsOrLost, StepsEnough}
 use Rattle.bench_report.specs.declared.power.Power.{Power}
-use Rattle.bench_report.specs.declared.printed.Answer.{Answer}
-use Rattle.bench_report.specs.declared.printed.Printed.TheVariants as printed
+use Rattle.report_lines.specs.declared.printed.Answer.{Answer}
+use Rattle.report_lines.specs.declared.printed.Printed.TheVariants as printed
 use Rattle.bench_report.proofs.Armed.{unstruck_arming, unstruck_cut, unstruck_poke}
 use Rattle.bench_report.proofs.Growths.{call_grows, hit_counts}
 

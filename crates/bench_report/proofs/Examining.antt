@@ -13,8 +13,8 @@ use Rattle.store.specs.Opens.{IsBoard, CausedRefusal}
 use Rattle.store.specs.Standing.{selected, state_of, image_of, StandsFor}
 use Rattle.store.specs.Inspects.{KeepsImage, IsInspected, InspectRefused}
 use Rattle.store.specs.declared.inspects.Inspection.{Inspection}
-use Rattle.bench_report.specs.declared.printed.Answer.{Answer}
-use Rattle.bench_report.specs.declared.printed.Printed.TheVariants as printed
+use Rattle.report_lines.specs.declared.printed.Answer.{Answer}
+use Rattle.report_lines.specs.declared.printed.Printed.TheVariants as printed
 use Rattle.bench_report.specs.Views.{facts, fault_state}
 use Rattle.bench_report.specs.Bench.{DiskState, Blank, Unknown, Formatted, Bench}
 use Rattle.bench_report.specs.Happens.{says, failed, out_of_memory}

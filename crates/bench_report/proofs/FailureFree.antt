@@ -29,9 +29,9 @@ use Rattle.script_lang.specs.Scripts.{Script}
 use Rattle.script_lang.specs.declared.line.Line.{Line}
 use Rattle.board_model.specs.declared.console_command.ConsoleCommand.{ConsoleCommand}
 use Rattle.board_model.specs.ConsoleCommands.{console_change}
-use Rattle.bench_report.specs.declared.printed.Printed.{Printed}
-use Rattle.bench_report.specs.declared.printed.Printed.TheVariants as printed
-use Rattle.bench_report.specs.declared.printed.Answer.{Answer}
+use Rattle.report_lines.specs.declared.printed.Printed.{Printed}
+use Rattle.report_lines.specs.declared.printed.Printed.TheVariants as printed
+use Rattle.report_lines.specs.declared.printed.Answer.{Answer}
 use Rattle.bench_report.specs.Bench.{DiskState, Blank, Unknown, Formatted, BenchLife, Bench, IsFailureFree, bench_with}
 use Rattle.bench_report.specs.Deeds as deeds
 use Rattle.bench_report.specs.Deeds.{Deed, deed_of}

@@ -13,8 +13,8 @@ use Rattle.simdisk.specs.contracts.device.SimDiskDisk.TheImpl.Laws.{may_keep-law
 use Rattle.store.specs.Leaves.{IsBlank, IsKept, IsMarked, LeavesOnly, SameLength}
 use Rattle.store.specs.Formats.{WritesHead}
 use Rattle.store.specs.Opens.{CausedRefusal, FormatRefused}
-use Rattle.bench_report.specs.declared.printed.Answer.{Answer}
-use Rattle.bench_report.specs.declared.printed.Printed.TheVariants as printed
+use Rattle.report_lines.specs.declared.printed.Answer.{Answer}
+use Rattle.report_lines.specs.declared.printed.Printed.TheVariants as printed
 use Rattle.bench_report.specs.Views.{facts, fault_state}
 use Rattle.bench_report.specs.Bench.{DiskState, Blank, Unknown, Formatted, Bench}
 use Rattle.bench_report.specs.Happens.{says, failed, formatted_anew, unknown}

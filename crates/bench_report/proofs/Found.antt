@@ -34,9 +34,9 @@ use Rattle.machine.specs.declared.line.MachineLine.{MachineLine}
 use Rattle.machine.specs.declared.line.MachineLine.TheVariants as shown_lines
 use Rattle.board_model.specs.declared.console_command.ConsoleCommand.{ConsoleCommand}
 use Rattle.board_model.specs.ConsoleCommands.{console_change}
-use Rattle.bench_report.specs.declared.printed.Printed.{Printed}
-use Rattle.bench_report.specs.declared.printed.Printed.TheVariants as printed
-use Rattle.bench_report.specs.declared.printed.Answer.{Answer}
+use Rattle.report_lines.specs.declared.printed.Printed.{Printed}
+use Rattle.report_lines.specs.declared.printed.Printed.TheVariants as printed
+use Rattle.report_lines.specs.declared.printed.Answer.{Answer}
 use Rattle.bench_report.specs.Bench.{DiskState, Blank, Unknown, Formatted, BenchLife, Bench, bench_with}
 use Rattle.bench_report.specs.Deeds as deeds
 use Rattle.bench_report.specs.Deeds.{Deed, deed_of}

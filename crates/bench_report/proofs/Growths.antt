@@ -13,9 +13,9 @@ use Rattle.board_model.specs.declared.console_command.ConsoleCommand.{ConsoleCom
 use Rattle.board_model.specs.declared.durable.Reason.{Reason}
 use Rattle.disk.specs.FaultState.{FaultState}
 use Rattle.machine.specs.Machine.{hart_at}
-use Rattle.bench_report.specs.declared.printed.Answer.{Answer}
-use Rattle.bench_report.specs.declared.printed.Printed.{Printed}
-use Rattle.bench_report.specs.declared.printed.Printed.TheVariants as printed
+use Rattle.report_lines.specs.declared.printed.Answer.{Answer}
+use Rattle.report_lines.specs.declared.printed.Printed.{Printed}
+use Rattle.report_lines.specs.declared.printed.Printed.TheVariants as printed
 use Rattle.sbi.specs.Resets.{reset_of}
 use Rattle.sbi.specs.declared.resets.ResetType.{ResetType}
 use Rattle.sbi.specs.declared.words.LifeEnd.{LifeEnd}

@@ -12,9 +12,9 @@ use Rattle.store.specs.Leaves.{IsMarked}
 use Rattle.store.specs.Opens.{IsBoard}
 use Rattle.store.specs.Standing.{selected, Selects, image_of, saved_memory, state_of, StandsFor}
 use Rattle.store.specs.declared.inspects.Inspection.{Inspection}
-use Rattle.bench_report.specs.declared.printed.Answer.{Answer}
-use Rattle.bench_report.specs.declared.printed.Printed.{Printed}
-use Rattle.bench_report.specs.declared.printed.Printed.TheVariants as printed
+use Rattle.report_lines.specs.declared.printed.Answer.{Answer}
+use Rattle.report_lines.specs.declared.printed.Printed.{Printed}
+use Rattle.report_lines.specs.declared.printed.Printed.TheVariants as printed
 use Rattle.bench_report.specs.Bench.{DiskState, Blank, Unknown, Formatted, BenchLife, Bench, IsClean}
 use Rattle.bench_report.specs.Happens.{says}
 use Rattle.bench_report.specs.Sides.{SidesOf}

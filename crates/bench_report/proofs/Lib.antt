@@ -1,4 +1,3 @@
-pub mod Alike
 pub mod Alone
 pub mod Stopping
 pub mod Table

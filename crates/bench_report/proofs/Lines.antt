@@ -19,7 +19,7 @@ use Rattle.machine.specs.declared.line.MachineLine.TheVariants as shown
 use Rattle.bench_report.specs.declared.power.Power.{Power}
 use Rattle.bench_report.specs.declared.power.OffDisk.{OffDisk}
 use Rattle.bench_report.specs.declared.power.Power.TheVariants.{Off, On}
-use Rattle.bench_report.specs.declared.printed.Answer.{Answer}
+use Rattle.report_lines.specs.declared.printed.Answer.{Answer}
 use Rattle.bench_report.specs.Views.{SimStore, SimBoard, store_in, machine_in, store_facts, store_fault_state}
 use Rattle.bench_report.specs.Bench.{BenchLife, Bench}
 use Rattle.bench_report.specs.Happens.{shows, on_with, has_machine}

@@ -21,7 +21,7 @@ use Rattle.bench_report.specs.Rows.{RowMoves, row_answer}
 use Rattle.bench_report.specs.declared.rows.TurnRow.{TurnRow}
 use Rattle.bench_report.specs.declared.rows.TurnRow.TheVariants as rows
 use Rattle.bench_report.proofs.InPlace.{lost_of, row_of, step_of}
-use Rattle.bench_report.specs.declared.printed.Answer.{Answer}
+use Rattle.report_lines.specs.declared.printed.Answer.{Answer}
 use Rattle.bench_report.specs.Lives.{IsAfter, IsCutIn, IsSettled, LineDid, WentInPlace}
 
 abbrev Reported : Size → Line → Fill → Power → Power → List (List ℕ) → List (List ℕ) → Result Answer AllocError → Type 0

@@ -7,8 +7,8 @@ use Rattle.sbi.specs.declared.words.Word.{Word}
 use Rattle.sbi.specs.declared.words.Word.TheVariants as words
 use Rattle.machine.specs.declared.line.MachineLine.{MachineLine}
 use Rattle.machine.specs.declared.line.MachineLine.TheVariants as shown_lines
-use Rattle.bench_report.specs.declared.printed.Printed.{Printed}
-use Rattle.bench_report.specs.declared.printed.Printed.TheVariants as printed
+use Rattle.report_lines.specs.declared.printed.Printed.{Printed}
+use Rattle.report_lines.specs.declared.printed.Printed.TheVariants as printed
 use Rattle.bench_report.specs.PowerOns.{commands_of}
 use Rattle.bench_report.specs.Taken.{TakesAll, TakesSome, TakesFewer}
 use Rattle.bench_report.specs.Prefix.{AskedLine, Boot, Command, Guest, Nothing, IsOfHarts, Keeps, Hides, may_hide, TellsTurns, TellsCall, TellsLine, RefusedChange, Lost, LineImplies}

@@ -13,8 +13,8 @@ use Rattle.store.specs.Answers.{StoreView}
 use Rattle.store.specs.Opens.{ReadsAs}
 use Rattle.store.specs.Standing.{StandsFor}
 use Rattle.board.specs.PowersOn.{IsOn, IsUnpowered}
-use Rattle.bench_report.specs.declared.printed.Answer.{Answer}
-use Rattle.bench_report.specs.declared.printed.Printed.TheVariants as printed
+use Rattle.report_lines.specs.declared.printed.Answer.{Answer}
+use Rattle.report_lines.specs.declared.printed.Printed.TheVariants as printed
 use Rattle.bench_report.specs.Happens.{says}
 use Rattle.bench_report.specs.Examined.{OpensOf}
 

@@ -21,9 +21,9 @@ use Rattle.board.specs.Begins.{IsBegun, IsLateRefusal, IsBootRefusal}
 use Rattle.board.specs.Moments.{commands_by, gone_before, MayLeave, AreWritten, LeavesFrom}
 use Rattle.board.specs.PowersOn.{IsOn, IsUnpowered, KeepsDisk, GivesDisk}
 use Rattle.board.specs.Unbooted.{doubt_by, IsLifeLeft, LeavesLife, CountsRefusal}
-use Rattle.bench_report.specs.declared.printed.Answer.{Answer}
-use Rattle.bench_report.specs.declared.printed.Printed.{Printed}
-use Rattle.bench_report.specs.declared.printed.Printed.TheVariants as printed
+use Rattle.report_lines.specs.declared.printed.Answer.{Answer}
+use Rattle.report_lines.specs.declared.printed.Printed.{Printed}
+use Rattle.report_lines.specs.declared.printed.Printed.TheVariants as printed
 use Rattle.bench_report.specs.Views.{SimStore, SimBoard, store_in, machine_in, facts, fault_state, store_size, store_now, store_facts, store_fault_state, IsLife, IsAs}
 use Rattle.bench_report.specs.Bench.{DiskState, Blank, Unknown, Formatted, BenchLife, Bench, IsClean}
 use Rattle.bench_report.specs.Happens.{says, out_of_memory, failed, off, on_with, has_machine, life_with, all_acknowledged, in_doubt}

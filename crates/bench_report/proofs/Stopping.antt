@@ -5,7 +5,7 @@ use Rattle.std.specs.Result.{IsErrAnd}
 use Rattle.std.proofs.lemmas.Result.{err_from_is_err_and}
 use Rattle.board_model.specs.declared.refusal.Refusal.{Refusal}
 use Rattle.board_model.specs.declared.refusal.Refusal.TheVariants.{Memory, Output}
-use Rattle.bench_report.specs.declared.report.Report.{Report}
+use Rattle.report_lines.specs.declared.report.Report.{Report}
 use Rattle.script_lang.specs.Scripts.{Fails, Script}
 use Rattle.simdisk.specs.declared.SimDisk.{SimDisk}
 use Rattle.bench_report.specs.declared.runs.StoppedRun.{StoppedRun}

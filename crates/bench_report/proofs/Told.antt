@@ -2,15 +2,15 @@
 use Rattle.std.proofs.Common.{◌≡◌, ℕ, ◌+◌, List, [], ◌∷◌, ◌++◌, Option, None, Some, refl, sym, ◌∙◌, ap, arith}
 use Rattle.std.specs.Option.{option_to_list}
 use Rattle.board_model.specs.declared.durable.Durable.{Durable}
-use Rattle.bench_report.specs.declared.printed.Printed.{Printed}
+use Rattle.report_lines.specs.declared.printed.Printed.{Printed}
 use Rattle.std.proofs.lemmas.List.Sums.{sum_by-append}
 use Rattle.std.proofs.lemmas.List.Elements.{filter_map-append}
 use Rattle.std.proofs.lemmas.List.{append-nil}
 use Rattle.std.proofs.lemmas.Grind.{flat_map-append}
-use Rattle.bench_report.specs.declared.printed.Answer.{Answer}
-use Rattle.bench_report.specs.declared.report.Report.{Report}
-use Rattle.bench_report.specs.Texts.{found_count, answer_text, report_text, line_count, found_states}
-use Rattle.bench_report.specs.Counts.{Adds, Reported}
+use Rattle.report_lines.specs.declared.printed.Answer.{Answer}
+use Rattle.report_lines.specs.declared.report.Report.{Report}
+use Rattle.report_lines.specs.Texts.{found_count, answer_text, report_text, line_count, found_states}
+use Rattle.report_lines.specs.Counts.{Adds, Reported}
 use Rattle.board_model.proofs.Written.{appended}
 
 text_more : (answers : List Answer) (a : Answer) → report_text (answers ++ a ∷ []) ≡ report_text answers ++ answer_text a

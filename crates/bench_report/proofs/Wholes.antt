@@ -27,11 +27,11 @@ use Rattle.sbi_abi.specs.declared.ret.SbiError.TheVariants.{Failed, NotSupported
 use Rattle.store.specs.Follows.{FitsBoard}
 use Rattle.sbi_calls.specs.declared.words.Turned.{Turned}
 use Rattle.sbi_calls.specs.declared.words.Turned.TheVariants.{Made, Durable}
-use Rattle.bench_report.specs.declared.printed.Answer.{Answer}
+use Rattle.report_lines.specs.declared.printed.Answer.{Answer}
 use Rattle.board_model.specs.declared.console_command.ConsoleCommand.{ConsoleCommand}
 use Rattle.board_model.specs.ConsoleCommands.{console_change}
-use Rattle.bench_report.specs.declared.printed.Printed.{Printed}
-use Rattle.bench_report.specs.declared.printed.Printed.TheVariants as printed
+use Rattle.report_lines.specs.declared.printed.Printed.{Printed}
+use Rattle.report_lines.specs.declared.printed.Printed.TheVariants as printed
 use Rattle.bench_report.specs.Bench.{DiskState, Blank, Unknown, Formatted, BenchLife, Bench}
 use Rattle.bench_report.specs.Deeds as deeds
 use Rattle.bench_report.specs.Deeds.{Deed, deed_of, IsByFirmwareAlone}

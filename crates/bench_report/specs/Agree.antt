@@ -28,8 +28,8 @@ use Rattle.bench_report.specs.Armings.{fault_of, newest_fill}
 use Rattle.bench_report.specs.Steps.{Step, Moves}
 use Rattle.bench_report.specs.Examined.{AnswersOf, OpensOf}
 use Rattle.bench_report.specs.Happens.{says}
-use Rattle.bench_report.specs.declared.printed.Answer.{Answer}
-use Rattle.bench_report.specs.declared.printed.Printed.TheVariants as printed
+use Rattle.report_lines.specs.declared.printed.Answer.{Answer}
+use Rattle.report_lines.specs.declared.printed.Printed.TheVariants as printed
 
 -- what a crash may leave of the disk is what an open may find of the commands that it keeps
 abbrev pub DiskIs : Size → DiskState → Kept → Facts → Type 0

@@ -4,9 +4,9 @@ use Rattle.disk.specs.declared.device.ArmedFault.{ArmedFault}
 use Rattle.susp.specs.Dozes.{can_wake, after_wake}
 use Rattle.susp.specs.declared.buses.Doze.{Doze}
 use Rattle.machine.specs.declared.line.MachineLine.TheVariants as shown
-use Rattle.bench_report.specs.declared.printed.Printed.{Printed}
-use Rattle.bench_report.specs.declared.printed.Printed.TheVariants as printed
-use Rattle.bench_report.specs.declared.printed.Answer.{Answer}
+use Rattle.report_lines.specs.declared.printed.Printed.{Printed}
+use Rattle.report_lines.specs.declared.printed.Printed.TheVariants as printed
+use Rattle.report_lines.specs.declared.printed.Answer.{Answer}
 use Rattle.bench_report.specs.Bench.{BenchLife, Bench}
 use Rattle.bench_report.specs.Deeds.{Aside, SetSlot, ArmFault, CutPower, CallWake, WritePast}
 use Rattle.bench_report.specs.Happens.{says, on_with, unpowered, armed_with, written_past, has_machine}

@@ -15,9 +15,9 @@ use Rattle.store.specs.Inspects.{IsInspected}
 use Rattle.store.specs.declared.inspects.ImageSeen.{ImageSeen}
 use Rattle.store.specs.declared.inspects.ImageSeen.TheVariants.{Absent, Whole, Bad}
 use Rattle.store.specs.declared.inspects.Inspection.{Inspection}
-use Rattle.bench_report.specs.declared.printed.Printed.{Printed}
-use Rattle.bench_report.specs.declared.printed.Printed.TheVariants as printed
-use Rattle.bench_report.specs.declared.printed.Answer.{Answer}
+use Rattle.report_lines.specs.declared.printed.Printed.{Printed}
+use Rattle.report_lines.specs.declared.printed.Printed.TheVariants as printed
+use Rattle.report_lines.specs.declared.printed.Answer.{Answer}
 use Rattle.bench_report.specs.Bench.{DiskState, Blank, Unknown, Formatted, BenchLife, Bench, IsClean}
 use Rattle.bench_report.specs.Sides.{SidesOf}
 use Rattle.bench_report.specs.Happens.{says, out_of_memory, FailsByFault}

@@ -7,9 +7,9 @@ use Rattle.disk.specs.FaultState.{FaultState, Cause, fault_state_armed, fault_st
 use Rattle.disk.specs.declared.device.ArmedFault.{ArmedFault}
 use Rattle.machine.specs.Machine.{Machine}
 use Rattle.machine.specs.declared.line.MachineLine.{MachineLine}
-use Rattle.bench_report.specs.declared.printed.Printed.{Printed}
-use Rattle.bench_report.specs.declared.printed.Printed.TheVariants as printed
-use Rattle.bench_report.specs.declared.printed.Answer.{Answer}
+use Rattle.report_lines.specs.declared.printed.Printed.{Printed}
+use Rattle.report_lines.specs.declared.printed.Printed.TheVariants as printed
+use Rattle.report_lines.specs.declared.printed.Answer.{Answer}
 use Rattle.bench_report.specs.Bench.{Unknown, Formatted, BenchLife, Bench}
 
 -- ---- answers

@@ -4,7 +4,7 @@ use Rattle.board_model.specs.Durable.{DurableState}
 use Rattle.disk.specs.Facts.{Facts}
 use Rattle.script_lang.specs.Scripts.{Script}
 use Rattle.store.specs.Leaves.{Leaves}
-use Rattle.bench_report.specs.declared.printed.Answer.{Answer}
+use Rattle.report_lines.specs.declared.printed.Answer.{Answer}
 use Rattle.bench_report.specs.Reports.{AreByFirmware}
 use Rattle.bench_report.specs.Prefix.{KeepsPrefixLaw, MayEndIn}
 use Rattle.bench_report.specs.AllFound.{FindsAll}

@@ -1,8 +1,4 @@
 -- In reading order.
--- The exact text of each line of a report, of an answer, and of whole reports.
-pub mod Texts
--- What was written and counted so far.
-pub mod Counts
 -- The bench as a model: disk, board, payloads, fault state.
 pub mod Bench
 -- What a line has the bench do.

@@ -11,9 +11,9 @@ use Rattle.board.specs.Boots.{boot_refusal, PayloadsFit}
 use Rattle.board.specs.Begins.{IsBegun}
 use Rattle.board.specs.Moments.{commands_by}
 use Rattle.machine.specs.Machine.{Machine, resting}
-use Rattle.bench_report.specs.declared.printed.Printed.{Printed}
-use Rattle.bench_report.specs.declared.printed.Printed.TheVariants as printed
-use Rattle.bench_report.specs.declared.printed.Answer.{Answer}
+use Rattle.report_lines.specs.declared.printed.Printed.{Printed}
+use Rattle.report_lines.specs.declared.printed.Printed.TheVariants as printed
+use Rattle.report_lines.specs.declared.printed.Answer.{Answer}
 use Rattle.bench_report.specs.Bench.{DiskState, Blank, Unknown, Formatted, BenchLife, Bench}
 use Rattle.bench_report.specs.Happens.{says, out_of_memory, FailsByFault, off, on_with, unknown, formatted_anew, settled, has_machine}
 use Rattle.bench_report.specs.Commands.{IssuesAll}

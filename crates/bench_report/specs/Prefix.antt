@@ -27,9 +27,9 @@ use Rattle.script_lang.specs.declared.line.Line.{Line}
 use Rattle.script_lang.specs.declared.line.Line.TheVariants as lines
 use Rattle.bench_report.specs.Deeds as deeds
 use Rattle.bench_report.specs.Deeds.{Deed, deed_of}
-use Rattle.bench_report.specs.declared.printed.Answer.{Answer}
-use Rattle.bench_report.specs.declared.printed.Printed.{Printed}
-use Rattle.bench_report.specs.declared.printed.Printed.TheVariants as printed
+use Rattle.report_lines.specs.declared.printed.Answer.{Answer}
+use Rattle.report_lines.specs.declared.printed.Printed.{Printed}
+use Rattle.report_lines.specs.declared.printed.Printed.TheVariants as printed
 use Rattle.bench_report.specs.PowerOns.{commands_of}
 
 -- what a line asks of the disk: a boot with its commands, one command of the console, at most one that a hart

@@ -6,7 +6,7 @@ use Rattle.board_model.specs.Kept.{MayKeep, found_of}
 use Rattle.board_model.specs.Shapes.{Size}
 use Rattle.board_model.specs.Views.{durable_of}
 use Rattle.machine.specs.Machine.{woken}
-use Rattle.bench_report.specs.declared.printed.Answer.{Answer}
+use Rattle.report_lines.specs.declared.printed.Answer.{Answer}
 use Rattle.bench_report.specs.Bench.{BenchLife, Bench}
 
 -- The image was made by a suspension of the list: hart, address, opaque value and memory are the ones that it

@@ -15,8 +15,8 @@ use Rattle.machine.specs.declared.line.MachineLine.TheVariants as shown
 use Rattle.board_model.specs.declared.console_command.ConsoleCommand.{ConsoleCommand}
 use Rattle.board_model.specs.declared.call_words.CallWords.{CallWords}
 use Rattle.board_model.specs.ConsoleCommands.{console_change}
-use Rattle.bench_report.specs.declared.printed.Printed.TheVariants as printed
-use Rattle.bench_report.specs.declared.printed.Answer.{Answer}
+use Rattle.report_lines.specs.declared.printed.Printed.TheVariants as printed
+use Rattle.report_lines.specs.declared.printed.Answer.{Answer}
 use Rattle.bench_report.specs.Bench.{BenchLife, Bench}
 use Rattle.bench_report.specs.Deeds as deeds
 use Rattle.bench_report.specs.Deeds.{Question, OfBoard, OfDisk, Deed, deed_of}

@@ -18,8 +18,8 @@ ghost use Rattle.bench_report.specs.Prefix.{KeepsPrefixLaw, MayEndIn};
 ghost use Rattle.bench_report.specs.Reports.{AreByFirmware, IsReportWith};
 ghost use Rattle.bench_report.specs.Resumes.{IsResumedFrom};
 ghost use Rattle.bench_report.specs.Steps.{Moves, Run};
-ghost use Rattle.bench_report.specs.declared.printed.Answer.{Answer};
-ghost use Rattle.bench_report.specs.declared.printed.Printed.TheVariants as printed;
+ghost use Rattle.report_lines.specs.declared.printed.Answer.{Answer};
+ghost use Rattle.report_lines.specs.declared.printed.Printed.TheVariants as printed;
 
 /// There is one report of a script without `poke` where memory was never refused and no failure of the disk
 /// was answered, so that no armed cut struck: any two such runs of it wrote the same and left the same. A report

@@ -1,5 +1,5 @@
 //! The bench: runs a script over a board with a disk in memory, and writes its report. docs/SCRIPT.md tells
-//! the script language and the report; specs/Steps.antt says for each line what it may answer, and specs/Texts.antt with what
+//! the script language and the report; specs/Steps.antt says for each line what it may answer, and `report_lines` with what
 //! text. A bench that is run line by line is a `LiveBench`: its board is not moved between two lines, so a line of turns costs
 //! little more than its turns.
 #![tactic(auto)]
@@ -15,8 +15,6 @@ mod memory;
 mod off_lines;
 mod on_lines;
 mod power;
-mod printed;
-mod report;
 mod row_laws;
 mod rows;
 mod runs;
@@ -31,8 +29,6 @@ pub use live::LiveBench;
 pub use off_lines::power_on;
 pub use on_lines::{after, console};
 pub use power::{OffDisk, Power};
-pub use printed::{Answer, Printed};
-pub use report::{Report, add};
 pub use row_laws::{idle_turns_change_nothing, rows_join};
 pub use rows::{TurnRow, is_idle};
 pub use runs::{StoppedRun, run, run_left, run_left_with, run_with};

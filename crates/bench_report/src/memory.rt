@@ -5,8 +5,8 @@ ghost use Rattle.bench_report.specs.Agree.{HadEnough};
 ghost use Rattle.bench_report.specs.Happens.{SaysEnough};
 
 use crate::power::Power;
-use crate::printed::Answer;
 use crate::steps::{refused_suspension, says_refused_memory};
+use report_lines::Answer;
 use std::alloc::AllocError;
 
 /// Whether a line was refused memory, or says that a power-on or an examination of the disk was.

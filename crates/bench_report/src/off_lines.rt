@@ -15,11 +15,11 @@ ghost use Rattle.simdisk.specs.declared.SimDisk.{SimDisk};
 ghost use Rattle.bench_report.specs.Agree.{Pokes, Inspects, OpensAt, Agrees, OffIs, IsBench, Matches, StepsTo};
 
 use crate::power::{OffDisk, Power};
-use crate::printed::{Answer, Printed};
 use crate::steps::says;
 use board::{Board, Payloads};
 use board_model::{BootMode, Bytes, Durable, Shape};
 use machine::MachineLine;
+use report_lines::{Answer, Printed};
 use simdisk::SimDisk;
 use std::alloc::{AllocError, Global};
 use store::{blank_disks, content_determines_state, format, inspect, kept_disks};

@@ -12,12 +12,12 @@ ghost use Rattle.simdisk.specs.declared.SimDisk.{SimDisk};
 ghost use Rattle.bench_report.specs.Agree.{CountsNone, HasDisk, StaysOn, Agrees, OnIs, BoardAfter, IsUnstruck, StepsTo};
 
 use crate::power::{OffDisk, Power};
-use crate::printed::{Answer, Printed};
 use crate::steps::says;
 use board::Board;
 use board_model::{CallWords, ConsoleCommand, HartId};
 use crew::Crew;
 use machine::{MachineLine, Word};
+use report_lines::{Answer, Printed};
 use simdisk::SimDisk;
 use std::alloc::Global;
 

@@ -3,9 +3,9 @@
 ghost use Rattle.std.specs.Prelude.{◌≡◌, ◌<◌, ◌+◌, ◌^◌};
 ghost use Rattle.bench_report.specs.Rows.{goes_on, is_idle, is_idle_row, is_off, last_of, made_in, row_answer, row_then};
 
-use crate::printed::{Answer, Printed};
 use board_model::HartId;
 use machine::{Did, MachineLine, Word};
+use report_lines::{Answer, Printed};
 
 /// What a row of turns of a hart did.
 #[derive(Clone, Copy, PartialEq, Eq, Drop)]

@@ -4,10 +4,10 @@ use Rattle.board_model.specs.Texts.{state_text}
 use Rattle.board_model.specs.declared.console_command.ConsoleCommand.TheVariants as commands
 use Rattle.board_model.specs.declared.durable.Durable.{Durable}
 use Rattle.machine.specs.declared.line.MachineLine.TheVariants as lines
-use Rattle.bench_report.specs.Texts.{line_text}
-use Rattle.bench_report.specs.declared.printed.Answer.{Answer}
-use Rattle.bench_report.specs.declared.printed.Printed.{Printed}
-use Rattle.bench_report.specs.declared.printed.Printed.TheVariants as printed
+use Rattle.report_lines.specs.Texts.{line_text}
+use Rattle.report_lines.specs.declared.printed.Answer.{Answer}
+use Rattle.report_lines.specs.declared.printed.Printed.{Printed}
+use Rattle.report_lines.specs.declared.printed.Printed.TheVariants as printed
 use Rattle.bench_schedules.specs.Told.{IsFirstApart, told_lines, told_states, told_text}
 use Rattle.bench_schedules.specs.declared.told.ToldApart.{ToldApart}
 use Rattle.bench_schedules.specs.declared.told.ToldLine.{ToldLine}

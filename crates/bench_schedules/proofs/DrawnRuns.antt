@@ -1,7 +1,7 @@
 -- Schedules that were run and told, one after another, by several threads.
 use Rattle.std.proofs.Common.{◌≡◌, ◌∙◌, ◌≤◌, ◌+◌, ℕ, List, [], ◌∷◌, Option, length, refl, sym, subst, slice_index_or, arith}
 use Rattle.script_lang.specs.Scripts.{Script}
-use Rattle.bench_report.specs.declared.printed.Answer.{Answer}
+use Rattle.report_lines.specs.declared.printed.Answer.{Answer}
 use Rattle.jobs.specs.Handed.{AreRows, TakesAll, Handed}
 use Rattle.bench_schedules.specs.Drawn.{IsDrawn, TellsDrawn}
 use Rattle.bench_schedules.specs.Numbers.{place_of_other}

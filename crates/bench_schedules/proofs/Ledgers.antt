@@ -6,7 +6,7 @@ use Rattle.std.specs.Fmt.{decimal}
 use Rattle.std.specs.Io.KnownBytes.{Appends}
 use Rattle.script_lang.specs.Scripts.{Script}
 use Rattle.board_model.proofs.Written.{appended, unwritten}
-use Rattle.bench_report.specs.declared.printed.Answer.{Answer}
+use Rattle.report_lines.specs.declared.printed.Answer.{Answer}
 use Rattle.bench_schedules.specs.declared.runs.Difference.{Difference}
 use Rattle.bench_schedules.specs.Schedules.{Ran, RunText, RunsText, Wrote, differing, tight_text}
 use lib.Chars.{codes}

@@ -7,7 +7,7 @@ use Rattle.script_lang.specs.declared.line.Line.{Line}
 use Rattle.script_lang.specs.declared.line.Line.TheVariants as lines
 use Rattle.bench_report.specs.Bench.{Bench, bench_with}
 use Rattle.bench_report.specs.Steps.{Run}
-use Rattle.bench_report.specs.declared.printed.Answer.{Answer}
+use Rattle.report_lines.specs.declared.printed.Answer.{Answer}
 use Rattle.bench_report.proofs.RunLines.{run_snoc}
 use Rattle.bench_schedules.specs.Orders.{IsOrderFor, is_other, other_count}
 use Rattle.bench_report.specs.Lives.{Shows}

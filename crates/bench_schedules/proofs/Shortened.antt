@@ -6,7 +6,7 @@ use Rattle.script_lang.specs.Lines.{FitsLine, IsLineInRange}
 use Rattle.script_lang.specs.Scripts.{Script, script_of}
 use Rattle.script_lang.specs.Spellings.{script_text, IsWritable}
 use Rattle.script_lang.specs.declared.line.Line.{Line}
-use Rattle.bench_report.specs.declared.printed.Answer.{Answer}
+use Rattle.report_lines.specs.declared.printed.Answer.{Answer}
 use Rattle.bench_schedules.specs.Orders.{IsOrderFor}
 use Rattle.bench_schedules.specs.Schedules.{RanLike, RanOwn}
 use Rattle.bench_schedules.specs.declared.runs.Difference.{Difference}

@@ -1,7 +1,7 @@
 -- A line that ran, against the script's own run.
 use Rattle.std.specs.Prelude.{◌≡◌, ◌≢◌, ◌⊎◌, ◌+◌, ℕ, true, false, List, get_or}
 use Rattle.script_lang.specs.declared.line.Line.{Line}
-use Rattle.bench_report.specs.declared.printed.Answer.{Answer}
+use Rattle.report_lines.specs.declared.printed.Answer.{Answer}
 use Rattle.bench_schedules.specs.Orders.{is_other}
 use Rattle.bench_schedules.specs.declared.runs.Difference.{Difference}
 

@@ -3,7 +3,7 @@ use Rattle.std.specs.Prelude.{◌≡◌, ◌≤◌, List, All, length}
 use Rattle.board_model.specs.Shapes.{Size, IsSize}
 use Rattle.script_lang.specs.Lines.{FitsLine, IsLineInRange}
 use Rattle.script_lang.specs.declared.line.Line.{Line}
-use Rattle.bench_report.specs.declared.printed.Answer.{Answer}
+use Rattle.report_lines.specs.declared.printed.Answer.{Answer}
 use Rattle.bench_schedules.specs.Orders.{other_count}
 
 -- Schedules of these lines can be run beside the script's own run.

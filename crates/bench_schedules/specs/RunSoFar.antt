@@ -4,7 +4,7 @@ use Rattle.board_model.specs.Shapes.{Size}
 use Rattle.script_lang.specs.declared.line.Line.{Line}
 use Rattle.bench_report.specs.Bench.{Bench, bench_with}
 use Rattle.bench_report.specs.Steps.{Moves, Run}
-use Rattle.bench_report.specs.declared.printed.Answer.{Answer}
+use Rattle.report_lines.specs.declared.printed.Answer.{Answer}
 use Rattle.bench_report.specs.Lives.{Shows}
 use Rattle.bench_report.specs.declared.live.LiveBench.{LiveBench}
 use Rattle.bench_schedules.specs.Schedules.{ToldLike, other_answers}

@@ -3,8 +3,8 @@ use Rattle.std.specs.Prelude.{◌≡◌, ◌≢◌, ℕ, List, [], ◌∷◌, �
 use Rattle.board_model.specs.Texts.{image_text, state_text}
 use Rattle.board_model.specs.declared.durable.Durable.{Durable}
 use Rattle.board_model.specs.declared.durable.ImageHead.{ImageHead}
-use Rattle.bench_report.specs.Texts.{line_text}
-use Rattle.bench_report.specs.declared.printed.Answer.{Answer}
+use Rattle.report_lines.specs.Texts.{line_text}
+use Rattle.report_lines.specs.declared.printed.Answer.{Answer}
 use Rattle.bench_schedules.specs.declared.told.ToldLine.{ToldLine}
 use Rattle.bench_schedules.specs.declared.told.ToldLine.TheVariants.{Found, Image, Line}
 use lib.Chars.{codes}

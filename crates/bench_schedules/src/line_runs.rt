@@ -7,9 +7,10 @@ ghost use Rattle.bench_report.specs.Bench.{Bench};
 ghost use Rattle.bench_report.specs.Lives.{IsSound, Shows};
 ghost use Rattle.bench_schedules.specs.RunSoFar.{LineRan};
 
-use bench_report::{Answer, LiveBench, Setting};
+use bench_report::{LiveBench, Setting};
 use board_model::Shape;
 use crew::Crew;
+use report_lines::Answer;
 use script_lang::Line;
 use std::alloc::AllocError;
 

@@ -12,9 +12,10 @@ ghost use Rattle.bench_schedules.specs.Schedules.{RanOwn, other_answer};
 use crate::drawn_orders::{generator, schedule};
 use crate::line_runs::{end_run, is_other, run_line};
 use crate::stretches::Stretches;
-use bench_report::{Answer, LiveBench, Setting};
+use bench_report::{LiveBench, Setting};
 use board::Payloads;
 use crew::Crew;
+use report_lines::Answer;
 use script_lang::Line;
 use std::alloc::{AllocError, Global};
 

@@ -10,9 +10,10 @@ ghost use Rattle.bench_schedules.specs.RunSoFar.{WentLike};
 ghost use Rattle.bench_schedules.specs.Schedules.{RanLike};
 
 use crate::line_runs::{end_run, is_other, run_line};
-use bench_report::{Answer, LiveBench, Setting};
+use bench_report::{LiveBench, Setting};
 use board::Payloads;
 use crew::Crew;
+use report_lines::Answer;
 use script_lang::Line;
 use std::alloc::AllocError;
 

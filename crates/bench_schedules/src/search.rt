@@ -8,9 +8,10 @@ ghost use Rattle.bench_schedules.specs.Shrunk.{IsFound, IsSearchable};
 use crate::laws::orders_keep_lines;
 use crate::led_orders::{Slice, led};
 use crate::runs::run_until;
-use bench_report::{Answer, Setting};
+use bench_report::Setting;
 use board::Payloads;
 use crew::Crew;
+use report_lines::Answer;
 use script_lang::Line;
 use std::alloc::AllocError;
 

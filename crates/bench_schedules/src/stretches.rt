@@ -2,8 +2,8 @@
 //! with no other line between them.
 
 use crate::quotas::{Front, harts, total};
-use bench_report::{Answer, Printed};
 use machine::{Did, MachineLine, Word};
+use report_lines::{Answer, Printed};
 use script_lang::Line;
 use std::alloc::{AllocError, Global};
 

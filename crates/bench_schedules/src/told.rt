@@ -4,8 +4,8 @@ ghost use Rattle.std.specs.Prelude.{◌≡◌, ◌≢◌, ◌∷◌, [], Some, N
 ghost use Rattle.bench_schedules.specs.Told.{IsFirstApart, told_lines, told_text};
 ghost use Rattle.bench_schedules.specs.declared.told.ToldLine.TheVariants as told;
 
-use bench_report::{Answer, Printed};
 use board_model::{Durable, ImageHead, ImageText, StateText};
+use report_lines::{Answer, Printed};
 use std::alloc::{AllocError, Global};
 use std::fmt;
 

@@ -13,7 +13,7 @@ use Rattle.board_model.specs.declared.durable.Reason.{Reason}
 use Rattle.board_model.specs.declared.plain.Plain.{Plain}
 use Rattle.board_model.specs.declared.refusal.Refusal.{Refusal}
 use Rattle.board_model.specs.declared.refusal.Refusal.TheVariants.{Memory, NoImage}
-use Rattle.bench_report.specs.declared.printed.Printed.{Printed}
+use Rattle.report_lines.specs.declared.printed.Printed.{Printed}
 use Rattle.board_model.specs.declared.plain.PlainImage.{PlainImage}
 use Rattle.sbi_calls.specs.declared.words.Did.{Did}
 use Rattle.sbi.specs.declared.resets.ResetType.{ResetType}

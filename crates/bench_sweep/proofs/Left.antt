@@ -27,9 +27,9 @@ use Rattle.board.specs.Moments.{attempts_of}
 use Rattle.bench_report.specs.declared.power.OffDisk.{OffDisk}
 use Rattle.bench_report.specs.declared.power.Power.{Power}
 use Rattle.bench_report.specs.declared.power.Power.TheVariants.{Off, On}
-use Rattle.bench_report.specs.declared.printed.Answer.{Answer}
-use Rattle.bench_report.specs.declared.printed.Printed.{Printed}
-use Rattle.bench_report.specs.declared.printed.Printed.TheVariants as printed
+use Rattle.report_lines.specs.declared.printed.Answer.{Answer}
+use Rattle.report_lines.specs.declared.printed.Printed.{Printed}
+use Rattle.report_lines.specs.declared.printed.Printed.TheVariants as printed
 use Rattle.bench_report.specs.Views.{SimBoard, store_in, facts, fault_state, store_now}
 use Rattle.bench_report.specs.Bench.{DiskState, Formatted, BenchLife, Bench, no_payloads}
 use Rattle.bench_report.specs.Happens.{FailsByFault, acknowledged, armed_with, in_doubt, off, on_with, says, settled, unpowered, has_machine}

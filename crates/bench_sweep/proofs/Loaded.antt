@@ -17,7 +17,7 @@ use Rattle.store.specs.Lives.{IsLoaded, LoadRefused}
 use Rattle.store.specs.Views.{device_of}
 use Rattle.bench_report.specs.declared.power.Power.{Power}
 use Rattle.bench_report.specs.declared.power.Power.TheVariants.{On}
-use Rattle.bench_report.specs.declared.printed.Printed.{Printed}
+use Rattle.report_lines.specs.declared.printed.Printed.{Printed}
 use Rattle.bench_report.specs.Views.{SimStore, SimBoard, facts, fault_state, store_now, store_size, store_facts, store_fault_state}
 use Rattle.bench_sweep.specs.Runs.{FindsState, FoundSo, PowerFinds, IsSpoilt}
 use Rattle.bench_sweep.proofs.Left.{plain_is, has_none, has_loaded, fails_itself}

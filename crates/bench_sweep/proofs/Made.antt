@@ -8,7 +8,7 @@ use Rattle.board_model.specs.Shapes.{Size}
 use Rattle.disk.specs.FaultState.{FaultState}
 use Rattle.script_lang.specs.declared.line.Line.{Line}
 use Rattle.bench_report.specs.declared.power.Power.{Power}
-use Rattle.bench_report.specs.declared.printed.Answer.{Answer}
+use Rattle.report_lines.specs.declared.printed.Answer.{Answer}
 use Rattle.bench_report.specs.Bench.{Bench}
 use Rattle.bench_report.specs.Happens.{off, unpowered, armed_with}
 use Rattle.bench_report.specs.Steps.{Run}

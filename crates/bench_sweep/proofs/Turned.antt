@@ -34,7 +34,7 @@ use Rattle.disk.specs.FaultState.{FaultState}
 use Rattle.board.specs.Turns as boards
 use Rattle.bench_report.specs.Views.{SimStore, SimBoard, store_in, machine_in, store_size, store_facts, store_fault_state}
 use Rattle.bench_report.specs.Bench.{DiskState, Formatted, BenchLife, Bench}
-use Rattle.bench_report.specs.declared.printed.Answer.{Answer}
+use Rattle.report_lines.specs.declared.printed.Answer.{Answer}
 use Rattle.bench_report.specs.Happens.{shows, out_of_memory, off, on_with, has_machine}
 use Rattle.bench_report.specs.Commands.{Issued}
 use Rattle.bench_report.specs.Turns.{refused, AnswersError, HartCommand, Resets, dozes, BenchFallsAsleep, BenchSleeps, BenchSleepsBy, BenchMakesCall, ComesTo, IsLastTurn, GuestTurns}

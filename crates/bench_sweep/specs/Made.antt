@@ -11,8 +11,8 @@ use Rattle.simdisk.specs.Views.{left_by_fill}
 use Rattle.simdisk.specs.declared.SimDisk.{SimDisk}
 use Rattle.simdisk.specs.declared.fill.Fill.{Fill}
 use Rattle.script_lang.specs.declared.line.Line.{Line}
-use Rattle.bench_report.specs.declared.printed.Answer.{Answer}
-use Rattle.bench_report.specs.declared.printed.Printed.TheVariants as printed
+use Rattle.report_lines.specs.declared.printed.Answer.{Answer}
+use Rattle.report_lines.specs.declared.printed.Printed.TheVariants as printed
 use Rattle.bench_report.specs.Bench.{Bench, bench_with, no_payloads}
 use Rattle.bench_report.specs.Examined.{OpensOf}
 use Rattle.bench_report.specs.Happens.{says, off, unpowered, armed_with}

@@ -19,7 +19,7 @@ use Rattle.bench_sweep.specs.Made.{BeginsOn, CallsIn, IsFound, IsLeft, IsRunOf, 
 use Rattle.bench_sweep.specs.Points.{callers, cut_fill, MadeCalls}
 use Rattle.bench_sweep.specs.Runs.{RunsAt, Sits}
 use Rattle.bench_sweep.specs.Took.{RunTook, StandsOn}
-use Rattle.bench_report.specs.declared.printed.Answer.{Answer}
+use Rattle.report_lines.specs.declared.printed.Answer.{Answer}
 use Rattle.bench_sweep.specs.Swept.{Cell, Spot, Writes, AreSwept, all_points, cell_of, own_points, rows_text, runs_at, runs_of}
 use Rattle.jobs.specs.Parts.{chunk_from}
 use Rattle.jobs.specs.declared.part.Part.{Part}

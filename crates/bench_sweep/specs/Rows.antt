@@ -5,9 +5,9 @@ use Rattle.board_model.specs.declared.durable.Durable.{Durable}
 use Rattle.simdisk.specs.declared.fill.Fill.{Fill}
 use Rattle.script_lang.specs.Words.{fill_text}
 use Rattle.board_model.specs.Texts.{state_text}
-use Rattle.bench_report.specs.Texts.{line_text}
-use Rattle.bench_report.specs.declared.printed.Answer.{Answer}
-use Rattle.bench_report.specs.declared.printed.Printed.{Printed}
+use Rattle.report_lines.specs.Texts.{line_text}
+use Rattle.report_lines.specs.declared.printed.Answer.{Answer}
+use Rattle.report_lines.specs.declared.printed.Printed.{Printed}
 use Rattle.bench_sweep.specs.declared.judges.Sweep.{Sweep}
 use Rattle.bench_sweep.specs.declared.points.Caller.{Caller}
 use Rattle.bench_sweep.specs.declared.points.Caller.TheVariants.{Disk, Lane}

@@ -17,9 +17,9 @@ use Rattle.sbi.specs.declared.words.LifeEnd.TheVariants as life_ends
 use Rattle.sbi_calls.specs.Words.{is_answered}
 use Rattle.bench_report.specs.Happens.{SaysEnough}
 use Rattle.bench_report.specs.Prefix.{AskedLine, Boot, Command, Guest, asked_by}
-use Rattle.bench_report.specs.declared.printed.Printed.{Printed}
-use Rattle.bench_report.specs.declared.printed.Printed.TheVariants as printed
-use Rattle.bench_report.specs.declared.printed.Answer.{Answer}
+use Rattle.report_lines.specs.declared.printed.Printed.{Printed}
+use Rattle.report_lines.specs.declared.printed.Printed.TheVariants as printed
+use Rattle.report_lines.specs.declared.printed.Answer.{Answer}
 use Rattle.bench_sweep.specs.Ledgers.{more_kept, in_doubt, settled}
 
 -- By what a line says memory was refused neither to a power-on nor to an examination of the disk. Of a line that was

@@ -3,7 +3,7 @@ use Rattle.std.specs.Prelude.{◌≡◌, List, [], ◌∷◌}
 use Rattle.board_model.specs.Shapes.{Size}
 use Rattle.simdisk.specs.declared.SimDisk.{SimDisk}
 use Rattle.script_lang.specs.declared.line.Line.{Line}
-use Rattle.bench_report.specs.declared.printed.Answer.{Answer}
+use Rattle.report_lines.specs.declared.printed.Answer.{Answer}
 use Rattle.bench_report.specs.Agree.{Agrees, HasDisk}
 use Rattle.bench_report.specs.Bench.{Bench}
 use Rattle.bench_report.specs.Steps.{Step}

@@ -12,10 +12,11 @@ use crate::follows::enough_memory;
 use crate::ledgers::RunLedger;
 use crate::site::Site;
 use crate::sites::is_off;
-use bench_report::{Answer, LiveBench, OffDisk, Printed, Setting, disk_left};
+use bench_report::{LiveBench, OffDisk, Setting, disk_left};
 use board::Payloads;
 use board_model::Shape;
 use crew::Crew;
+use report_lines::{Answer, Printed};
 use script_lang::Line;
 use std::alloc::{AllocError, Global};
 

@@ -19,10 +19,10 @@ ghost use Rattle.bench_sweep.specs.Resumes.{image_told, serial_of, consumed, boo
 ghost use Rattle.bench_sweep.specs.Told.{ShowsEnoughMemory, IssuedTold, CommandTold, BootTold, BootSaid, NowTold, PowerTold, LineTold, commands_told};
 
 use crate::ledgers::RunLedger;
-use bench_report::{Answer, Printed};
 use board::Board;
 use board_model::{BootMode, Command, ConsoleCommand, Durable, Entry, Refusal, Trial};
 use machine::{LifeEnd, Word};
+use report_lines::{Answer, Printed};
 use script_lang::Line;
 use simdisk::SimDisk;
 use std::alloc::{AllocError, Global};

@@ -7,9 +7,9 @@ ghost use Rattle.bench_sweep.specs.Swept.{rows_text};
 
 use crate::judges::Sweep;
 use crate::points::Caller;
-use bench_report::Answer;
 use board_model::StateText;
 use jobs::{Part, PartText};
+use report_lines::Answer;
 use simdisk::Fill;
 use std::fmt;
 use std::io::{self, Write};

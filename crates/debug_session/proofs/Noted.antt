@@ -10,7 +10,7 @@ use Rattle.script_lang.specs.declared.line.Line.{Line}
 use Rattle.script_lang.specs.declared.line.Line.TheVariants as lines
 use Rattle.simdisk.specs.declared.fill.Fill.{Fill}
 use Rattle.debug_session.specs.Pasts.{IsAdded}
-use Rattle.bench_report.specs.declared.printed.Answer.{Answer}
+use Rattle.report_lines.specs.declared.printed.Answer.{Answer}
 use Rattle.bench_report.specs.Bench.{Bench}
 use Rattle.bench_report.specs.Steps.{Moves}
 use Rattle.bench_report.specs.Agree.{fills_after}

@@ -8,8 +8,8 @@ use Rattle.machine.specs.Machine.{Machine, hart_at}
 use Rattle.machine.specs.Shows.{HasHart}
 use Rattle.script_lang.specs.declared.line.Line.TheVariants as lines
 use Rattle.machine.specs.declared.line.MachineLine.TheVariants as shown
-use Rattle.bench_report.specs.declared.printed.Printed.TheVariants as printed
-use Rattle.bench_report.specs.declared.printed.Answer.{Answer}
+use Rattle.report_lines.specs.declared.printed.Printed.TheVariants as printed
+use Rattle.report_lines.specs.declared.printed.Answer.{Answer}
 use Rattle.bench_report.specs.Steps.{Moves, TurnStep}
 use Rattle.bench_report.specs.Agree.{BoardIs, IsBench}
 use Rattle.bench_report.specs.Bench.{Bench, BenchLife, DiskState}

@@ -6,7 +6,7 @@ use Rattle.board_model.specs.Shapes.{Size}
 use Rattle.sbi.specs.Words.{ends}
 use Rattle.script_lang.specs.declared.line.Line.{Line}
 use Rattle.script_lang.specs.declared.line.Line.TheVariants as lines
-use Rattle.bench_report.specs.declared.printed.Answer.{Answer}
+use Rattle.report_lines.specs.declared.printed.Answer.{Answer}
 use Rattle.bench_report.specs.Bench.{Bench, bench_with}
 use Rattle.bench_report.specs.Steps.{Moves}
 use Rattle.bench_report.specs.declared.rows.TurnRow.{TurnRow}

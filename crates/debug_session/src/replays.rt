@@ -4,7 +4,7 @@ ghost use Rattle.std.specs.Prelude.{◌≡◌, ℕ, List, IfOk, OnOk};
 ghost use Rattle.bench_report.specs.Agree.{fill_after, fills_after};
 ghost use Rattle.bench_report.specs.Bench.{Bench, bench_with};
 ghost use Rattle.bench_report.specs.Steps.{Moves};
-ghost use Rattle.bench_report.specs.declared.printed.Answer.{Answer};
+ghost use Rattle.report_lines.specs.declared.printed.Answer.{Answer};
 ghost use Rattle.debug_session.specs.Notes.{AreInRange, Joins, Leaves};
 ghost use Rattle.debug_session.specs.Ats.{GoesOnBy};
 ghost use Rattle.bench_report.specs.Lives.{IsSound, Shows};

@@ -2,9 +2,9 @@
 ghost use Rattle.std.specs.Prelude.{◌≡◌, ◌++◌, List, Ok, OnOk};
 ghost use Rattle.script_lang.specs.Scripts.{script_of, Script as Said};
 ghost use Rattle.bench_report.specs.Bench.{Bench};
-ghost use Rattle.bench_report.specs.Texts.{report_text};
+ghost use Rattle.report_lines.specs.Texts.{report_text};
 ghost use Rattle.bench_report.specs.Reports.{IsReport};
-ghost use Rattle.bench_report.specs.declared.printed.Answer.{Answer};
+ghost use Rattle.report_lines.specs.declared.printed.Answer.{Answer};
 
 use bench_report::run;
 use bench_sweep::line_apart;

@@ -8,7 +8,7 @@ use Rattle.script_lang.specs.declared.line.Line.TheVariants as lines
 use Rattle.bench_report.specs.Lives.{Shows}
 use Rattle.debug_session.specs.Pasts.{some_turns}
 use Rattle.bench_report.specs.declared.live.LiveBench.{LiveBench}
-use Rattle.bench_report.specs.declared.printed.Answer.{Answer}
+use Rattle.report_lines.specs.declared.printed.Answer.{Answer}
 use Rattle.bench_report.specs.Bench.{Bench, bench_with}
 use Rattle.bench_report.specs.Steps.{Run}
 

@@ -2,15 +2,15 @@
 
 ghost use Rattle.std.specs.Prelude.{◌≡◌, ◌++◌, ◌<◌, ℕ, List, map, string_bytes, IfOk, OnOk};
 ghost use Rattle.debug_session.specs.Sessions.{bench_of, history_of, size_of};
-ghost use Rattle.bench_report.specs.Texts.{found_line, answer_text, report_text};
+ghost use Rattle.report_lines.specs.Texts.{found_line, answer_text, report_text};
 ghost use Rattle.sbigdb.specs.Texts.{HandOver, board_line, console_packet, hart_line, hart_lines, thread_line, thread_lines, threads_object, when_text};
 
 use crate::answers::PacketPayloads;
-use bench_report::Answer;
 use board_model::{Durable, HartId, Shape, StateText};
 use crew::Crew;
 use debug_session::{Session, pc};
 use gdb_protocol::put_hex;
+use report_lines::Answer;
 use std::alloc::{AllocError, Global};
 
 /// The most bytes of a text for the console in one packet.

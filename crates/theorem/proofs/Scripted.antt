@@ -4,7 +4,7 @@ use Rattle.board_model.specs.declared.refusal.Refusal.{Refusal}
 use Rattle.disk.specs.Facts.{Facts}
 use Rattle.script_lang.specs.Scripts.{script_of, Script as Said}
 use Rattle.script_lang.specs.Spellings.{script_text}
-use Rattle.bench_report.specs.declared.printed.Answer.{Answer}
+use Rattle.report_lines.specs.declared.printed.Answer.{Answer}
 use Rattle.bench_report.specs.Laws.{KeepsLaws}
 
 one_said : (said other : Said) → ◌≡◌ {A = Result Said Refusal} (Ok said) (Ok other) → other ≡ said

@@ -4,14 +4,15 @@ ghost use Rattle.std.specs.Prelude.{◌≡◌, List, IfOk};
 ghost use Rattle.std.specs.Io.KnownBytes.{Appends};
 ghost use Rattle.script_lang.specs.Scripts.{Script as Said};
 ghost use Rattle.script_lang.specs.Spellings.{script_text, IsWritable};
-ghost use Rattle.bench_report.specs.Texts.{report_text};
-ghost use Rattle.bench_report.specs.declared.printed.Answer.{Answer};
+ghost use Rattle.report_lines.specs.Texts.{report_text};
+ghost use Rattle.report_lines.specs.declared.printed.Answer.{Answer};
 ghost use Rattle.bench_report.specs.Laws.{KeepsLaws};
 
-use bench_report::{Report, StoppedRun, run_left_with};
+use bench_report::{StoppedRun, run_left_with};
 use board::Payloads;
 use crew::Crew;
 use disk::Disk;
+use report_lines::Report;
 use script_lang::scripts_read_as_written;
 use simdisk::SimDisk;
 use std::alloc::Global;

@@ -1,7 +1,7 @@
 use Rattle.std.proofs.Common.{refl, ◌∙◌, ap}
 use Rattle.bench_report.specs.Views.{facts, fault_state}
 use Rattle.bench_report.specs.Happens.{says, formatted_anew}
-use Rattle.bench_report.specs.declared.printed.Printed.TheVariants as printed
+use Rattle.report_lines.specs.declared.printed.Printed.TheVariants as printed
 use Rattle.bench_report.proofs.Devices.{stays_as}
 use Rattle.bench_report.proofs.Formats.{anew, formats_ok, formats_err}
 use Rattle.bench_report.proofs.KeptDisks.{KeptLaw, BlankLaw}

@@ -3,8 +3,8 @@ use Rattle.board_model.specs.Shapes.{Size}
 use Rattle.board_model.specs.Views.{number_of_refusal}
 use Rattle.machine.specs.Machine.{Machine}
 use Rattle.susp.specs.Dozes.{can_wake, after_wake}
-use Rattle.bench_report.specs.declared.printed.Answer.{Answer}
-use Rattle.bench_report.specs.declared.printed.Printed.TheVariants as printed
+use Rattle.report_lines.specs.declared.printed.Answer.{Answer}
+use Rattle.report_lines.specs.declared.printed.Printed.TheVariants as printed
 use Rattle.bench_report.specs.Agree.{BoardIs, DeviceIs, OnIs, StoreIs}
 use Rattle.bench_report.specs.Asides.{AsideStep, affected, wakes}
 use Rattle.bench_report.specs.Bench.{Bench, BenchLife}

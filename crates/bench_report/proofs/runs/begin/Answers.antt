@@ -1,7 +1,7 @@
 use Rattle.std.proofs.Common.{◌≡◌, ◌∙◌, [], ◌∷◌, refl, subst, arith}
 use Rattle.board_model.proofs.Written.{unwritten}
-use Rattle.bench_report.specs.Counts.{Reported}
-use Rattle.bench_report.specs.declared.printed.Answer.{Answer}
+use Rattle.report_lines.specs.Counts.{Reported}
+use Rattle.report_lines.specs.declared.printed.Answer.{Answer}
 use Rattle.bench_report.specs.Reports.{board_answer}
 use Rattle.bench_report.proofs.RunLines.{few_found}
 use Rattle.bench_report.proofs.Told.{reported_more}

@@ -1,11 +1,11 @@
 use Rattle.std.proofs.Common.{◌≡◌, ◌+◌, ◌*◌, ◌≤◌, List, ◌∷◌, take}
-use Rattle.bench_report.specs.declared.printed.Answer.{Answer}
+use Rattle.report_lines.specs.declared.printed.Answer.{Answer}
 use Rattle.bench_report.specs.Agree.{fills_after}
 use Rattle.bench_report.specs.Bench.{Bench}
 use Rattle.bench_report.specs.Reports.{board_answer}
 use Rattle.bench_report.specs.Steps.{Run}
 use Rattle.bench_report.specs.Lives.{IsSound, Shows}
-use Rattle.bench_report.specs.Counts.{Reported}
+use Rattle.report_lines.specs.Counts.{Reported}
 use Rattle.bench_report.proofs.runs.run_lines.Given as goal
 
 -- the lines so far ran, and were written

@@ -1,6 +1,6 @@
 use Rattle.std.proofs.Common.{List, subst}
 use Rattle.std.proofs.lemmas.Result.{on_ok_weaker}
-use Rattle.bench_report.specs.declared.printed.Answer.{Answer}
+use Rattle.report_lines.specs.declared.printed.Answer.{Answer}
 use Rattle.bench_schedules.specs.Shrunk.{IsShortened}
 use Rattle.bench_schedules.proofs.Shortened.{shrunk_of}
 use Rattle.bench_schedules.proofs.shrinks.shrink_lines.Goals as goal

@@ -1,6 +1,6 @@
 use Rattle.std.proofs.Common.{◌≡◌, ℕ, List, inl, inr, None, Some, OnOk, subst, arith}
-use Rattle.bench_report.specs.declared.printed.Printed.{Printed}
-use Rattle.bench_report.specs.declared.printed.Printed.TheVariants as printed
+use Rattle.report_lines.specs.declared.printed.Printed.{Printed}
+use Rattle.report_lines.specs.declared.printed.Printed.TheVariants as printed
 use Rattle.bench_sweep.specs.Told.{BootTold, BootSaid, commands_told}
 use Rattle.bench_sweep.specs.Resumes.{image_told, powered, Resumes}
 use Rattle.bench_sweep.proofs.Boots.{boot_weaker}

@@ -1,6 +1,6 @@
 use Rattle.std.proofs.Common.{nat_eq, sym, ◌∙◌, subst, true≢false}
 use Rattle.std.proofs.lemmas.Bool.{eqb-true}
-use Rattle.bench_report.specs.declared.printed.Answer.{Answer}
+use Rattle.report_lines.specs.declared.printed.Answer.{Answer}
 use Rattle.bench_report.specs.Bench.{Bench}
 use Rattle.bench_report.specs.Steps.{Moves}
 use Rattle.bench_report.specs.Rows.{row_answer}

@@ -1,6 +1,6 @@
 use Rattle.std.proofs.Common.{◌≡◌, take}
 use Rattle.std.specs.String.{string_bytes}
-use Rattle.bench_report.specs.Texts.{report_text}
+use Rattle.report_lines.specs.Texts.{report_text}
 use Rattle.sbigdb.proofs.texts.report_text.Given as goal
 
 abbrev pub invariant-loop-answer : goal.invariant-loop-answer

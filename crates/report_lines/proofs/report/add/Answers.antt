@@ -1,5 +1,5 @@
 use Rattle.std.proofs.Common.{rules}
-use Rattle.bench_report.proofs.report.add.Goals as goal
+use Rattle.report_lines.proofs.report.add.Goals as goal
 
 pub returns-in_ok-push : goal.returns-in_ok-push
 returns-in_ok-push g c = record { ok = (search rules) }

@@ -3,7 +3,7 @@
 ghost use Rattle.std.specs.Prelude.{◌≡◌, ◌++◌, Some};
 ghost use Rattle.std.specs.Fmt.{WritesOnOk, decimal};
 ghost use Rattle.script_lang.specs.Lines.{mode_text};
-ghost use Rattle.bench_report.specs.Texts.{line_text};
+ghost use Rattle.report_lines.specs.Texts.{line_text};
 ghost use lib.Chars.{codes};
 
 use board_model::{BootMode, ConsoleCommand, Durable};

@@ -8,9 +8,9 @@ use Rattle.board_model.specs.Texts.{state_text}
 use Rattle.script_lang.specs.Lines.{mode_text}
 use Rattle.machine.specs.Texts.{machine_line_text}
 use Rattle.examined.specs.Texts.{inspection_text}
-use Rattle.bench_report.specs.declared.printed.Printed.{Printed}
-use Rattle.bench_report.specs.declared.printed.Printed.TheVariants as printed
-use Rattle.bench_report.specs.declared.printed.Answer.{Answer}
+use Rattle.report_lines.specs.declared.printed.Printed.{Printed}
+use Rattle.report_lines.specs.declared.printed.Printed.TheVariants as printed
+use Rattle.report_lines.specs.declared.printed.Answer.{Answer}
 use lib.Chars.{codes}
 
 abbrev pub line_text : Printed → List ℕ

@@ -4,11 +4,11 @@ use Rattle.board_model.proofs.Console.{equal-console}
 use Rattle.board_model.specs.declared.durable.Durable.{Durable}
 use Rattle.board_model.specs.contracts.durable.DurablePartialEq.TheImpl as durable
 use Rattle.machine.proofs.Alike.{equal-line}
-use Rattle.bench_report.specs.declared.printed.Answer.{Answer}
-use Rattle.bench_report.specs.declared.printed.Printed.{Printed}
-use Rattle.bench_report.specs.declared.printed.Printed.TheVariants as printed
-use Rattle.bench_report.specs.contracts.printed.PrintedPartialEq.TheImpl as line
-use Rattle.bench_report.specs.contracts.printed.AnswerPartialEq.TheImpl as answer
+use Rattle.report_lines.specs.declared.printed.Answer.{Answer}
+use Rattle.report_lines.specs.declared.printed.Printed.{Printed}
+use Rattle.report_lines.specs.declared.printed.Printed.TheVariants as printed
+use Rattle.report_lines.specs.contracts.printed.PrintedPartialEq.TheImpl as line
+use Rattle.report_lines.specs.contracts.printed.AnswerPartialEq.TheImpl as answer
 
 never : {X : Type 0} → false ≡ true → X
 never e = absurd (let no : ⊥ = cc in no)

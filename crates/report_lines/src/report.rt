@@ -2,8 +2,8 @@
 
 ghost use Rattle.std.specs.Prelude.{◌<◌, ◌^◌, OnOk};
 ghost use Rattle.std.specs.Io.KnownBytes.{Appends};
-ghost use Rattle.bench_report.specs.Texts.{answer_text, found_line};
-ghost use Rattle.bench_report.specs.Counts.{Adds};
+ghost use Rattle.report_lines.specs.Texts.{answer_text, found_line};
+ghost use Rattle.report_lines.specs.Counts.{Adds};
 
 use crate::printed::{Answer, Printed};
 use board_model::{Durable, StateText};
