@@ -9,7 +9,7 @@ use Rattle.board_model.specs.Shapes.{Size}
 use Rattle.script_lang.specs.Lines.{FitsLine, IsLineInRange, turns_in}
 use Rattle.script_lang.specs.declared.line.Line.{Line}
 use Rattle.script_lang.specs.declared.line.Line.TheVariants as lines
-use Rattle.bench_schedules.specs.Orders.{IsTurn, named, IsRowOf, IsOrderFor, TakesPlaceOf}
+use Rattle.bench_schedules.specs.Orders.{IsTurn, named, IsRowOf, IsOrderFor, IsPartAdded, TakesPlaceOf}
 use Rattle.bench_schedules.proofs.SeenRows.{order_of_rows}
 
 module _ (P : Line → Type 0) where
@@ -92,21 +92,9 @@ part_made said made rest new n so_far takes =
 pub left_behind : (rest : List Line) (n : ℕ) → take (length rest - n) (drop n rest) ≡ drop n rest
 left_behind rest n = ap (λ k. take k (drop n rest)) (sym (length-drop n rest)) ∙ take-length (drop n rest)
 
-pub part_placed : (said made rest new_made : List Line) (n : ℕ) → IsOrderFor said (made ++ rest)
-    → ((new : List Line) × (new_made ≡ made ++ new) × TakesPlaceOf (take n rest) new)
+pub part_placed : (said made rest new_made : List Line) (n : ℕ) → IsOrderFor said (made ++ rest) → IsPartAdded rest made new_made n
     → IsOrderFor said (new_made ++ take (length rest - n) (drop n rest))
-part_placed said made rest new_made n so_far added =
+part_placed said made rest new_made n so_far part =
     let P : List Line → Type 0 = λ m. IsOrderFor said (m ++ take (length rest - n) (drop n rest)) in
-    let Q : List Line → Type 0 = λ r. IsOrderFor said ((made ++ added.0) ++ r) in
-    subst P (sym added.1) (subst Q (sym (left_behind rest n)) (part_made said made rest added.0 n so_far added.2))
-
-pub part_added : (said made rest new_made : List Line) (n more : ℕ) → IsOrderFor said (made ++ rest)
-    → ((new : List Line) × (new_made ≡ made ++ new) × TakesPlaceOf (take n rest) new × (length new ≤ n + more))
-    → IsOrderFor said (new_made ++ take (length rest - n) (drop n rest))
-part_added said made rest new_made n more so_far added = part_placed said made rest new_made n so_far (added.0, added.1, added.2)
-
-pub part_few : (made rest new_made : List Line) (n more left : ℕ) → length made + length rest + left ≤ 65535 → n ≤ length rest → more ≤ left
-    → ((new : List Line) × (new_made ≡ made ++ new) × TakesPlaceOf (take n rest) new × (length new ≤ n + more))
-    → length new_made + length (take (length rest - n) (drop n rest)) + (left - more) ≤ 65535
-part_few made rest new_made n more left few taken within added =
-    omega (arith, few, taken, within, added.3, ap length added.1, length-append made added.0, ap length (left_behind rest n), length-drop n rest)
+    let Q : List Line → Type 0 = λ r. IsOrderFor said ((made ++ part.new) ++ r) in
+    subst P (sym part.added) (subst Q (sym (left_behind rest n)) (part_made said made rest part.new n so_far part.placed))

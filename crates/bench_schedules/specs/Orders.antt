@@ -1,5 +1,5 @@
 -- Schedules of a script: its turns in another order. Source: docs/SCRIPT.md, "Schedules".
-use Rattle.std.specs.Prelude.{◌≡◌, ℕ, suc, ◌+◌, ◌≤◌, List, [], ◌∷◌, ◌++◌, ◌==◌, Bool, true, false, All, if◌then◌else◌, slice_index_or}
+use Rattle.std.specs.Prelude.{◌≡◌, ℕ, suc, ◌+◌, ◌≤◌, List, [], ◌∷◌, ◌++◌, ◌==◌, Bool, true, false, All, length, take, if◌then◌else◌, slice_index_or}
 use Rattle.std.specs.List.{sum_by}
 use Rattle.board_model.specs.Shapes.{Size}
 use Rattle.script_lang.specs.Lines.{FitsLine, IsLineInRange, turns_in}
@@ -55,6 +55,14 @@ pub record IsOrderFor (old new : List Line) : Type 0 where
 -- they may stand where the others stood, whatever stands around them
 abbrev pub TakesPlaceOf : List Line → List Line → Type 0
 TakesPlaceOf old new = (front back : List Line) → IsOrderFor (front ++ (old ++ back)) (front ++ (new ++ back))
+
+-- The first n of these lines, one or more, were taken, and lines that may stand in their place added to those made.
+pub record IsPartAdded (rest made new_made : List Line) (n : ℕ) : Type 0 where
+  pub some : 1 ≤ n
+  pub within : n ≤ length rest
+  pub new : List Line
+  pub added : new_made ≡ made ++ new
+  pub placed : TakesPlaceOf (take n rest) new
 
 -- a line that is no `turn`
 abbrev pub is_other : Line → Bool

@@ -1,12 +1,12 @@
 //! Whole schedules.
 
-ghost use Rattle.std.specs.Prelude.{◌≡◌, ◌+◌, ◌++◌, ◌≤◌, ◌<◌, List, length, take, IfOk};
-ghost use Rattle.script_lang.specs.declared.line.Line.{Line as Said};
+ghost use Rattle.std.specs.Prelude.{◌≡◌, ◌+◌, ◌≤◌, ◌<◌, length, IfOk};
 ghost use Rattle.bench_schedules.specs.Generators.{generator_of};
-ghost use Rattle.bench_schedules.specs.Orders.{IsOrderFor, TakesPlaceOf};
+ghost use Rattle.bench_schedules.specs.Orders.{IsOrderFor, IsPartAdded, TakesPlaceOf};
 
+use crate::copies::copied_row;
 use crate::quotas::{Front, part_of, total};
-use crate::rows::{is_turn, order_of, row_length};
+use crate::rows::{is_row, is_turn, order_of, part_length};
 use rand_core::{Rng, SeedableRng};
 use rand_xoshiro::Xoshiro256PlusPlus;
 use script_lang::Line;
@@ -53,9 +53,28 @@ fn more_for(begins: bool, spare: usize, left: usize, front: &Front, all: u64) ->
     }
 }
 
-/// Adds the next of a script's lines: an order of the stretch that begins them, in at most so many lines more, or the
-/// first of them where that is no `turn` line. Answers how many of them those are.
+/// Draws an order of a part of a script's lines, in at most so many lines more. A line that is no `turn` stays as it is.
 #[tactic(auto, using(crate::proofs::Parts::line_takes_place))]
+fn part_order<R: Rng>(
+    alloc: Global,
+    rng: &mut R,
+    part: &[Line],
+    front: &Front,
+    more: usize,
+) -> Result<Vec<Line>, AllocError>
+    requires few { length part.now ≤ 65535 }
+    requires most { more ≤ 65535 }
+    ensures placed { IfOk result (λ new. TakesPlaceOf part.now new.items) }
+    ensures few { IfOk result (λ new. length new.items ≤ length part.now + more) }
+{
+    if is_row(part) {
+        order_of(alloc, rng, part, front, more)
+    } else {
+        copied_row(alloc, part)
+    }
+}
+
+/// Adds an order of the next part of a script's lines, in at most so many lines more. Answers how many lines that part has.
 fn add_next<R: Rng>(
     alloc: Global,
     rng: &mut R,
@@ -67,18 +86,12 @@ fn add_next<R: Rng>(
     requires some { 0 < length rest.now }
     requires few { length rest.now ≤ 65535 }
     requires most { more ≤ 65535 }
-    ensures taken { IfOk result (λ n. (1 ≤ n) × (n ≤ length rest.now)) }
-    ensures added { IfOk result (λ n. (new : List Said) × (made.new.items ≡ made.old.items ++ new)
-        × TakesPlaceOf (take n rest.now) new × (length new ≤ n + more)) }
+    ensures added { IfOk result (λ n. IsPartAdded rest.now made.old.items made.new.items n) }
+    ensures few { IfOk result (λ n. length made.new.items ≤ length made.old.items + n + more) }
 {
-    let count = row_length(rest);
-    if count == 0 {
-        let line = rest[0].copy(alloc)?;
-        made.push(line)?;
-        return Ok(1);
-    }
-    let mut order = order_of(alloc, rng, &rest[..count], front, more)?;
-    made.append(&mut order)?;
+    let count = part_length(rest);
+    let mut new = part_order(alloc, rng, &rest[..count], front, more)?;
+    made.append(&mut new)?;
     Ok(count)
 }
 

@@ -1,13 +1,12 @@
 //! Orders whose stretches begin with turns that were chosen. After them stand the script's own lines, less those turns.
 
-ghost use Rattle.std.specs.Prelude.{◌≡◌, ◌+◌, ◌++◌, ◌≤◌, ◌<◌, List, length, take, All, IfOk, OnOk};
-ghost use Rattle.script_lang.specs.declared.line.Line.{Line as Said};
-ghost use Rattle.bench_schedules.specs.Orders.{IsTurn, IsRowOf, IsOrderFor, TakesPlaceOf};
+ghost use Rattle.std.specs.Prelude.{◌≡◌, ◌+◌, ◌≤◌, ◌<◌, length, All, IfOk, OnOk};
+ghost use Rattle.bench_schedules.specs.Orders.{IsTurn, IsRowOf, IsOrderFor, IsPartAdded, TakesPlaceOf};
 ghost use Rattle.bench_schedules.specs.Deals.{GoesOn};
 
 use crate::copies::copied_row;
 use crate::deal::Deal;
-use crate::rows::{is_turn, row_length, turns_named};
+use crate::rows::{is_row, is_turn, part_length, turns_named};
 use board_model::HartId;
 use script_lang::Line;
 use std::alloc::{AllocError, Global};
@@ -74,8 +73,7 @@ fn deal_row(deal: &mut Deal, row: &[Line], dealt: &mut [u64; 8]) -> Result<(), A
     Ok(())
 }
 
-/// An order of a row: first the slices of that stretch, and then the row's own lines, less the turns of the slices. A row
-/// without slices stays as it is, of which there is no clause.
+/// An order of a row: first the slices of that stretch, and then the row's own lines, less the turns of the slices.
 fn led_row(
     alloc: Global,
     row: &[Line],
@@ -86,9 +84,6 @@ fn led_row(
     requires turns { All IsTurn row.now }
     ensures order { IfOk result (λ order. IsRowOf row.now order.items) }
 {
-    if !leads(slices, stretch) {
-        return copied_row(alloc, row);
-    }
     let turns = turns_named(row);
     let mut deal = Deal::new(alloc, turns);
     let mut dealt = deal_led(&mut deal, slices, stretch)?;
@@ -97,9 +92,26 @@ fn led_row(
     Ok(deal.lines)
 }
 
-/// Adds the next of a script's lines: the stretch that begins them, led by its slices, or the first of them where that is
-/// no `turn` line. Answers how many of them those are.
+/// A part of a script's lines, led by the slices of that stretch. A row without slices stays as it is, of which there is no clause,
+/// and so does a line that is no `turn`.
 #[tactic(auto, using(crate::proofs::Parts::line_takes_place))]
+fn led_part(
+    alloc: Global,
+    part: &[Line],
+    slices: &[Slice],
+    stretch: usize,
+) -> Result<Vec<Line>, AllocError>
+    requires few { length part.now ≤ 65535 }
+    ensures placed { IfOk result (λ new. TakesPlaceOf part.now new.items) }
+{
+    if leads(slices, stretch) && is_row(part) {
+        led_row(alloc, part, slices, stretch)
+    } else {
+        copied_row(alloc, part)
+    }
+}
+
+/// Adds the next part of a script's lines, led by the slices of that stretch. Answers how many lines it has.
 fn add_led(
     alloc: Global,
     rest: &[Line],
@@ -109,18 +121,11 @@ fn add_led(
 ) -> Result<usize, AllocError>
     requires some { 0 < length rest.now }
     requires few { length rest.now ≤ 65535 }
-    ensures taken { IfOk result (λ n. (1 ≤ n) × (n ≤ length rest.now)) }
-    ensures added { IfOk result (λ n. (new : List Said) × (made.new.items ≡ made.old.items ++ new)
-        × TakesPlaceOf (take n rest.now) new) }
+    ensures { IfOk result (λ n. IsPartAdded rest.now made.old.items made.new.items n) }
 {
-    let count = row_length(rest);
-    if count == 0 {
-        let line = rest[0].copy(alloc)?;
-        made.push(line)?;
-        return Ok(1);
-    }
-    let mut order = led_row(alloc, &rest[..count], slices, stretch)?;
-    made.append(&mut order)?;
+    let count = part_length(rest);
+    let mut new = led_part(alloc, &rest[..count], slices, stretch)?;
+    made.append(&mut new)?;
     Ok(count)
 }
 

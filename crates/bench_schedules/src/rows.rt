@@ -69,6 +69,21 @@ pub fn turns_named(row: &[Line]) -> [u64; 8]
     turns
 }
 
+/// How many lines the first part of a script's lines has: the row of turns that begins them, or the one line that is no `turn`.
+pub fn part_length(lines: &[Line]) -> usize
+    requires { 0 < length lines.now }
+    ensures { (1 ≤ result) × (result ≤ length lines.now) }
+{
+    row_length(lines).max(1)
+}
+
+/// Whether all of the lines make turns.
+pub fn is_row(lines: &[Line]) -> bool
+    ensures { result ≡ true → All IsTurn lines.now }
+{
+    row_length(lines) == lines.len()
+}
+
 /// Draws an order of a row: the same turns of each hart, in at most so many lines more.
 pub fn order_of<R: Rng>(
     alloc: Global,

@@ -1,4 +1,5 @@
-use Rattle.bench_schedules.proofs.Parts.{part_added, part_few}
+use Rattle.std.proofs.Common.{arith, ap, length, length-drop}
+use Rattle.bench_schedules.proofs.Parts.{left_behind, part_placed}
 use Rattle.std.proofs.lemmas.Result.{IfOk-from_err}
 use Rattle.bench_schedules.proofs.drawn_orders.schedule.Goals as goal
 
@@ -6,10 +7,11 @@ pub loop-rest-preserved : goal.loop-rest-preserved
 loop-rest-preserved g c =
     let made = c.loop-rest.made.items in
     let rest = c.loop-rest.rest.now in
-    let new = c.add_next.new.made.items in
+    let count = c.in_ok-count.count in
+    let part = c.in_ok-count.ensures in
     record {
-      order = part_added c.args.lines.now made rest new c.in_ok-count.count c.more_for-more.result c.loop-rest.invariant.order c.in_ok-count.ensures.added;
-      few = part_few made rest new c.in_ok-count.count c.more_for-more.result c.loop-rest.left c.loop-rest.invariant.few c.in_ok-count.ensures.taken.1 c.more_for-more.ensures c.in_ok-count.ensures.added;
+      order = part_placed c.args.lines.now made rest c.add_next.new.made.items count c.loop-rest.invariant.order part.added;
+      few = omega (arith, c.loop-rest.invariant.few, part.added.within, c.more_for-more.ensures, part.few, ap length (left_behind rest count), length-drop count rest);
     }
 
 pub returns-in_err-count-clause-order : goal.returns-in_err-count-clause-order

@@ -1,37 +1,13 @@
-use Rattle.std.proofs.Common.{take}
-use Rattle.bench_schedules.proofs.Parts.{row_takes_place}
 use Rattle.std.proofs.lemmas.Result.{IfOk-from_err}
 use Rattle.bench_schedules.proofs.led_orders.add_led.Goals as goal
 
-pub returns-clause-added : goal.returns-clause-added
-returns-clause-added c =
-    let count = c.row_length-count.result in
-    let order = c.in_ok-order.order.items in (
-      order,
-      c.in_ok-append.ensures.items,
-      row_takes_place (take count c.args.rest.now) order c.row_length-count.ensures.turns c.in_ok-order.ensures.order,
-    )
+pub returns : goal.returns
+returns c =
+    let count = c.part_length-count.ensures in
+    record { some = count.0; within = count.1; new = c.in_ok-new.new.items; added = c.in_ok-append.ensures.items; placed = c.in_ok-new.ensures.placed }
 
-pub returns-in_err-line-clause-taken : goal.returns-in_err-line-clause-taken
-returns-in_err-line-clause-taken c = IfOk-from_err c.from_residual.result _ c.from_residual.ensures.0
+pub returns-in_err-new : goal.returns-in_err-new
+returns-in_err-new c = IfOk-from_err c.from_residual.result _ c.from_residual.ensures.0
 
-pub returns-in_err-line-clause-added : goal.returns-in_err-line-clause-added
-returns-in_err-line-clause-added c = IfOk-from_err c.from_residual.result _ c.from_residual.ensures.0
-
-pub returns-in_err-push-clause-taken : goal.returns-in_err-push-clause-taken
-returns-in_err-push-clause-taken c = IfOk-from_err c.from_residual-in_err-push.result _ c.from_residual-in_err-push.ensures.0
-
-pub returns-in_err-push-clause-added : goal.returns-in_err-push-clause-added
-returns-in_err-push-clause-added c = IfOk-from_err c.from_residual-in_err-push.result _ c.from_residual-in_err-push.ensures.0
-
-pub returns-in_err-order-clause-taken : goal.returns-in_err-order-clause-taken
-returns-in_err-order-clause-taken c = IfOk-from_err c.from_residual-in_err-order.result _ c.from_residual-in_err-order.ensures.0
-
-pub returns-in_err-order-clause-added : goal.returns-in_err-order-clause-added
-returns-in_err-order-clause-added c = IfOk-from_err c.from_residual-in_err-order.result _ c.from_residual-in_err-order.ensures.0
-
-pub returns-in_err-append-clause-taken : goal.returns-in_err-append-clause-taken
-returns-in_err-append-clause-taken c = IfOk-from_err c.from_residual-in_err-append.result _ c.from_residual-in_err-append.ensures.0
-
-pub returns-in_err-append-clause-added : goal.returns-in_err-append-clause-added
-returns-in_err-append-clause-added c = IfOk-from_err c.from_residual-in_err-append.result _ c.from_residual-in_err-append.ensures.0
+pub returns-in_err-append : goal.returns-in_err-append
+returns-in_err-append c = IfOk-from_err c.from_residual-in_err-append.result _ c.from_residual-in_err-append.ensures.0

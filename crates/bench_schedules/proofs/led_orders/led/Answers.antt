@@ -10,7 +10,7 @@ loop-rest-preserved c =
     let new = c.add_led.new.made.items in
     let count = c.in_ok-count.count in
     record {
-      order = part_placed c.args.lines.now made rest new count c.loop-rest.invariant.order c.in_ok-count.ensures.added;
+      order = part_placed c.args.lines.now made rest new count c.loop-rest.invariant.order c.in_ok-count.ensures;
       few = omega (arith, c.loop-rest.invariant.few, ap length (left_behind rest count), length-drop count rest);
     }
 
