@@ -1,10 +1,8 @@
 -- What comes of what was done for a work.
-use Rattle.std.proofs.Common.{◌≡◌, inl, ℕ, List, Option, Result, Ok, Err, IfOk, IfErr, OnOk, MatchResult, refl, sym, subst}
+use Rattle.std.proofs.Common.{◌≡◌, ℕ, List, Option, Result, Ok, Err, IfOk, IfErr, OnOk, MatchResult, refl, sym, subst}
 use Rattle.board_model.specs.declared.refusal.Refusal.{Refusal}
-use Rattle.board_model.specs.declared.refusal.Refusal.TheVariants.{Memory}
 use Rattle.bench_program.specs.Written.{IsMade, IsRefusedWith}
 use Rattle.bench_program.specs.declared.usage.Work.{Work}
-use Rattle.bench_program.specs.declared.usage.Work.TheVariants.{Report, Judge, ShowRow, Compare, Show, Shrink}
 
 pub made_by : {A E : Type 0} (done : Result A E) (r : Result ℕ Refusal) (f : E → Refusal) (P : A → Type 0) (Q : Type 0) → MatchResult done (λ x. r ≡ Ok 0) (λ e. r ≡ Err (f e)) → ((x : A) → P x → Q) → IfOk done P
     → IfOk r (λ differ. (differ ≡ 0) × Q)
@@ -27,12 +25,3 @@ made_as work w payloads script r old now is made = subst (λ (x : Work). IfOk r 
 
 pub refused_as : (work w : Work) (payloads : List (List ℕ)) (script : List ℕ) (r : Result ℕ Refusal) → work ≡ w → IfErr r (IsRefusedWith w payloads script) → IfErr r (IsRefusedWith work payloads script)
 refused_as work w payloads script r is refused = subst (λ (x : Work). IfErr r (IsRefusedWith x payloads script)) (sym is) refused
-
--- any work may be refused memory
-pub memory_fails : (work : Work) (payloads : List (List ℕ)) (script : List ℕ) → IsRefusedWith work payloads script Memory
-memory_fails (Report savers) payloads script = inl refl
-memory_fails (Judge plan) payloads script = inl refl
-memory_fails (ShowRow row) payloads script = inl refl
-memory_fails (Compare plan) payloads script = inl refl
-memory_fails (Show drawn) payloads script = inl refl
-memory_fails (Shrink drawn) payloads script = inl refl
