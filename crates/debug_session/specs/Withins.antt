@@ -11,7 +11,7 @@ use Rattle.debug_session.specs.Ats.{IsLeft, MadeTurns}
 use Rattle.debug_session.specs.Lives.{Rests, machine_of, pc_in}
 use Rattle.debug_session.specs.Passes.{machine_left}
 use Rattle.debug_session.specs.declared.forth.RoundPart.{RoundPart}
-use Rattle.debug_session.specs.declared.forth.StepRange.{StepRange}
+use Rattle.debug_session.specs.declared.steps.StepRange.{StepRange}
 use Rattle.debug_session.specs.declared.halts.HaltReason.{HaltReason}
 use Rattle.debug_session.specs.declared.session.SessionPlan.{SessionPlan}
 use Rattle.debug_session.specs.declared.halts.HaltReason.TheVariants as halts

@@ -3,15 +3,14 @@
 ghost use Rattle.std.specs.Prelude.{◌≡◌, ◌≤◌, ◌<◌, ◌+◌, ℕ, true, false, slice_index_or, None, Some, IfErr, IfOk, IfSome, OnOk};
 ghost use Rattle.bench_report.specs.declared.rows.TurnRow.{TurnRow};
 ghost use Rattle.debug_session.specs.Ats.{IsAt};
-ghost use Rattle.debug_session.specs.declared.timeline.Timeline.{Timeline};
-ghost use Rattle.debug_session.specs.Steps.{IsStep, Went, halt_step};
-ghost use Rattle.debug_session.specs.Withins.{MadeOne, StayedWithin, StepsWithin, WithinTo, halt_within, is_in};
+ghost use Rattle.debug_session.specs.Steps.{Went};
+ghost use Rattle.debug_session.specs.Withins.{MadeOne};
 ghost use Rattle.debug_session.specs.Firsts.{ReadsAs, Stretched, ToHalt, halt_after, halt_seen, halts_all, is_of_turn, seen_in, touched_since, TellsTouched};
 ghost use Rattle.debug_session.specs.Lives.{machine_of, pc_in, stands_in};
 
 use crate::halts::{HaltReason, Stop};
 use crate::loads::Load;
-use crate::looks::{pc, stands_at};
+use crate::looks::stands_at;
 use crate::orders::{Ahead, ScriptOrder};
 use crate::rounds::{NextPart, Round};
 use crate::stops::{SeenBytes, Stops, Watchpoint, first_touched};
@@ -34,14 +33,6 @@ pub(crate) struct RoundPart {
     pub(crate) made: u32,
     /// Whether the hart has nothing to do.
     pub(crate) rests: bool,
-}
-
-/// Addresses within which a hart steps, from the first on and before the end, and how many turns it makes at most.
-#[derive(Clone, Copy, Drop)]
-pub(crate) struct StepRange {
-    pub(crate) first: u64,
-    pub(crate) end: u64,
-    pub(crate) most: u64,
 }
 
 /// Whether everything halts after a turn of which this is said: the board dozes, or its life is over.
@@ -172,7 +163,7 @@ fn loading_turn<C: Crew>(
 }
 
 /// One turn of a hart, where bytes are watched.
-fn watched_turn<C: Crew>(
+pub(crate) fn watched_turn<C: Crew>(
     setting: &Setting<'_, C>,
     stops: &Stops,
     before: &Vec<SeenBytes>,
@@ -252,124 +243,6 @@ fn run_part<C: Crew>(
     } else {
         stretch(setting, stops.points(), timeline, hart, most, told)
     }
-}
-
-/// Steps a hart once: what the line `turn` would have said is told where the turn ends everything.
-pub(crate) fn step<C: Crew>(
-    setting: &Setting<'_, C>,
-    stops: &Stops,
-    timeline: &mut Timeline,
-    hart: HartId,
-    told: &mut Vec<Answer>,
-) -> Result<Stop, AllocError>
-    requires at { IsAt setting.now.shape.now timeline.old }
-    requires hart { hart < setting.now.shape.now.harts }
-    ensures at { OnOk result (IsAt setting.now.shape.now timeline.new) }
-    ensures step { IfOk result (λ stop. IsStep setting.now.shape.now hart stop.halt timeline.old timeline.new) }
-    ensures first { IfOk result (λ stop. ToHalt setting.now.shape.now stops.now stop.hart (Some stop.halt) timeline.old timeline.new) }
-    ensures there { IfOk result (λ stop. stop.hart ≡ hart) }
-    ensures begins { timeline.new.begins ≡ timeline.old.begins }
-{
-    let before = stops.watched(setting.alloc, timeline.bench())?;
-    let part = watched_turn(setting, stops, &before, timeline, hart, told)?;
-    let halt = halt_step(part.halt, part.made);
-    Ok(Stop { hart, halt })
-}
-
-/// Why a step ends so: of no turn, since the hart has nothing to do.
-fn halt_step(halt: Option<HaltReason>, made: u32) -> HaltReason
-    ensures { result ≡ halt_step halt made }
-{
-    match halt {
-        Some(halt) => halt,
-        None if made == 0 => HaltReason::Idle,
-        None => HaltReason::Stepped,
-    }
-}
-
-/// Whether the pc of a hart lies within these addresses.
-fn stands_within(timeline: &Timeline, hart: HartId, within: StepRange) -> bool
-    ensures { result ≡ is_in within (pc_in hart (machine_of timeline.now.bench)) }
-{
-    match pc(timeline.bench(), hart) {
-        Some(pc) => within.first <= pc && pc < within.end,
-        None => false,
-    }
-}
-
-/// Why a hart steps no more within addresses, by what came of its turn and whether its pc lies there then.
-fn halt_within(part: RoundPart, stands: bool) -> Option<HaltReason>
-    ensures { result ≡ halt_within part.halt part.made stands }
-{
-    match part.halt {
-        Some(halt) => Some(halt),
-        None if part.made == 0 => Some(HaltReason::Idle),
-        None if stands => None,
-        None => Some(HaltReason::Stepped),
-    }
-}
-
-/// One turn of a hart that steps while its pc lies within these addresses: why it steps no more, if it does not.
-fn turn_within<C: Crew>(
-    setting: &Setting<'_, C>,
-    stops: &Stops,
-    before: &Vec<SeenBytes>,
-    timeline: &mut Timeline,
-    hart: HartId,
-    within: StepRange,
-    told: &mut Vec<Answer>,
-) -> Result<Option<HaltReason>, AllocError>
-    requires at { IsAt setting.now.shape.now timeline.old }
-    requires hart { hart < setting.now.shape.now.harts }
-    requires tells { TellsTouched (machine_of timeline.old.bench) stops.now.watches.items (seen_in before.now.items) }
-    ensures went { OnOk result ((n : ℕ) × (n ≤ 1) × Went (λ h. h ≡ hart) n setting.now.shape.now timeline.old timeline.new) }
-    ensures first { IfOk result (λ halt. ToHalt setting.now.shape.now stops.now hart halt timeline.old timeline.new) }
-    // So do the turns before it and this one.
-    ensures within { IfOk result (λ halt. (first : Timeline) (n : ℕ) → StayedWithin setting.now.shape.now within hart n first timeline.old
-        → WithinTo setting.now.shape.now within hart n halt first timeline.new) }
-    ensures tells { IfOk result (λ halt. halt ≡ None
-        → TellsTouched (machine_of timeline.new.bench) stops.now.watches.items (seen_in before.now.items)) }
-{
-    let part = watched_turn(setting, stops, before, timeline, hart, told)?;
-    let stands = stands_within(timeline, hart, within);
-    Ok(halt_within(part, stands))
-}
-
-/// Steps a hart while its pc lies within these addresses, to the first halt.
-pub(crate) fn step_within<C: Crew>(
-    setting: &Setting<'_, C>,
-    stops: &Stops,
-    timeline: &mut Timeline,
-    hart: HartId,
-    within: StepRange,
-    interrupt: &AtomicBool,
-    told: &mut Vec<Answer>,
-) -> Result<Stop, AllocError>
-    requires at { IsAt setting.now.shape.now timeline.old }
-    requires hart { hart < setting.now.shape.now.harts }
-    ensures went { OnOk result ((n : ℕ) × (n ≤ within.most) × Went (λ h. h ≡ hart) n setting.now.shape.now timeline.old timeline.new) }
-    ensures first { IfOk result (λ stop. ToHalt setting.now.shape.now stops.now stop.hart (Some stop.halt) timeline.old timeline.new) }
-    ensures within { IfOk result (λ stop. StepsWithin setting.now.shape.now within hart stop.halt timeline.old timeline.new) }
-    ensures there { IfOk result (λ stop. stop.hart ≡ hart) }
-{
-    let before = stops.watched(setting.alloc, timeline.bench())?;
-    let mut done = 0;
-    while done < within.most {
-        if let Some(halt) = turn_within(setting, stops, &before, timeline, hart, within, told)? {
-            return Ok(Stop { hart, halt });
-        }
-        done += 1;
-        if interrupt.swap(false, Ordering::SeqCst) {
-            return Ok(Stop {
-                hart,
-                halt: HaltReason::Interrupted,
-            });
-        }
-    }
-    Ok(Stop {
-        hart,
-        halt: HaltReason::Spent,
-    })
 }
 
 /// Whether an order goes on with a line that is no row of turns.

@@ -21,6 +21,7 @@ mod rounds;
 mod script;
 mod session;
 mod starts;
+mod steps;
 mod stops;
 mod timeline;
 mod to_points;

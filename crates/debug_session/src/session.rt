@@ -18,14 +18,14 @@ ghost use Rattle.script_lang.specs.Lines.{IsLineInRange};
 ghost use Rattle.script_lang.specs.Scripts.{script_of};
 ghost use Rattle.script_lang.specs.Spellings.{IsWritable};
 
-use crate::forth::{self, StepRange};
 use crate::halts::{HaltReason, Stop};
 use crate::orders::ScriptOrder;
 use crate::rounds::Round;
 use crate::starts::begun;
+use crate::steps::{self, StepRange};
 use crate::stops::{Stops, Watchpoint};
 use crate::timeline::Timeline;
-use crate::{back, counts, looks, script};
+use crate::{back, counts, forth, looks, script};
 use bench_report::{LiveBench, Power, Setting};
 use board::Payloads;
 use board_model::HartId;
@@ -246,7 +246,7 @@ impl<'a, C: Crew> Session<'a, C> {
         ensures rest { KeepsRest self.old self.new }
         ensures begins { OnOk result (begins_of self.new ≡ begins_of self.old) }
     {
-        forth::step(&self.setting, &self.stops, &mut self.timeline, hart, told)
+        steps::step(&self.setting, &self.stops, &mut self.timeline, hart, told)
     }
 
     /// Steps a hart while its pc lies from the first address on and before the second, to the first halt: `Stepped` where a
@@ -277,7 +277,7 @@ impl<'a, C: Crew> Session<'a, C> {
             end,
             most: self.plan.most,
         };
-        forth::step_within(
+        steps::step_within(
             &self.setting,
             &self.stops,
             &mut self.timeline,

@@ -7,7 +7,7 @@ use Rattle.debug_session.specs.Steps.{IsStep}
 use Rattle.debug_session.proofs.Firsts.{step_halts, tells_seen}
 use Rattle.debug_session.proofs.Wents.{step_of}
 use Rattle.std.proofs.lemmas.Result.{IfOk-from_err}
-use Rattle.debug_session.proofs.forth.step.Goals as goal
+use Rattle.debug_session.proofs.steps.step.Goals as goal
 
 pub returns-clause-step : goal.returns-clause-step
 returns-clause-step g c =

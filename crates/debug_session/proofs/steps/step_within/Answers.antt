@@ -10,7 +10,7 @@ use Rattle.debug_session.proofs.Wents.{few_went, step_more, went_none}
 use Rattle.debug_session.proofs.Withins.{stayed_none, steps_asked, steps_spent}
 use Rattle.std.proofs.Common.{Option}
 use Rattle.std.proofs.lemmas.Result.{IfOk-from_err}
-use Rattle.debug_session.proofs.forth.step_within.Goals as goal
+use Rattle.debug_session.proofs.steps.step_within.Goals as goal
 
 pub loop-done-init : goal.loop-done-init
 loop-done-init g c =

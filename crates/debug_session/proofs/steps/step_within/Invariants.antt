@@ -3,7 +3,7 @@ use Rattle.debug_session.specs.Firsts.{TellsTouched, ToHalt, seen_in}
 use Rattle.debug_session.specs.Lives.{machine_of}
 use Rattle.debug_session.specs.Steps.{Went}
 use Rattle.debug_session.specs.Withins.{StayedWithin}
-use Rattle.debug_session.proofs.forth.step_within.Given as goal
+use Rattle.debug_session.proofs.steps.step_within.Given as goal
 
 abbrev pub invariant-loop-done : goal.invariant-loop-done
 invariant-loop-done g l = record {

@@ -5,7 +5,7 @@ use Rattle.debug_session.specs.declared.halts.HaltReason.{HaltReason}
 use Rattle.debug_session.proofs.Firsts.{within_halts}
 use Rattle.debug_session.proofs.Withins.{steps_on, turned_within}
 use Rattle.std.proofs.lemmas.Result.{IfOk-from_err}
-use Rattle.debug_session.proofs.forth.turn_within.Goals as goal
+use Rattle.debug_session.proofs.steps.turn_within.Goals as goal
 
 pub watched_turn-requires-clause-at : goal.watched_turn-requires-clause-at
 watched_turn-requires-clause-at g c κs within = c.requires.at
