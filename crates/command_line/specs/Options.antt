@@ -22,6 +22,10 @@ path_rule id = value_rule id NonEmptyString
 abbrev pub number_rule : Text → ℕ → Text → Rule
 number_rule id most default = record (value_rule id (Unsigned 1 most)) { defaults = default ∷ [] }
 
+-- a command with two more arguments
+abbrev pub with_rules : App → Rule → Rule → App
+with_rules app first second = with_rule (with_rule app first) second
+
 -- a command with the files of the payloads
 abbrev pub with_payloads : App → App
 with_payloads app =

@@ -10,6 +10,7 @@ use crate::fault::{ProgramFault, ToldBy, file_fault, status_of};
 use crate::reads::read_at_most;
 use board_model::Refusal;
 use std::alloc::Global;
+use std::fmt::Display;
 use std::fs::{self, File, OpenOptions};
 use std::io::{self, IsTerminal, Write};
 use thiserror::Error;
@@ -108,6 +109,11 @@ impl From<ProgramFault> for FileFault {
     }
 }
 
+/// Writes a line that begins with the program's name. That nobody reads it changes nothing.
+fn tell_line<F: Write, T: Display>(faults: &mut F, program: &'static str, what: &T) {
+    let _told = writeln!(faults, "{program}: {what}");
+}
+
 /// Tells a fault: its line, as [`ToldBy`] has it; then, of a refusal with several causes, which it was; where a file could not
 /// be read or written, its path and the system's reason; and whether commands are lost by that. That nobody reads it changes
 /// nothing.
@@ -115,13 +121,13 @@ pub fn tell_fault<F: Write>(faults: &mut F, program: &'static str, fault: &FileF
     let line = ToldBy(program, fault.fault);
     let _told = write!(faults, "{line}");
     if let Some(cause) = fault.cause {
-        let _told = writeln!(faults, "{program}: {cause}");
+        tell_line(faults, program, &cause);
     }
     if let Some(reason) = &fault.reason {
-        let _told = writeln!(faults, "{program}: {reason}");
+        tell_line(faults, program, reason);
     }
     if fault.is_loss {
-        let _told = writeln!(faults, "{program}: the commands of this session are lost");
+        tell_line(faults, program, &"the commands of this session are lost");
     }
 }
 

@@ -25,7 +25,9 @@ pub use crate::files::{
 };
 pub use crate::flags::flag;
 pub use crate::heap::keep_heap;
-pub use crate::options::{number, option, path, path_given, payload_paths, with_payloads};
+pub use crate::options::{
+    number, option, path, path_given, payload_paths, with_payloads, with_two,
+};
 pub use crate::parses::{out_of_range, parse, release, value_fault};
 pub use crate::pipe::Pipe;
 pub use crate::programs::program;

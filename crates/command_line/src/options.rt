@@ -3,7 +3,7 @@
 ghost use Rattle.std.specs.Prelude.{◌≡◌, ◌<◌, false, map, string_bytes, string_len, IfOk, IfSome};
 ghost use Rattle.std.specs.Option.{option_map};
 ghost use Rattle.clap.specs.Words.{app_of, first_value, found_of, rule_of};
-ghost use Rattle.command_line.specs.Options.{number_rule, option_rule, path_rule, path_named, payload_paths, with_payloads};
+ghost use Rattle.command_line.specs.Options.{number_rule, option_rule, path_rule, path_named, payload_paths, with_payloads, with_rules};
 
 use clap::builder::ValueParser;
 use clap::{Arg, ArgAction, ArgMatches, Command};
@@ -42,15 +42,34 @@ pub fn number<'a>(alloc: Global, id: &'a str, most: u64, default: &'a str, help:
         .default_value(default)
 }
 
+/// The command with two more arguments. A chain of `arg` takes each proof of it several times as long.
+pub fn with_two<'a>(
+    command: Command<'a>,
+    first: Arg<'a>,
+    second: Arg<'a>,
+) -> Result<Command<'a>, AllocError>
+    requires first { first.global ≡ false }
+    requires second { second.global ≡ false }
+    ensures { IfOk result (λ c. app_of c ≡ with_rules (app_of command.entry) (rule_of first.entry) (rule_of second.entry)) }
+{
+    match command.arg(first) {
+        Ok(command) => command.arg(second),
+        Err(refused) => Err(refused),
+    }
+}
+
 /// The command with the options of the payload files, `--p0` to `--p3`.
 pub fn with_payloads<'a>(alloc: Global, command: Command<'a>) -> Result<Command<'a>, AllocError>
     ensures { IfOk result (λ c. app_of c ≡ with_payloads (app_of command.entry)) }
 {
-    command
-        .arg(path(alloc, PAYLOADS[0], "What boot slot 0 boots"))?
-        .arg(path(alloc, PAYLOADS[1], "What boot slot 1 boots"))?
-        .arg(path(alloc, PAYLOADS[2], "What boot slot 2 boots"))?
-        .arg(path(alloc, PAYLOADS[3], "What boot slot 3 boots"))
+    let first = path(alloc, PAYLOADS[0], "What boot slot 0 boots");
+    let second = path(alloc, PAYLOADS[1], "What boot slot 1 boots");
+    let Ok(command) = with_two(command, first, second) else {
+        return Err(AllocError);
+    };
+    let third = path(alloc, PAYLOADS[2], "What boot slot 2 boots");
+    let fourth = path(alloc, PAYLOADS[3], "What boot slot 3 boots");
+    with_two(command, third, fourth)
 }
 
 /// A path that was given; none that is empty.

@@ -1,11 +1,11 @@
-use Rattle.std.proofs.Common.{◌∙◌, refl, ap₂}
+use Rattle.std.proofs.Common.{◌∙◌, ap, ap₂, codes}
 use Rattle.std.proofs.lemmas.Result.{IfOk-weaker}
-use Rattle.clap.specs.Words.{with_rule}
+use Rattle.clap.specs.Words.{App, app_of}
+use Rattle.command_line.specs.Options.{path_rule, with_rules}
 use Rattle.command_line.proofs.options.with_payloads.Goals as goal
 
 pub returns : goal.returns
 returns c =
-    let a1 = c.in_ok-arg.ensures.shape c.path.ensures.local ∙ ap₂ with_rule refl c.path.ensures.rule in
-    let a2 = c.in_ok-arg-2.ensures.shape c.path-2.ensures.local ∙ ap₂ with_rule a1 c.path-2.ensures.rule in
-    let a3 = c.in_ok-arg-3.ensures.shape c.path-3.ensures.local ∙ ap₂ with_rule a2 c.path-3.ensures.rule in
-    IfOk-weaker c.arg-4.result _ _ (λ r h. h.shape c.path-4.ensures.local ∙ ap₂ with_rule a3 c.path-4.ensures.rule) c.arg-4.ensures
+    let half = c.in-Ok.ensures ∙ ap₂ (with_rules (app_of c.args.command)) c.path-first.ensures.rule c.path-second.ensures.rule in
+    let whole = ap (λ (app : App). with_rules app (path_rule (codes "p2")) (path_rule (codes "p3"))) half in
+    IfOk-weaker c.with_two-2.result _ _ (λ r h. h ∙ ap₂ (with_rules (app_of c.in-Ok.command)) c.path-third.ensures.rule c.path-fourth.ensures.rule ∙ whole) c.with_two-2.ensures
