@@ -1,14 +1,14 @@
 //! The command, its options, and what `--help` says.
 
 ghost use Rattle.std.specs.Prelude.{◌≡◌, false, codes, IfOk};
-ghost use Rattle.clap.specs.Words.{app_of, rule_of, with_rule};
+ghost use Rattle.clap.specs.Words.{app_of, rule_of};
 ghost use Rattle.clap.specs.declared.builder.value_parser.ValueParser.TheVariants.{Unsigned};
-ghost use Rattle.command_line.specs.Options.{number_rule, option_rule, value_rule};
+ghost use Rattle.command_line.specs.Options.{number_rule, value_rule, with_rules};
 ghost use Rattle.sbigdb.specs.Usage.{sbigdb, script_rule, with_begins, with_rows};
 
 use clap::builder::ValueParser;
 use clap::{Arg, ArgAction, Command};
-use command_line::{flag, number, option, program, with_payloads};
+use command_line::{flag, number, option, program, with_payloads, with_two};
 use std::alloc::{AllocError, Global};
 
 /// How the program is called.
@@ -99,53 +99,54 @@ fn count<'a>(alloc: Global, id: &'a str, most: u64, value: &'a str, help: &'a st
 fn with_rows<'a>(alloc: Global, command: Command<'a>) -> Result<Command<'a>, AllocError>
     ensures { IfOk result (λ c. app_of c ≡ with_rows (app_of command.entry)) }
 {
-    let sweep = "With --row: the bench of power cuts";
-    let faults = "With --row: the bench of failures";
-    let row = "Begins where the cut or the failure of row R of the bench strikes";
-    command
-        .arg(flag(alloc, SWEEP, sweep))?
-        .arg(flag(alloc, FAULTS, faults))?
-        .arg(count(alloc, ROW, MOST_NUMBER, "R", row))
-}
-
-/// The command with the options that say by which schedule a session begins.
-fn with_schedules<'a>(alloc: Global, command: Command<'a>) -> Result<Command<'a>, AllocError>
-    ensures { IfOk result (λ c. app_of c ≡ with_rule (with_rule (app_of command.entry)
-        (value_rule (codes "schedule") (Unsigned 1 1000000))) (option_rule (codes "seed"))) }
-{
-    let schedule = "Begins where schedule K parts from the script";
-    let seed = "The number that schedules are drawn from; 1 if not given";
-    command
-        .arg(count(alloc, SCHEDULE, MOST_NUMBER, "K", schedule))?
-        .arg(option(alloc, SEED, "S", seed))
+    let sweep = flag(alloc, SWEEP, "With --row: the bench of power cuts");
+    let faults = flag(alloc, FAULTS, "With --row: the bench of failures");
+    let Ok(command) = with_two(command, sweep, faults) else {
+        return Err(AllocError);
+    };
+    let help = "Begins where the cut or the failure of row R of the bench strikes";
+    command.arg(count(alloc, ROW, MOST_NUMBER, "R", help))
 }
 
 /// The command with the options that say where a session begins.
 fn with_begins<'a>(alloc: Global, command: Command<'a>) -> Result<Command<'a>, AllocError>
     ensures { IfOk result (λ c. app_of c ≡ with_begins (app_of command.entry)) }
 {
-    let command = with_schedules(alloc, command)?;
+    let schedule = "Begins where schedule K parts from the script";
+    let schedule = count(alloc, SCHEDULE, MOST_NUMBER, "K", schedule);
+    let seed = "The number that schedules are drawn from; 1 if not given";
+    let seed = option(alloc, SEED, "S", seed);
+    let Ok(command) = with_two(command, schedule, seed) else {
+        return Err(AllocError);
+    };
     with_rows(alloc, command)
 }
 
 /// The command with the options of every session.
 fn with_numbers<'a>(alloc: Global, command: Command<'a>) -> Result<Command<'a>, AllocError>
-    ensures { IfOk result (λ c. app_of c ≡ with_rule (with_rule (app_of command.entry)
-        (number_rule (codes "quantum") 1000000 (codes "1000"))) (number_rule (codes "most") 1000000000 (codes "20000000"))) }
+    ensures { IfOk result (λ c. app_of c ≡ with_rules (app_of command.entry)
+        (number_rule (codes "quantum") 1000000 (codes "1000")) (number_rule (codes "most") 1000000000 (codes "20000000"))) }
 {
     let quantum = "How many turns a hart makes before the next one's, 1 to 1000000";
+    let quantum = number(alloc, QUANTUM, MOST_QUANTUM, "1000", quantum);
     let most = "How many turns a command makes at most, 1 to 1000000000";
-    command
-        .arg(number(alloc, QUANTUM, MOST_QUANTUM, "1000", quantum))?
-        .arg(number(alloc, MOST, MOST_TURNS, "20000000", most))
+    let most = number(alloc, MOST, MOST_TURNS, "20000000", most);
+    with_two(command, quantum, most)
 }
 
 /// The command.
 pub fn command<'a>(alloc: Global) -> Result<Command<'a>, AllocError>
     ensures { IfOk result (λ c. app_of c ≡ sbigdb) }
 {
-    let command = program(alloc, "sbigdb", USAGE, ABOUT, STATUS).arg(script(alloc))?;
-    let command = with_payloads(alloc, command)?;
-    let command = with_numbers(alloc, command)?;
+    let bare = program(alloc, "sbigdb", USAGE, ABOUT, STATUS);
+    let Ok(command) = bare.arg(script(alloc)) else {
+        return Err(AllocError);
+    };
+    let Ok(command) = with_payloads(alloc, command) else {
+        return Err(AllocError);
+    };
+    let Ok(command) = with_numbers(alloc, command) else {
+        return Err(AllocError);
+    };
     with_begins(alloc, command)
 }

@@ -1,9 +1,0 @@
-use Rattle.std.proofs.Common.{◌∙◌, refl, ap₂}
-use Rattle.std.proofs.lemmas.Result.{IfOk-weaker}
-use Rattle.clap.specs.Words.{with_rule}
-use Rattle.sbigdb.proofs.help.with_schedules.Goals as goal
-
-pub returns : goal.returns
-returns c =
-    let first = c.in_ok-arg.ensures.shape c.count.ensures.local ∙ ap₂ with_rule refl c.count.ensures.rule in
-    IfOk-weaker c.arg-2.result _ _ (λ r h. h.shape c.option.ensures.local ∙ ap₂ with_rule first c.option.ensures.rule) c.arg-2.ensures
