@@ -15,7 +15,7 @@ use clap::builder::ValueParser;
 use clap::error::ErrorKind;
 use clap::{Arg, ArgAction, ArgMatches, Command, Error};
 use command_line::{
-    flag, option, parse, path_given, payload_paths, program, release, with_payloads,
+    flag, option, parse, path_given, payload_paths, program, release, with_payloads, with_two,
 };
 use script_lang::number;
 use std::alloc::{AllocError, Global};
@@ -229,7 +229,7 @@ fn jobs<'a>(alloc: Global) -> Arg<'a>
 fn with_script<'a>(alloc: Global, command: Command<'a>) -> Result<Command<'a>, AllocError>
     ensures { IfOk result (λ c. (crews : ValueParser) × (app_of c ≡ with_script crews (app_of command.entry))) }
 {
-    command.arg(script(alloc))?.arg(crew(alloc))
+    with_two(command, script(alloc), crew(alloc))
 }
 
 /// The command with the flags of the two benches, and the number of their threads.
@@ -237,11 +237,13 @@ fn with_benches<'a>(alloc: Global, command: Command<'a>) -> Result<Command<'a>, 
     ensures { IfOk result (λ c. app_of c ≡ with_benches (app_of command.entry)) }
 {
     let sweep = "Cuts power at each call of the disk, and judges what is found";
+    let sweep = flag(alloc, SWEEP, sweep);
     let faults = "Fails each call of the disk in turn, and judges what is found";
-    command
-        .arg(flag(alloc, SWEEP, sweep))?
-        .arg(flag(alloc, FAULTS, faults))?
-        .arg(jobs(alloc))
+    let faults = flag(alloc, FAULTS, faults);
+    let Ok(command) = with_two(command, sweep, faults) else {
+        return Err(AllocError);
+    };
+    command.arg(jobs(alloc))
 }
 
 /// The command with the options from which schedules are drawn.
@@ -249,10 +251,14 @@ fn with_schedules<'a>(alloc: Global, command: Command<'a>) -> Result<Command<'a>
     ensures { IfOk result (λ c. app_of c ≡ with_schedules (app_of command.entry)) }
 {
     let schedules = "Runs N schedules of the script, and tells which report otherwise";
-    let seed = "What the schedules are drawn from, 1 if not said";
-    command
-        .arg(count(alloc, SCHEDULES, "N", schedules))?
-        .arg(option(alloc, SEED, "S", seed))
+    let schedules = count(alloc, SCHEDULES, "N", schedules);
+    let seed = option(
+        alloc,
+        SEED,
+        "S",
+        "What the schedules are drawn from, 1 if not said",
+    );
+    with_two(command, schedules, seed)
 }
 
 /// The command with the options that write one of the runs as a script.
@@ -260,11 +266,11 @@ fn with_shown<'a>(alloc: Global, command: Command<'a>) -> Result<Command<'a>, Al
     ensures { IfOk result (λ c. app_of c ≡ with_shown (app_of command.entry)) }
 {
     let show = "Writes schedule K, or run K of --sweep or --faults, as a script";
+    let show = count(alloc, SHOW, "K", show);
     let shrink =
         "Writes an order with fewer rows that reports otherwise in the line in which schedule K does";
-    command
-        .arg(count(alloc, SHOW, "K", show))?
-        .arg(count(alloc, SHRINK, "K", shrink))
+    let shrink = count(alloc, SHRINK, "K", shrink);
+    with_two(command, show, shrink)
 }
 
 /// The command with the options that say which runs of a bench are made and written, and how.
@@ -272,23 +278,35 @@ fn with_manners<'a>(alloc: Global, command: Command<'a>) -> Result<Command<'a>, 
     ensures { IfOk result (λ c. app_of c ≡ with_manners (app_of command.entry)) }
 {
     let part = "Makes part K of N of the runs of --sweep, --faults or --schedules alone";
+    let part = option(alloc, PART, "K/N", part);
     let quiet = "Leaves out the lines of runs of --sweep or --faults that are not wrong";
+    let quiet = flag(alloc, QUIET, quiet);
+    let Ok(command) = with_two(command, part, quiet) else {
+        return Err(AllocError);
+    };
     let tap = "Writes the end of a bench in the Test Anything Protocol";
-    command
-        .arg(option(alloc, PART, "K/N", part))?
-        .arg(flag(alloc, QUIET, quiet))?
-        .arg(flag(alloc, TAP, tap))
+    command.arg(flag(alloc, TAP, tap))
 }
 
 fn command<'a>(alloc: Global) -> Result<Command<'a>, AllocError>
     ensures { IfOk result (λ c. (crews : ValueParser) × (app_of c ≡ sbibench crews)) }
 {
     let bare = program(alloc, "sbibench", USAGE, ABOUT, NUMBERS);
-    let command = with_script(alloc, bare)?;
-    let command = with_benches(alloc, command)?;
-    let command = with_schedules(alloc, command)?;
-    let command = with_shown(alloc, command)?;
-    let command = with_manners(alloc, command)?;
+    let Ok(command) = with_script(alloc, bare) else {
+        return Err(AllocError);
+    };
+    let Ok(command) = with_benches(alloc, command) else {
+        return Err(AllocError);
+    };
+    let Ok(command) = with_schedules(alloc, command) else {
+        return Err(AllocError);
+    };
+    let Ok(command) = with_shown(alloc, command) else {
+        return Err(AllocError);
+    };
+    let Ok(command) = with_manners(alloc, command) else {
+        return Err(AllocError);
+    };
     with_payloads(alloc, command)
 }
 

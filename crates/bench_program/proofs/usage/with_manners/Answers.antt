@@ -1,10 +1,10 @@
-use Rattle.std.proofs.Common.{◌∙◌, refl, ap₂}
+use Rattle.std.proofs.Common.{◌∙◌, ap₂}
 use Rattle.std.proofs.lemmas.Result.{IfOk-weaker}
-use Rattle.clap.specs.Words.{with_rule}
+use Rattle.clap.specs.Words.{app_of, with_rule}
+use Rattle.command_line.specs.Options.{with_rules}
 use Rattle.bench_program.proofs.usage.with_manners.Goals as goal
 
 pub returns : goal.returns
 returns c =
-    let a1 = c.in_ok-arg.ensures.shape c.option.ensures.local ∙ ap₂ with_rule refl c.option.ensures.rule in
-    let a2 = c.in_ok-arg-2.ensures.shape c.flag.ensures.local ∙ ap₂ with_rule a1 c.flag.ensures.rule in
-    IfOk-weaker c.arg-3.result _ _ (λ r h. h.shape c.flag-2.ensures.local ∙ ap₂ with_rule a2 c.flag-2.ensures.rule) c.arg-3.ensures
+    let both = c.in-Ok.ensures ∙ ap₂ (with_rules (app_of c.args.command)) c.option-part.ensures.rule c.flag-quiet.ensures.rule in
+    IfOk-weaker c.arg.result _ _ (λ r h. h.shape c.flag.ensures.local ∙ ap₂ with_rule both c.flag.ensures.rule) c.arg.ensures

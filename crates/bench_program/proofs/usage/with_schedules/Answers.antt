@@ -1,9 +1,8 @@
-use Rattle.std.proofs.Common.{◌∙◌, refl, ap₂}
+use Rattle.std.proofs.Common.{◌∙◌, ap₂}
 use Rattle.std.proofs.lemmas.Result.{IfOk-weaker}
-use Rattle.clap.specs.Words.{with_rule}
+use Rattle.clap.specs.Words.{app_of}
+use Rattle.command_line.specs.Options.{with_rules}
 use Rattle.bench_program.proofs.usage.with_schedules.Goals as goal
 
 pub returns : goal.returns
-returns c =
-    let a1 = c.in_ok-arg.ensures.shape c.count.ensures.local ∙ ap₂ with_rule refl c.count.ensures.rule in
-    IfOk-weaker c.arg-2.result _ _ (λ r h. h.shape c.option.ensures.local ∙ ap₂ with_rule a1 c.option.ensures.rule) c.arg-2.ensures
+returns c = IfOk-weaker c.with_two.result _ _ (λ r h. h ∙ ap₂ (with_rules (app_of c.args.command)) c.count-schedules.ensures.rule c.option-seed.ensures.rule) c.with_two.ensures
