@@ -30,14 +30,16 @@ options_text work = []
 abbrev pub then_framed : List ℕ → List ℕ → List ℕ
 then_framed m text = (m ++ (decimal (length text) ++ codes ":")) ++ text
 
+-- these payloads in the slots
+abbrev pub with_slots : List ℕ → List (List ℕ) → List ℕ
+with_slots m payloads =
+    then_framed
+    (then_framed (then_framed (then_framed m (payload_at payloads 0)) (payload_at payloads 1)) (payload_at payloads 2))
+    (payload_at payloads 3)
+
 -- what each part of one bench is of: those options, these payloads in the slots, and that script
 abbrev pub message : Work → List (List ℕ) → List ℕ → List ℕ
-message work payloads script =
-    then_framed
-    (then_framed
-    (then_framed
-    (then_framed (then_framed (then_framed [] (options_text work)) (payload_at payloads 0)) (payload_at payloads 1))
-    (payload_at payloads 2)) (payload_at payloads 3)) script
+message work payloads script = then_framed (with_slots (then_framed [] (options_text work)) payloads) script
 
 -- the first 8 bytes of its digest, in 16 digits
 abbrev pub digest_text : Work → List (List ℕ) → List ℕ → List ℕ

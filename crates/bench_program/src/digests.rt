@@ -3,7 +3,7 @@
 ghost use Rattle.std.specs.Prelude.{◌≡◌, ◌<◌, ℕ, List, IfOk, OnOk, string_bytes};
 ghost use Rattle.std.specs.Option.{option_map};
 ghost use Rattle.board.specs.Boots.{payload_at};
-ghost use Rattle.bench_program.specs.Digests.{bench_text, digest_text, is_part, message, options_text, part_tag, schedules_text, then_framed, with_tag};
+ghost use Rattle.bench_program.specs.Digests.{bench_text, digest_text, is_part, message, options_text, part_tag, schedules_text, then_framed, with_slots, with_tag};
 
 use crate::usage::Work;
 use bench_sweep::{BenchKind, SweepPlan};
@@ -67,6 +67,14 @@ fn feed<D: Digest>(alloc: Global, hasher: &mut D, text: &[u8]) -> Result<(), All
     Ok(())
 }
 
+/// Hashes the options of a work.
+fn feed_options<D: Digest>(alloc: Global, hasher: &mut D, work: Work) -> Result<(), AllocError>
+    ensures { OnOk result ((m : List ℕ) → D.holds hasher.old m → D.holds hasher.new (then_framed m (options_text work))) }
+{
+    let options = options_text(alloc, work)?;
+    feed(alloc, hasher, options.as_bytes())
+}
+
 /// Hashes what a slot boots.
 fn feed_slot<D: Digest>(
     alloc: Global,
@@ -81,6 +89,20 @@ fn feed_slot<D: Digest>(
     feed(alloc, hasher, payloads.get(slot))
 }
 
+/// Hashes what the four slots boot.
+fn feed_slots<D: Digest>(
+    alloc: Global,
+    hasher: &mut D,
+    payloads: &Payloads,
+) -> Result<(), AllocError>
+    ensures { OnOk result ((m : List ℕ) → D.holds hasher.old m → D.holds hasher.new (with_slots m payloads.now)) }
+{
+    feed_slot(alloc, hasher, payloads, 0)?;
+    feed_slot(alloc, hasher, payloads, 1)?;
+    feed_slot(alloc, hasher, payloads, 2)?;
+    feed_slot(alloc, hasher, payloads, 3)
+}
+
 /// The digest of what each part of one bench is of: the options, the payloads and the script.
 fn digest<D: Digest>(
     alloc: Global,
@@ -91,12 +113,8 @@ fn digest<D: Digest>(
     ensures { IfOk result (D.digest_of (message work payloads.now script.now)) }
 {
     let mut hasher = D::new();
-    let options = options_text(alloc, work)?;
-    feed(alloc, &mut hasher, options.as_bytes())?;
-    feed_slot(alloc, &mut hasher, payloads, 0)?;
-    feed_slot(alloc, &mut hasher, payloads, 1)?;
-    feed_slot(alloc, &mut hasher, payloads, 2)?;
-    feed_slot(alloc, &mut hasher, payloads, 3)?;
+    feed_options(alloc, &mut hasher, work)?;
+    feed_slots(alloc, &mut hasher, payloads)?;
     feed(alloc, &mut hasher, script)?;
     Ok(hasher.finalize())
 }
