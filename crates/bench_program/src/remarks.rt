@@ -31,6 +31,11 @@ fn number_of(alloc: Global, script: &[u8], place: usize) -> u64 {
     }
 }
 
+/// Tells a line. That nobody reads it changes nothing.
+fn tell_line<F: Write>(faults: &mut F, text: &str) {
+    let _told = writeln!(faults, "sbibench: {text}");
+}
+
 /// Tells why no bench runs a script without a fault: it is refused 17.
 fn tell_no_bench<F: Write>(
     alloc: Global,
@@ -40,9 +45,9 @@ fn tell_no_bench<F: Write>(
     faults: &mut F,
 ) {
     if let Work::Compare(_) = work {
-        let _told = writeln!(
+        tell_line(
             faults,
-            "sbibench: no stretch of `turn` lines is of two harts, so there is one order alone"
+            "no stretch of `turn` lines is of two harts, so there is one order alone",
         );
         return;
     }
@@ -53,7 +58,7 @@ fn tell_no_bench<F: Write>(
             "sbibench: line {number}: a bench runs no script that cuts power, arms a fault or pokes"
         );
     } else {
-        let _told = writeln!(faults, "sbibench: no line formats the disk");
+        tell_line(faults, "no line formats the disk");
     }
 }
 
@@ -61,13 +66,10 @@ fn tell_no_bench<F: Write>(
 fn tell_cause<F: Write>(alloc: Global, work: Work, refusal: Refusal, bytes: &[u8], faults: &mut F) {
     match (refusal, parse_script(alloc, bytes)) {
         (Refusal::BadShape, Ok(_)) => {
-            let _told = writeln!(faults, "sbibench: there is none of that number to show");
+            tell_line(faults, "there is none of that number to show");
         }
         (Refusal::BadShape, Err(_)) => {
-            let _told = writeln!(
-                faults,
-                "sbibench: a number of the board line is out of its range"
-            );
+            tell_line(faults, "a number of the board line is out of its range");
         }
         (Refusal::NotPlain, Ok(script)) => tell_no_bench(alloc, work, &script, bytes, faults),
         _ => {}
@@ -97,6 +99,41 @@ fn is_specified(work: Work, refusal: Refusal) -> bool {
     matches!(work, Work::Judge(_)) && refusal == Refusal::NotPlain
 }
 
+/// Tells a refusal of a work, with its cause, and on a terminal what its number means.
+fn tell_refusal<F: Write + IsTerminal>(
+    alloc: Global,
+    work: Work,
+    script: &[u8],
+    refusal: Refusal,
+    faults: &mut F,
+) {
+    let fault = BenchFault::Refused(refusal);
+    let _told = write!(faults, "{fault}");
+    let on_terminal = faults.is_terminal();
+    if on_terminal || !is_specified(work, refusal) {
+        tell_cause(alloc, work, refusal, script, faults);
+    }
+    if is_explained(work, refusal) && on_terminal {
+        explain_fault(faults, "sbibench", &FileFault::refused(refusal));
+    }
+}
+
+/// Tells that a bench made no run, or that none of its runs could show a difference.
+fn tell_nothing<F: Write>(
+    alloc: Global,
+    work: Work,
+    script: &[u8],
+    is_tried: bool,
+    faults: &mut F,
+) {
+    if is_bench(work) && !is_tried {
+        tell_line(faults, "nothing was tried");
+    }
+    if shows_nothing(alloc, work, script) {
+        tell_line(faults, "nothing is shown");
+    }
+}
+
 /// Tells how a work ended: a refusal, with its cause, and on a terminal what its number means; or that a bench made no run, or that none
 /// of its runs could show a difference. Another fault is told elsewhere.
 pub fn tell_work<F: Write + IsTerminal>(
@@ -109,24 +146,9 @@ pub fn tell_work<F: Write + IsTerminal>(
 ) {
     match done {
         Err(BenchFault::Refused(refusal)) => {
-            let fault = BenchFault::Refused(*refusal);
-            let _told = write!(faults, "{fault}");
-            let on_terminal = faults.is_terminal();
-            if on_terminal || !is_specified(work, *refusal) {
-                tell_cause(alloc, work, *refusal, script, faults);
-            }
-            if is_explained(work, *refusal) && on_terminal {
-                explain_fault(faults, "sbibench", &FileFault::refused(*refusal));
-            }
+            tell_refusal(alloc, work, script, *refusal, faults);
         }
-        Ok(()) | Err(BenchFault::Wrong) => {
-            if is_bench(work) && !is_tried {
-                let _told = writeln!(faults, "sbibench: nothing was tried");
-            }
-            if shows_nothing(alloc, work, script) {
-                let _told = writeln!(faults, "sbibench: nothing is shown");
-            }
-        }
+        Ok(()) | Err(BenchFault::Wrong) => tell_nothing(alloc, work, script, is_tried, faults),
         Err(_) => {}
     }
 }
