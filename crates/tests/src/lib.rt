@@ -22,8 +22,6 @@ mod crowd;
 #[cfg(test)]
 mod decoder;
 #[cfg(test)]
-mod disk_stories;
-#[cfg(test)]
 mod dozing;
 #[cfg(test)]
 mod driven;
