@@ -1,9 +1,8 @@
-//! Tests of the program `sbicheck`: small kernels, as bytes, and all that is told of them; and words that are no command line.
+//! Tests of the program `sbicheck`: words that are no command line, bytes that are no kernel, and what several threads tell. The kernels of
+//! each verdict are checked by `examples`.
 #![tactic(auto)]
 
 #[cfg(test)]
 mod faulty;
 #[cfg(test)]
 mod threads;
-#[cfg(test)]
-mod verdicts;

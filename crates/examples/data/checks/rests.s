@@ -1,0 +1,2 @@
+# It stands at its first instruction, and writes nothing.
+        j       .
