@@ -9,7 +9,7 @@ ghost use Rattle.kernel_check.specs.Says.{Says, SaysAs};
 
 use crate::facts::{OwnOrder, Stop, Verdict};
 use crate::faults::CheckFault;
-use crate::given::{CheckOptions, LookWord};
+use crate::given::{CheckOptions, FailureKind, LookWord};
 use crate::help::{MOST_JOBS, MOST_PREEMPTIONS};
 use crate::judged::{Judged, judge};
 use crate::kernel::{Kernel, kernel_of};
@@ -196,6 +196,11 @@ fn is_given_up(verdict: Verdict) -> bool {
     )
 }
 
+/// What was told so far is written.
+fn flush<W: Write>(out: &mut W) -> Result<(), Refusal> {
+    out.flush().map_err(|error| unwritten(error))
+}
+
 /// Follows a kernel's orders of a bound, and tells of the search, unless a script is asked for.
 fn followed<R: Threads + Sync, W: Write>(
     rt: &R,
@@ -213,7 +218,7 @@ fn followed<R: Threads + Sync, W: Write>(
     let judged = judged(rt, task, own, bound)?;
     if task.options.tells_all() {
         tell_search(task.alloc, out, task.options, &judged.search)?;
-        out.flush().map_err(|error| unwritten(error))?;
+        flush(out)?;
     }
     Ok(judged)
 }
@@ -282,17 +287,16 @@ fn tell_begin<W: Write>(task: Task<'_>, own: &OwnOrder, out: &mut W) -> Result<(
         task.shape,
     )?;
     tell_own(task.alloc, out, task.options, own, task.looks)?;
-    out.flush().map_err(|error| unwritten(error))?;
-    Ok(())
+    Ok(flush(out)?)
 }
 
-/// Tells what was found of a kernel, or the script of a failure where one is asked for.
-fn tell_end<W: Write>(task: Task<'_>, judged: &Judged, out: &mut W) -> Result<(), CheckFault> {
-    let Some(kind) = task.options.show else {
-        tell_judged(task.alloc, out, task.options, task.looks, judged)?;
-        out.flush().map_err(|error| unwritten(error))?;
-        return Ok(());
-    };
+/// Tells the script of a failure of that kind.
+fn tell_shown<W: Write>(
+    task: Task<'_>,
+    judged: &Judged,
+    kind: FailureKind,
+    out: &mut W,
+) -> Result<(), CheckFault> {
     let is_told = tell_script(
         task.alloc,
         out,
@@ -303,11 +307,20 @@ fn tell_end<W: Write>(task: Task<'_>, judged: &Judged, out: &mut W) -> Result<()
         judged,
         kind,
     )?;
-    if !is_told {
-        return Err(CheckFault::NotFound(kind));
+    if is_told {
+        Ok(())
+    } else {
+        Err(CheckFault::NotFound(kind))
     }
-    out.flush().map_err(|error| unwritten(error))?;
-    Ok(())
+}
+
+/// Tells what was found of a kernel, or the script of a failure where one is asked for.
+fn tell_end<W: Write>(task: Task<'_>, judged: &Judged, out: &mut W) -> Result<(), CheckFault> {
+    match task.options.show {
+        None => tell_judged(task.alloc, out, task.options, task.looks, judged)?,
+        Some(kind) => tell_shown(task, judged, kind, out)?,
+    }
+    Ok(flush(out)?)
 }
 
 /// Checks a kernel, and writes what is told of it.

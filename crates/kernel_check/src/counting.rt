@@ -6,6 +6,7 @@ use crate::places::data_text;
 use crate::walks::Setting;
 use board_model::{RAM_BASE, Refusal};
 use board_space::Explored;
+use hart::Hart;
 use model_board::{Board, Status, TouchMap};
 use rv_decode::Reg;
 use std::alloc::{AllocError, Global};
@@ -51,22 +52,39 @@ fn word_at(ram: &[u8], number: u64) -> u64 {
     value
 }
 
-/// The values of the words that some hart writes, and those of the registers of each hart.
-fn values_of(alloc: Global, map: &TouchMap, board: &Board) -> Result<Vec<u64>, AllocError> {
-    let mut values = Vec::new(alloc);
+/// Adds the values of the words that some hart writes.
+fn add_words(values: &mut Vec<u64>, map: &TouchMap, board: &Board) -> Result<(), AllocError> {
     for word in 0..map.words() {
         if map.writers(word) != 0 {
             values.push(word_at(board.machine().ram().bytes(), word))?;
         }
     }
+    Ok(())
+}
+
+/// Adds the values of the registers of a hart.
+fn add_registers(values: &mut Vec<u64>, hart: &Hart) -> Result<(), AllocError> {
+    for register in 1..32u8 {
+        values.push(hart.reg(Reg::new(register)))?;
+    }
+    Ok(())
+}
+
+/// Adds those of each hart.
+fn add_harts(values: &mut Vec<u64>, board: &Board) -> Result<(), AllocError> {
     for number in 0..8u64 {
         if let Some(hart) = board.machine().shape().hart(number) {
-            for register in 1..32u8 {
-                let value = board.machine().hart(hart).reg(Reg::new(register));
-                values.push(value)?;
-            }
+            add_registers(values, board.machine().hart(hart))?;
         }
     }
+    Ok(())
+}
+
+/// The values of the words that some hart writes, and those of the registers of each hart.
+fn values_of(alloc: Global, map: &TouchMap, board: &Board) -> Result<Vec<u64>, AllocError> {
+    let mut values = Vec::new(alloc);
+    add_words(&mut values, map, board)?;
+    add_harts(&mut values, board)?;
     Ok(values)
 }
 
@@ -101,6 +119,62 @@ fn step(explored: &Explored, board: &mut Board, event: u8)
     }
 }
 
+/// The name of a word, or its address where it has none.
+fn word_name(setting: Setting<'_>, word: u64) -> Result<String, AllocError> {
+    let address = RAM_BASE.saturating_add(word.saturating_mul(8));
+    match data_text(setting.alloc, setting.elf, address)? {
+        Some(name) => Ok(name),
+        None => format!(in setting.alloc; "{address:#x}"),
+    }
+}
+
+/// The name of a register of which that number are before it, 31 of each hart.
+fn register_name(alloc: Global, number: usize) -> Result<String, AllocError> {
+    let hart = number / 31;
+    let register = REGISTERS[number % 31];
+    format!(in alloc; "{register} of hart {hart}")
+}
+
+/// Whether what stands at that place was greater each time, and there is room for its name.
+fn is_named(names: &[String], greater: &[bool], place: usize) -> bool {
+    greater.get(place).copied().unwrap_or(false) && names.len() < MOST_NAMES
+}
+
+/// Adds the names of words that were greater each time. How many words there are.
+fn add_word_names(
+    setting: Setting<'_>,
+    map: &TouchMap,
+    greater: &[bool],
+    names: &mut Vec<String>,
+) -> Result<usize, AllocError> {
+    let mut place = 0usize;
+    for word in 0..map.words() {
+        if map.writers(word) == 0 {
+            continue;
+        }
+        if is_named(names.as_slice(), greater, place) {
+            names.push(word_name(setting, word)?)?;
+        }
+        place = place.saturating_add(1);
+    }
+    Ok(place)
+}
+
+/// Adds those of registers, of which the first one stands after so many words.
+fn add_register_names(
+    alloc: Global,
+    greater: &[bool],
+    words: usize,
+    names: &mut Vec<String>,
+) -> Result<(), AllocError> {
+    for place in words..greater.len() {
+        if is_named(names.as_slice(), greater, place) {
+            names.push(register_name(alloc, place - words)?)?;
+        }
+    }
+    Ok(())
+}
+
 /// The names of what was greater each time.
 fn names_of(
     setting: Setting<'_>,
@@ -108,28 +182,8 @@ fn names_of(
     greater: &[bool],
 ) -> Result<Vec<String>, AllocError> {
     let mut names = Vec::new(setting.alloc);
-    let mut place = 0usize;
-    for word in 0..map.words() {
-        if map.writers(word) == 0 {
-            continue;
-        }
-        if greater.get(place).copied().unwrap_or(false) && names.len() < MOST_NAMES {
-            let address = RAM_BASE.saturating_add(word.saturating_mul(8));
-            let name = data_text(setting.alloc, setting.elf, address)?;
-            names.push(match name {
-                Some(name) => name,
-                None => format!(in setting.alloc; "{address:#x}")?,
-            })?;
-        }
-        place = place.saturating_add(1);
-    }
-    for number in place..greater.len() {
-        if greater.get(number).copied().unwrap_or(false) && names.len() < MOST_NAMES {
-            let hart = (number - place) / 31;
-            let register = REGISTERS[(number - place) % 31];
-            names.push(format!(in setting.alloc; "{register} of hart {hart}")?)?;
-        }
-    }
+    let words = add_word_names(setting, map, greater, &mut names)?;
+    add_register_names(setting.alloc, greater, words, &mut names)?;
     Ok(names)
 }
 
@@ -164,21 +218,30 @@ fn look_along(
     Ok(())
 }
 
+/// What is read of the boards on a way.
+fn readings_along(
+    alloc: Global,
+    explored: &Explored,
+    board: &mut Board,
+    way: &[u8],
+) -> Result<Readings, AllocError>
+    requires { board.old.size ≡ explored.now.asked.size }
+{
+    let mut readings = Readings::none(alloc);
+    look_along(alloc, explored, board, way, &mut readings)?;
+    Ok(readings)
+}
+
 /// What is read of the boards on the way to the last one that was found.
 fn readings_of(setting: Setting<'_>, explored: &Explored) -> Result<Readings, Refusal> {
-    let mut readings = Readings::none(setting.alloc);
     let way = last_way(setting, explored)?;
     let Ok(mut board) = explored.first_board() else {
         return Err(Refusal::Memory);
     };
-    look_along(
-        setting.alloc,
-        explored,
-        &mut board,
-        way.as_slice(),
-        &mut readings,
-    )?;
-    Ok(readings)
+    match readings_along(setting.alloc, explored, &mut board, way.as_slice()) {
+        Ok(readings) => Ok(readings),
+        Err(_) => Err(Refusal::Memory),
+    }
 }
 
 /// What counts on: words of memory and registers that are greater each time that the way to the last board is looked at.

@@ -79,6 +79,20 @@ fn hex_value(alloc: Global, number: u64) -> Result<Value, AllocError> {
     Ok(Value::from(format!(in alloc; "{number:#x}")?))
 }
 
+/// With the numbers of a board.
+fn with_board(line: Object, shape: &Shape) -> Object {
+    line.with("harts", shape.harts())
+        .with("pages", shape.pages())
+        .with("lanes", shape.lanes())
+}
+
+/// With what is done of each order.
+fn with_asked(line: Object, asked: Asked) -> Object {
+    line.with("reason", asked.reason.number())
+        .with("cuts", asked.cuts)
+        .with("refusals", asked.refusals)
+}
+
 /// What is checked: the line "kernel".
 pub fn kernel_value(
     alloc: Global,
@@ -87,16 +101,10 @@ pub fn kernel_value(
     shape: &Shape,
     asked: Asked,
 ) -> Result<Value, AllocError> {
-    line(alloc, "kernel")
+    let line = line(alloc, "kernel")
         .with("name", name)
-        .with("bytes", bytes)
-        .with("harts", shape.harts())
-        .with("pages", shape.pages())
-        .with("lanes", shape.lanes())
-        .with("reason", asked.reason.number())
-        .with("cuts", asked.cuts)
-        .with("refusals", asked.refusals)
-        .value()
+        .with("bytes", bytes);
+    with_asked(with_board(line, shape), asked).value()
 }
 
 /// A look by its name, and what it shows.
@@ -220,6 +228,12 @@ fn lives_value(bound: Bound) -> Value {
     }
 }
 
+/// With how the orders were bounded.
+fn with_bound(line: Object, bound: Bound) -> Object {
+    line.with("preemptions", preemptions_value(bound))
+        .with("lives", lives_value(bound))
+}
+
 /// A word that harts share.
 fn word_value(alloc: Global, word: &SharedWord) -> Result<Value, AllocError> {
     Object::new(alloc)
@@ -246,18 +260,24 @@ fn names_value(alloc: Global, names: &[String]) -> Result<Value, AllocError> {
     Ok(Value::Array(values))
 }
 
-/// How far a search went: a line "search".
-pub fn search_value(alloc: Global, search: &SearchFacts) -> Result<Value, AllocError> {
-    line(alloc, "search")
-        .with("preemptions", preemptions_value(search.bound))
-        .with("lives", lives_value(search.bound))
-        .with("boards", search.boards)
-        .with_made("stopped", stop_value(alloc, search.stop))
-        .with_made("counting", names_value(alloc, search.counting.as_slice()))
+/// With what counts on where a search was given up, and with the words that harts share.
+fn with_words(alloc: Global, line: Object, search: &SearchFacts) -> Object {
+    line.with_made("counting", names_value(alloc, search.counting.as_slice()))
         .with_made("shared", shared_value(alloc, search.shared.as_slice()))
+}
+
+/// With how many boards a search came to, and how many of them are images and ends.
+fn with_counts(line: Object, search: &SearchFacts) -> Object {
+    line.with("boards", search.boards)
         .with("images", search.images)
         .with("ends", search.ends)
-        .value()
+}
+
+/// How far a search went: a line "search".
+pub fn search_value(alloc: Global, search: &SearchFacts) -> Result<Value, AllocError> {
+    let line = line(alloc, "search").with_made("stopped", stop_value(alloc, search.stop));
+    let line = with_counts(with_bound(line, search.bound), search);
+    with_words(alloc, line, search).value()
 }
 
 /// Ends that show the same: a line "end".
@@ -383,10 +403,8 @@ pub fn verdict_value(alloc: Global, verdict: Verdict, bound: Bound) -> Result<Va
         Verdict::Found => "found",
         Verdict::Open(_) | Verdict::Blank => "open",
     };
-    line(alloc, "verdict")
-        .with("verdict", word)
-        .with("preemptions", preemptions_value(bound))
-        .with("lives", lives_value(bound))
+    let line = with_bound(line(alloc, "verdict"), bound);
+    line.with("verdict", word)
         .with("status", verdict.status())
         .value()
 }

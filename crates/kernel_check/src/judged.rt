@@ -7,139 +7,20 @@ ghost use Rattle.kernel_check.specs.Failures.{CanFail};
 ghost use Rattle.kernel_check.specs.Says.{SaysAs};
 ghost use Rattle.kernel_check.specs.Verdicts.{verdict_of};
 
-use crate::comes::{comes, shows_same};
+use crate::comes::comes;
 use crate::counting::counting;
-use crate::expected::is_as_expected;
-use crate::facts::{
-    EndKind, EndShown, Failure, OwnEnd, OwnOrder, SearchFacts, SharedWord, Stop, Verdict,
-};
+use crate::ends::{Ends, differing, ends_of, first_difference};
+use crate::facts::{EndKind, EndShown, Failure, OwnOrder, SearchFacts, SharedWord, Stop, Verdict};
 use crate::given::FailureKind;
 use crate::looks::Look;
-use crate::own::end_shown;
 use crate::places::data_text;
-use crate::standing::{is_any_trapped, is_waited_for_ever, stays_trapped};
+use crate::standing::stays_trapped;
 use crate::told::holds;
 use crate::walks::{Setting, walk_to};
-use board_model::{RAM_BASE, Reason, Refusal};
+use board_model::{RAM_BASE, Refusal};
 use board_space::{Bound, Explored};
-use model_board::{Board, Power, Rest, Status};
-use std::alloc::{AllocError, Global};
-
-/// The ends of a search: those that show something, by what they show, and those that are failures by themselves.
-#[derive(Drop)]
-struct Ends {
-    kinds: Vec<EndKind>,
-    traps: usize,
-    fails: Found,
-    waits: Found,
-    count: usize,
-}
-
-/// How many there are of a kind, and the first one.
-#[derive(Clone, Copy, Drop)]
-struct Found {
-    count: usize,
-    first: Option<usize>,
-}
-
-impl Found {
-    /// None.
-    fn none() -> Found {
-        Found {
-            count: 0,
-            first: None,
-        }
-    }
-
-    /// Counts one more.
-    fn add(&mut self, row: usize) {
-        self.count = self.count.saturating_add(1);
-        if self.first.is_none() {
-            self.first = Some(row);
-        }
-    }
-}
-
-/// Counts an end that shows this.
-fn add_kind(
-    kinds: &mut Vec<EndKind>,
-    looks: &[Look],
-    own: &OwnOrder,
-    shown: EndShown,
-    row: usize,
-) -> Result<(), AllocError> {
-    for kind in kinds.iter_mut() {
-        if shows_same(&kind.shown, &shown) {
-            kind.count = kind.count.saturating_add(1);
-            return Ok(());
-        }
-    }
-    let is_expected = is_as_expected(looks, &shown);
-    let is_own = match &own.end {
-        OwnEnd::Ends(other) => shows_same(&shown, other),
-        OwnEnd::Runs(_) => false,
-    };
-    kinds.push(EndKind {
-        shown,
-        count: 1,
-        row,
-        is_expected,
-        is_own,
-    })?;
-    Ok(())
-}
-
-/// Counts an end.
-fn add_end(
-    setting: Setting<'_>,
-    ends: &mut Ends,
-    looks: &[Look],
-    own: &OwnOrder,
-    board: &Board,
-    row: usize,
-) -> Result<(), AllocError> {
-    if is_any_trapped(board) {
-        ends.traps = ends.traps.saturating_add(1);
-        return Ok(());
-    }
-    if is_waited_for_ever(board) {
-        ends.waits.add(row);
-        return Ok(());
-    }
-    let shown = end_shown(setting.alloc, looks, board)?;
-    if let EndShown::Shutdown(Reason::SystemFailure) = shown {
-        ends.fails.add(row);
-        return Ok(());
-    }
-    add_kind(&mut ends.kinds, looks, own, shown, row)
-}
-
-/// The ends of a search.
-fn ends_of(
-    setting: Setting<'_>,
-    explored: &mut Explored,
-    own: &OwnOrder,
-    looks: &[Look],
-) -> Result<Ends, Refusal>
-    ensures { explored.new ≡ explored.old }
-{
-    let Ok(rows) = explored.ends() else {
-        return Err(Refusal::Memory);
-    };
-    let mut ends = Ends {
-        kinds: Vec::new(setting.alloc),
-        traps: 0,
-        fails: Found::none(),
-        waits: Found::none(),
-        count: rows.len(),
-    };
-    for row in rows.iter() {
-        if explored.show(*row) {
-            add_end(setting, &mut ends, looks, own, explored.current(), *row)?;
-        }
-    }
-    Ok(ends)
-}
+use model_board::{Power, Rest, Status};
+use std::alloc::AllocError;
 
 /// What all boards of a search tell.
 #[derive(Clone, Copy, Drop)]
@@ -183,33 +64,6 @@ fn scan(setting: Setting<'_>, explored: &Explored) -> Scanned {
         }
     }
     scan
-}
-
-/// The first end that differs: from what is expected, else from what the kernel's own order shows.
-fn first_difference(kinds: &[EndKind]) -> Option<usize> {
-    if let Some(kind) = kinds.iter().find(|kind| !kind.is_expected) {
-        return Some(kind.row);
-    }
-    if kinds.len() < 2 {
-        return None;
-    }
-    match kinds.iter().find(|kind| !kind.is_own) {
-        Some(kind) => Some(kind.row),
-        None => None,
-    }
-}
-
-/// How many ends differ so: those that show what is not expected, else those that show other things than the kernel's own order.
-fn differing(kinds: &[EndKind]) -> usize {
-    let any = kinds.iter().any(|kind| !kind.is_expected);
-    let mut count = 0usize;
-    for kind in kinds {
-        let differs = if any { !kind.is_expected } else { !kind.is_own };
-        if differs {
-            count = count.saturating_add(kind.count);
-        }
-    }
-    count
 }
 
 /// The first row of two, where there is one.
@@ -259,12 +113,15 @@ pub struct Judged {
     pub verdict: Verdict,
 }
 
+/// A kind of failures, how many ends show it, and the row of the board that shows it first.
+type Place = (FailureKind, usize, Option<usize>);
+
 /// The places of failures, in the order in which they are told.
 fn failing_rows(
     explored: &Explored,
     ends: &Ends,
     first_trap: Option<usize>,
-) -> Result<[(FailureKind, usize, Option<usize>); 4], Refusal> {
+) -> Result<[Place; 4], Refusal> {
     let Ok(dead) = explored.first_dead() else {
         return Err(Refusal::Memory);
     };
@@ -368,27 +225,46 @@ fn failure_at(
     }))
 }
 
+/// Adds the failure at that place, where there is one.
+fn add_failure(
+    setting: Setting<'_>,
+    explored: &mut Explored,
+    looks: &[Look],
+    kinds: &[EndKind],
+    place: &Place,
+    failures: &mut Vec<Failure>,
+) -> Result<(), Refusal>
+    requires within { AreIn (ram_bytes_of explored.old.asked.size) looks.now }
+    requires before { All (λ f. CanFail f.kind explored.old.asked looks.now) failures.old.items }
+    ensures come { IfOk result (λ _. All (λ f. CanFail f.kind explored.old.asked looks.now) failures.new.items) }
+    ensures same { explored.new ≡ explored.old }
+{
+    let &(kind, count, row) = place;
+    let Some(row) = row else {
+        return Ok(());
+    };
+    let place = (kind, count, row);
+    match failure_at(setting, explored, looks, kinds, place)? {
+        Some(failure) => Ok(failures.push(failure)?),
+        None => Ok(()),
+    }
+}
+
 /// The failures at those places.
 fn failures_of(
     setting: Setting<'_>,
     explored: &mut Explored,
     looks: &[Look],
     kinds: &[EndKind],
-    places: [(FailureKind, usize, Option<usize>); 4],
+    places: &[Place],
 ) -> Result<Vec<Failure>, Refusal>
     requires { AreIn (ram_bytes_of explored.old.asked.size) looks.now }
     ensures come { IfOk result (λ failures. All (λ f. CanFail f.kind explored.old.asked looks.now) failures.items) }
     ensures same { explored.new ≡ explored.old }
 {
     let mut failures = Vec::new(setting.alloc);
-    for (kind, count, row) in places {
-        let Some(row) = row else {
-            continue;
-        };
-        let place = (kind, count, row);
-        if let Some(failure) = failure_at(setting, explored, looks, kinds, place)? {
-            failures.push(failure)?;
-        }
+    for place in places {
+        add_failure(setting, explored, looks, kinds, place, &mut failures)?;
     }
     Ok(failures)
 }
@@ -416,8 +292,45 @@ fn search_facts(
     })
 }
 
-/// Judges a kernel by a search.
+/// What a search found, and the verdict.
+#[derive(Drop)]
+struct Findings {
+    search: SearchFacts,
+    failures: Vec<Failure>,
+    verdict: Verdict,
+}
+
+/// What a search found whose ends these are, and the verdict.
 #[tactic(auto, using(crate::proofs::Telling::verdict_says))]
+fn findings_of(
+    setting: Setting<'_>,
+    explored: &mut Explored,
+    looks: &[Look],
+    ends: &Ends,
+) -> Result<Findings, Refusal>
+    requires { AreIn (ram_bytes_of explored.old.asked.size) looks.now }
+    ensures says { IfOk result (λ found. SaysAs found.verdict explored.old.asked looks.now ends.now.kinds.items) }
+    ensures come { IfOk result (λ found. All (λ f. CanFail f.kind explored.old.asked looks.now) found.failures.items) }
+    ensures clear { IfOk result (λ found. found.verdict ≡ Verdict.Holds → found.failures.items ≡ []) }
+    ensures closed { IfOk result (λ found. found.verdict ≡ Verdict.Holds → found.search.stop ≡ None) }
+{
+    let kinds = ends.kinds.as_slice();
+    let told = holds(setting.alloc, explored, looks, kinds)?;
+    let shows = shows_all(explored, kinds, looks);
+    let bound = explored.bound();
+    let scan = scan(setting, explored);
+    let rows = failing_rows(explored, ends, scan.first_trap)?;
+    let search = search_facts(setting, explored, scan.images, ends.count)?;
+    let failures = failures_of(setting, explored, looks, kinds, &rows)?;
+    let verdict = verdict_of(failures.len(), search.stop, shows, told, bound);
+    Ok(Findings {
+        search,
+        failures,
+        verdict,
+    })
+}
+
+/// Judges a kernel by a search.
 pub fn judge(
     setting: Setting<'_>,
     explored: &mut Explored,
@@ -434,22 +347,11 @@ pub fn judge(
     ensures closed { IfOk result (λ judged. judged.verdict ≡ Verdict.Holds → judged.search.stop ≡ None) }
 {
     let ends = ends_of(setting, explored, own, looks)?;
-    let scan = scan(setting, explored);
-    let rows = failing_rows(explored, &ends, scan.first_trap)?;
-    let failures = failures_of(setting, explored, looks, ends.kinds.as_slice(), rows)?;
-    let bound = explored.bound();
-    let search = search_facts(setting, explored, scan.images, ends.count)?;
-    let verdict = verdict_of(
-        failures.len(),
-        search.stop,
-        shows_all(explored, ends.kinds.as_slice(), looks),
-        holds(setting.alloc, explored, looks, ends.kinds.as_slice())?,
-        bound,
-    );
+    let found = findings_of(setting, explored, looks, &ends)?;
     Ok(Judged {
-        search,
+        search: found.search,
         kinds: ends.kinds,
-        failures,
-        verdict,
+        failures: found.failures,
+        verdict: found.verdict,
     })
 }

@@ -5,6 +5,7 @@
 mod checks;
 mod comes;
 mod counting;
+mod ends;
 mod expected;
 mod facts;
 mod faults;

@@ -19,6 +19,12 @@ pub const MOST_PAYLOAD: usize = 1024;
 /// The extension of a reset (SBI specification 2.0, chapter 10).
 const SRST: u64 = 0x5352_5354;
 
+/// Adds a line.
+fn add(lines: &mut Vec<Line>, line: Line) -> Result<(), AllocError> {
+    lines.push(line)?;
+    Ok(())
+}
+
 /// Lines of the turns of a hart.
 fn add_turns(lines: &mut Vec<Line>, hart: HartId, turns: u64) -> Result<(), AllocError> {
     for _line in 0..turns / MOST_TURNS {
@@ -41,32 +47,36 @@ fn failing_call(call: StoreCall, down: bool) -> u32 {
     }
 }
 
+/// Lines of a turn of a hart, in which that call of the disk fails.
+fn add_refused(lines: &mut Vec<Line>, hart: HartId, call: u32) -> Result<(), AllocError> {
+    add(lines, Line::Arm(Arming::FailAt(call)))?;
+    add(lines, Line::Turn(hart, 1))
+}
+
+/// How a board is powered on.
+fn mode_of(resumes: bool) -> BootMode {
+    if resumes {
+        BootMode::Resume
+    } else {
+        BootMode::Fresh
+    }
+}
+
 /// Lines of a step.
 fn add_step(lines: &mut Vec<Line>, shape: &Shape, step: &OrderStep) -> Result<(), AllocError> {
     match step {
-        OrderStep::PowerOn(resumes) => {
-            let mode = if *resumes {
-                BootMode::Resume
-            } else {
-                BootMode::Fresh
-            };
-            lines.push(Line::On(mode))?;
-        }
-        OrderStep::Turns(hart, turns, _) => {
-            if let Some(hart) = shape.hart(u64::from(*hart)) {
-                add_turns(lines, hart, *turns)?;
-            }
-        }
-        OrderStep::Refused(hart, call, down) => {
-            if let Some(hart) = shape.hart(u64::from(*hart)) {
-                lines.push(Line::Arm(Arming::FailAt(failing_call(*call, *down))))?;
-                lines.push(Line::Turn(hart, 1))?;
-            }
-        }
-        OrderStep::Wake => lines.push(Line::Wake)?,
-        OrderStep::Cut => lines.push(Line::Cut(Fill::Old))?,
+        OrderStep::PowerOn(resumes) => add(lines, Line::On(mode_of(*resumes))),
+        OrderStep::Turns(hart, turns, _) => match shape.hart(u64::from(*hart)) {
+            Some(hart) => add_turns(lines, hart, *turns),
+            None => Ok(()),
+        },
+        OrderStep::Refused(hart, call, down) => match shape.hart(u64::from(*hart)) {
+            Some(hart) => add_refused(lines, hart, failing_call(*call, *down)),
+            None => Ok(()),
+        },
+        OrderStep::Wake => add(lines, Line::Wake),
+        OrderStep::Cut => add(lines, Line::Cut(Fill::Old)),
     }
-    Ok(())
 }
 
 /// A line that looks at `bytes` bytes, from `start` bytes past the begin of RAM on.

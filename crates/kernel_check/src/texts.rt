@@ -115,21 +115,30 @@ pub fn write_kernel<W: Write>(
     writeln!(out, "{name}: {bytes} at 0x80000000, {harts}, {pages}")
 }
 
+/// Writes a number of things after a comma, unless there are none.
+fn write_some<W: Write>(out: &mut W, number: u64, noun: &'static str) -> io::Result<()> {
+    if number == 0 {
+        return Ok(());
+    }
+    let things = Count(number, noun);
+    write!(out, ", {things}")
+}
+
+/// Writes how long the kernel's own order is.
+fn write_counts<W: Write>(out: &mut W, own: &OwnOrder) -> io::Result<()> {
+    let word = match &own.end {
+        OwnEnd::Ends(_) => "ends",
+        OwnEnd::Runs(_) => "still runs",
+    };
+    let turns = Count(own.turns, "turn");
+    write!(out, "own order: {word} after {turns}")?;
+    write_some(out, own.sleeps, "sleep")?;
+    write_some(out, own.reboots, "reboot")
+}
+
 /// Writes how the kernel's own order ends.
 pub fn write_own<W: Write>(out: &mut W, own: &OwnOrder, looks: &[Look]) -> io::Result<()> {
-    let turns = Count(own.turns, "turn");
-    match &own.end {
-        OwnEnd::Ends(_) => write!(out, "own order: ends after {turns}")?,
-        OwnEnd::Runs(_) => write!(out, "own order: still runs after {turns}")?,
-    }
-    if 0 < own.sleeps {
-        let sleeps = Count(own.sleeps, "sleep");
-        write!(out, ", {sleeps}")?;
-    }
-    if 0 < own.reboots {
-        let reboots = Count(own.reboots, "reboot");
-        write!(out, ", {reboots}")?;
-    }
+    write_counts(out, own)?;
     match &own.end {
         OwnEnd::Ends(shown) => {
             let shown = ShownText(shown, looks);

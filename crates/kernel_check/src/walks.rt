@@ -12,7 +12,7 @@ use board_space::{Explored, Happening};
 use elf_image::Elf;
 use hart::Hart;
 use hsm::Standing;
-use model_board::{Board, Power, Status};
+use model_board::{Board, Power, Rest, Status};
 use rv_decode::{Reg, SCAUSE, SEPC, STVAL};
 use std::alloc::{AllocError, Global};
 
@@ -54,20 +54,31 @@ fn call_of(board: &Board, hart: HartId) -> StoreCall
     }
 }
 
+/// How a run of turns ended after which no hart of the board runs. None where they do.
+fn board_end(rest: &Rest) -> Option<RunEnd> {
+    match rest.power {
+        Power::Ended => Some(RunEnd::ShutsDown(rest.reason)),
+        Power::Off(Some(_)) => Some(RunEnd::Sleeps),
+        Power::Off(None) => Some(RunEnd::Reboots),
+        Power::On if rest.doze.is_some() => Some(RunEnd::Sleeps),
+        Power::On => None,
+    }
+}
+
 /// How a run of a hart's turns ended, on the board after it.
 fn run_end(setting: Setting<'_>, board: &Board, hart: HartId) -> Result<RunEnd, AllocError>
     requires { hart < board.now.size.harts }
 {
-    let rest = board.rest();
-    match rest.power {
-        Power::Ended => return Ok(RunEnd::ShutsDown(rest.reason)),
-        Power::Off(Some(_)) => return Ok(RunEnd::Sleeps),
-        Power::Off(None) => return Ok(RunEnd::Reboots),
-        Power::On => {}
+    match board_end(&board.rest()) {
+        Some(end) => Ok(end),
+        None => hart_end(setting, board, hart),
     }
-    if rest.doze.is_some() {
-        return Ok(RunEnd::Sleeps);
-    }
+}
+
+/// How it ended for the hart, where the board is on and does not doze.
+fn hart_end(setting: Setting<'_>, board: &Board, hart: HartId) -> Result<RunEnd, AllocError>
+    requires { hart < board.now.size.harts }
+{
     if is_trapped(board, hart) {
         return Ok(RunEnd::Traps);
     }
@@ -79,6 +90,12 @@ fn run_end(setting: Setting<'_>, board: &Board, hart: HartId) -> Result<RunEnd, 
             Ok(RunEnd::At(place_text(setting.alloc, setting.elf, setting.shape, pc)?))
         }
     }
+}
+
+/// Adds a step to an order.
+fn add_step(order: &mut Vec<OrderStep>, step: OrderStep) -> Result<(), AllocError> {
+    order.push(step)?;
+    Ok(())
 }
 
 /// Adds turns of a hart to an order, to those before them where they are the same hart's.
@@ -95,8 +112,21 @@ fn add_turns(
         made = made.saturating_add(*before);
         let _last = order.pop();
     }
-    order.push(OrderStep::Turns(hart.number(), made, end))?;
-    Ok(())
+    add_step(order, OrderStep::Turns(hart.number(), made, end))
+}
+
+/// Adds a refusal of what a hart asks of the store.
+fn add_refusal(
+    order: &mut Vec<OrderStep>,
+    board: &Board,
+    hart: HartId,
+    down: bool,
+) -> Result<(), AllocError> {
+    if board.machine().shape().harts() <= hart.number() {
+        return Ok(());
+    }
+    let call = call_of(board, hart);
+    add_step(order, OrderStep::Refused(hart.number(), call, down))
 }
 
 /// Adds a happening to an order, as it is about to come to the board.
@@ -106,21 +136,15 @@ fn add_happening(
     happening: Happening,
 ) -> Result<(), AllocError> {
     match happening {
-        Happening::Turn(_) => {}
-        Happening::Refused(hart, down) => {
-            if hart.number() < board.machine().shape().harts() {
-                let call = call_of(board, hart);
-                order.push(OrderStep::Refused(hart.number(), call, down))?;
-            }
-        }
-        Happening::Wake => order.push(OrderStep::Wake)?,
-        Happening::Cut => order.push(OrderStep::Cut)?,
+        Happening::Turn(_) => Ok(()),
+        Happening::Refused(hart, down) => add_refusal(order, board, hart, down),
+        Happening::Wake => add_step(order, OrderStep::Wake),
+        Happening::Cut => add_step(order, OrderStep::Cut),
         Happening::PowerOn => {
             let resumes = matches!(board.rest().power, Power::Off(Some(_)));
-            order.push(OrderStep::PowerOn(resumes))?;
+            add_step(order, OrderStep::PowerOn(resumes))
         }
     }
-    Ok(())
 }
 
 /// The trap of a hart that stands outside of RAM: the one that led it there. Where it jumped there, the one that follows.
@@ -328,6 +352,44 @@ fn follow(
     Ok(true)
 }
 
+/// The first board, with no step yet.
+fn first_walk(alloc: Global, explored: &Explored) -> Result<Walk, Refusal>
+    ensures at { IfOk result (λ w. w.board.board ≡ start_of explored.now.asked) }
+    ensures size { IfOk result (λ w. w.board.size ≡ explored.now.asked.size) }
+{
+    match explored.first_board() {
+        Ok(board) => Ok(Walk {
+            order: Vec::new(alloc),
+            harts: Vec::new(alloc),
+            board,
+        }),
+        Err(_) => Err(Refusal::Memory),
+    }
+}
+
+/// Goes on with a walk along a way. Whether each event of it could come.
+fn walk_along(
+    setting: Setting<'_>,
+    explored: &Explored,
+    way: &[u8],
+    walk: &mut Walk,
+) -> Result<bool, AllocError>
+    requires { walk.old.board.size ≡ explored.now.asked.size }
+    ensures { result ≡ Ok true → Leads (Happens explored.now.asked) walk.old.board.board walk.new.board.board }
+{
+    let mut traps: [Option<Trap>; 8] = [None; 8];
+    let Walk {
+        order,
+        harts,
+        board,
+    } = walk;
+    if !follow(setting, explored, way, order, board, &mut traps)? {
+        return Ok(false);
+    }
+    *harts = harts_facts(setting, board, &traps)?;
+    Ok(true)
+}
+
 /// Follows a shortest way to a board that was found. None where an event of it can't come, which does not happen.
 pub fn walk_to(
     setting: Setting<'_>,
@@ -338,24 +400,10 @@ pub fn walk_to(
         Leads (Happens explored.now.asked) (start_of explored.now.asked) w.board.board)) }
 {
     let way = way_to(setting.alloc, explored, row)?;
-    let Ok(mut board) = explored.first_board() else {
-        return Err(Refusal::Memory);
-    };
-    let mut order = Vec::new(setting.alloc);
-    let mut traps: [Option<Trap>; 8] = [None; 8];
-    if !follow(
-        setting,
-        explored,
-        way.as_slice(),
-        &mut order,
-        &mut board,
-        &mut traps,
-    )? {
-        return Ok(None);
+    let mut walk = first_walk(setting.alloc, explored)?;
+    match walk_along(setting, explored, way.as_slice(), &mut walk) {
+        Ok(true) => Ok(Some(walk)),
+        Ok(false) => Ok(None),
+        Err(_) => Err(Refusal::Memory),
     }
-    Ok(Some(Walk {
-        order,
-        harts: harts_facts(setting, &board, &traps)?,
-        board,
-    }))
 }
