@@ -1,16 +1,30 @@
 //! What a search tells of a toy: somebody goes up five stairs one by one, and from each but the last he may fall to the ground. The third
 //! is his goal. There is no way down but a fall, which is a failure: so who is past the third comes to no end.
 
+ghost use Rattle.state_space.specs.Graphs.{IsWhole};
+
+use crate::fixtures::same;
 use state_space::{
-    Carries, Expansion, Limits, Refused, Successors, System, Verdict, at_end, explore_by,
+    Carries, Expansion, Graph, Limits, Refused, Successors, System, Verdict, at_end, explore_by,
     first_dead, way_to,
 };
 use std::alloc::Global;
-use std::test::Fail;
+use std::process::Abort;
+use std::thread::Threads;
 
 const LIMITS: Limits = Limits {
     rows: 100,
     bytes: 1_000_000,
+};
+
+const FEW_ROWS: Limits = Limits {
+    rows: 4,
+    bytes: 1_000_000,
+};
+
+const NO_MEMORY: Limits = Limits {
+    rows: 100,
+    bytes: 0,
 };
 
 #[derive(Drop)]
@@ -95,48 +109,70 @@ impl Carries for Climb {
     }
 }
 
-#[test]
-fn a_climb_past_its_goal_is_dead(rt: HostRuntime) -> Result<(), Fail> {
-    let mut climb = Climb { alloc: rt.alloc() };
-    let (graph, verdict) = explore_by(&rt, rt.alloc(), 1, &mut climb, LIMITS)?;
-    assert_eq!(rt; graph.count(), 6);
-    assert_eq!(rt; graph.steps(), 10);
-    if verdict != Verdict::Closed {
-        return Err("open".into());
-    }
-    let goals = at_end(rt.alloc(), &graph)?;
-    assert_eq!(rt; first_dead(rt.alloc(), &climb, &graph, &goals)?, Some(4));
-    let way = way_to(rt.alloc(), &graph, 4)?.ok_or("no way")?;
-    assert_eq!(rt; way.as_slice(), [0, 0, 0, 0].as_slice());
-    Ok(())
+/// A search of the climb by one thread.
+fn searched<R: Abort + Threads + Sync>(rt: &R, alloc: Global, limits: Limits) -> (Graph, Verdict) {
+    let mut climb = Climb { alloc };
+    explore_by(rt, alloc, 1, &mut climb, limits).expect(rt, "memory")
+}
+
+/// How such a search ends, and how many stairs it found, how many of them it went on from, and by how many steps.
+fn searched_so<R: Abort + Threads + Sync>(
+    rt: &R,
+    alloc: Global,
+    limits: Limits,
+) -> (Verdict, usize, usize, usize) {
+    let (graph, verdict) = searched(rt, alloc, limits);
+    (verdict, graph.count(), graph.expanded(), graph.steps())
+}
+
+/// The whole climb.
+fn whole_climb<R: Abort + Threads + Sync>(rt: &R, alloc: Global) -> Graph
+    ensures { IsWhole result }
+{
+    let mut climb = Climb { alloc };
+    let Ok((graph, verdict)) = explore_by(rt, alloc, 1, &mut climb, LIMITS) else {
+        rt.panic("memory")
+    };
+    let Verdict::Closed = verdict else {
+        rt.panic("it is open")
+    };
+    graph
+}
+
+/// The first stair of a climb from which nobody comes to the goal.
+fn dead_stair(rt: &impl Abort, alloc: Global, graph: &Graph) -> Option<usize>
+    requires { IsWhole graph.now }
+{
+    let climb = Climb { alloc };
+    let Ok(goals) = at_end(alloc, graph) else {
+        rt.panic("memory")
+    };
+    first_dead(alloc, &climb, graph, &goals).expect(rt, "memory")
+}
+
+/// The events that lead to a stair.
+fn way_up(rt: &impl Abort, alloc: Global, graph: &Graph, stair: usize) -> Vec<u8>
+    requires { IsWhole graph.now }
+{
+    let way = way_to(alloc, graph, stair).expect(rt, "memory");
+    way.expect(rt, "a way")
 }
 
 #[test]
-fn a_climb_reaches_limits(rt: HostRuntime) -> Result<(), Fail> {
-    let mut climb = Climb { alloc: rt.alloc() };
-    let (graph, verdict) = explore_by(
-        &rt,
-        rt.alloc(),
-        1,
-        &mut climb,
-        Limits {
-            rows: 4,
-            bytes: 1_000_000,
-        },
-    )?;
-    assert_eq!(rt; verdict, Verdict::AtRows);
-    assert_eq!(rt; graph.count(), 4);
-    assert_eq!(rt; graph.expanded(), 3);
-    let (_graph, verdict) = explore_by(
-        &rt,
-        rt.alloc(),
-        1,
-        &mut climb,
-        Limits {
-            rows: 100,
-            bytes: 0,
-        },
-    )?;
-    assert_eq!(rt; verdict, Verdict::AtBytes);
-    Ok(())
+fn a_climb_past_its_goal_is_dead(rt: HostRuntime) {
+    let found = searched_so(&rt, rt.alloc(), LIMITS);
+    same(&rt, found, (Verdict::Closed, 6, 6, 10));
+    let graph = whole_climb(&rt, rt.alloc());
+    same(&rt, dead_stair(&rt, rt.alloc(), &graph), Some(4));
+    let way = way_up(&rt, rt.alloc(), &graph, 4);
+    same(&rt, way.as_slice(), [0, 0, 0, 0].as_slice());
+}
+
+/// The three stairs from which it goes on have two steps each.
+#[test]
+fn a_climb_reaches_limits(rt: HostRuntime) {
+    let few = searched_so(&rt, rt.alloc(), FEW_ROWS);
+    same(&rt, few, (Verdict::AtRows, 4, 3, 6));
+    let (_graph, verdict) = searched(&rt, rt.alloc(), NO_MEMORY);
+    same(&rt, verdict, Verdict::AtBytes);
 }

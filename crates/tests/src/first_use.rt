@@ -1,17 +1,15 @@
 //! docs/HART.md, "A first use": between the lines of dashes the code stands there as it stands here.
 
 use crate::fixtures::same;
-use board_model::{HartId, RAM_BASE, Shape};
+use board_model::{HartId, RAM_BASE, Refusal, Shape};
 use hart::{Hart, Outcome};
 use ram::Ram;
 use rv_decode::Reg;
-use std::test::Fail;
+use std::alloc::Global;
 
-/// Two steps of one hart: `addi x10, x0, 1`, and an ECALL that is answered 0 with the value 7.
-#[test]
-fn one_hart_makes_two_steps(rt: HostRuntime) -> Result<(), Fail> {
-    let alloc = rt.alloc();
-    let first = HartId::new(0).unwrap();
+/// What two steps of one hart come to, and a0 after the first one; and then its pc and a1: `addi x10, x0, 1`, and an ECALL that is
+/// answered 0 with the value 7.
+fn two_steps(alloc: Global, first: HartId) -> Result<(Outcome, u64, Outcome, (u64, u64)), Refusal> {
     // ----
     let mut ram = Ram::new(alloc, Shape::new(1, 1, 1)?)?;
     ram.boot(&[0x13, 0x05, 0x10, 0x00, 0x73, 0x00, 0x00, 0x00]);
@@ -21,8 +19,13 @@ fn one_hart_makes_two_steps(rt: HostRuntime) -> Result<(), Fail> {
     let ecall = hart.step(&mut ram, false);
     hart.answer(0, 7);
     // ----
-    same(&rt, (addi, one), (Outcome::Next, 1));
-    same(&rt, (ecall, hart.pc()), (Outcome::Ecall, RAM_BASE + 8));
-    same(&rt, hart.reg(Reg::new(11)), 7);
-    Ok(())
+    Ok((addi, one, ecall, (hart.pc(), hart.reg(Reg::new(11)))))
+}
+
+#[test]
+fn one_hart_makes_two_steps(rt: HostRuntime) {
+    let first = HartId::new(0).expect(&rt, "hart 0");
+    let steps = two_steps(rt.alloc(), first).expect(&rt, "memory");
+    let wanted = (Outcome::Next, 1, Outcome::Ecall, (RAM_BASE + 8, 7));
+    same(&rt, steps, wanted);
 }

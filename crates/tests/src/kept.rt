@@ -14,6 +14,11 @@ const EIGHT: &[u64] = &[0, 1, 2, 3, 4, 5, 6, 7];
 /// The eight after the first one.
 const NEXT: &[u64] = &[1, 2, 3, 4, 5, 6, 7, 8];
 
+/// The first eight but the second.
+const BUT_ONE: &[u64] = &[0, 2, 3, 4, 5, 6, 7];
+
+const NONE: &[u64] = &[];
+
 /// Of these pages, and of no other of the first ten, a word is kept decoded.
 fn only_kept(rt: &impl Abort, ram: &Ram, pages: &[u64]) {
     for page in 0..10 {
@@ -23,10 +28,15 @@ fn only_kept(rt: &impl Abort, ram: &Ram, pages: &[u64]) {
     }
 }
 
+/// Where that word of a page stands.
+fn address(page: u64, word: u64) -> u64 {
+    BASE + 4096 * (page % 256) + 4 * (word % 1024)
+}
+
 /// Of each of these pages that word is asked for as an instruction, which zeros are not.
 fn asked(rt: &impl Abort, ram: &mut Ram, pages: &[u64], word: u64) {
     for page in pages {
-        let kept = ram.instr(BASE + 4096 * (*page % 256) + 4 * (word % 1024));
+        let kept = ram.instr(address(*page, word));
         assert!(rt; matches!(kept, Ok(None)));
     }
 }
@@ -78,24 +88,42 @@ fn nine_pages_keep_eight(rt: HostRuntime) {
     keeps(&rt, &mut ram, &BEHIND_A_STORE);
 }
 
-/// A load, a store that is refused and an address without an instruction keep and drop nothing; a page that is
-/// filled, and a boot, drop what they write.
+/// Neither between words nor past ten pages stands an instruction.
+fn asked_elsewhere(rt: &impl Abort, ram: &mut Ram) {
+    let between = ram.instr(BASE + 2);
+    assert!(rt; matches!(between, Err(Access::Misaligned)));
+    let beyond = ram.instr(BASE + 10 * 4096);
+    assert!(rt; matches!(beyond, Err(Access::Outside)));
+}
+
+/// A load, and a store that is refused.
+fn touched(rt: &impl Abort, ram: &mut Ram) {
+    same(rt, ram.load(BASE, Width::Double), Ok(0));
+    let refused = ram.store(BASE + 1, Width::Word, 7);
+    same(rt, refused, Err(Access::Misaligned));
+}
+
+static EIGHT_ALONE: [KeptRow; 2] = [(&[], 0, &[]), (EIGHT, 0, EIGHT)];
+
+/// A load, a store that is refused and an address without an instruction keep and drop nothing.
+#[test]
+fn what_is_not_written_stays(rt: HostRuntime) {
+    let mut ram = blank_memory(&rt, rt.alloc(), 10);
+    asked_elsewhere(&rt, &mut ram);
+    keeps(&rt, &mut ram, &EIGHT_ALONE);
+    touched(&rt, &mut ram);
+    only_kept(&rt, &ram, EIGHT);
+}
+
+/// A page that is filled, and a boot, drop what they write.
 #[test]
 fn what_is_written_is_dropped(rt: HostRuntime) {
     let mut ram = blank_memory(&rt, rt.alloc(), 10);
-    let between = ram.instr(BASE + 2);
-    assert!(&rt; matches!(between, Err(Access::Misaligned)));
-    let beyond = ram.instr(BASE + 10 * 4096);
-    assert!(&rt; matches!(beyond, Err(Access::Outside)));
-    keeps(&rt, &mut ram, &[(&[], 0, &[]), (EIGHT, 0, EIGHT)]);
-    same(&rt, ram.load(BASE, Width::Double), Ok(0));
-    let refused = ram.store(BASE + 1, Width::Word, 7);
-    same(&rt, refused, Err(Access::Misaligned));
-    only_kept(&rt, &ram, EIGHT);
+    keeps(&rt, &mut ram, &EIGHT_ALONE);
     cleared(&mut ram, 1);
-    only_kept(&rt, &ram, &[0, 2, 3, 4, 5, 6, 7]);
+    only_kept(&rt, &ram, BUT_ONE);
     ram.boot(&[]);
-    only_kept(&rt, &ram, &[]);
+    only_kept(&rt, &ram, NONE);
 }
 
 /// The pages of a memory, and what is asked of it. The last word of a page keeps it. A further word of a page that is kept leaves
@@ -116,12 +144,14 @@ fn each_memory_keeps_its_pages(rt: HostRuntime) {
     }
 }
 
+static TWO_ALONE: [KeptRow; 2] = [(&[], 0, &[]), (&[0, 9], 0, &[0, 9])];
+
 /// After a boot no page stands before another, and there is room for eight: a page that was kept before it, and is
 /// asked for first, is not the one that goes.
 #[test]
 fn a_boot_forgets_the_order(rt: HostRuntime) {
     let mut ram = blank_memory(&rt, rt.alloc(), 10);
-    keeps(&rt, &mut ram, &[(EIGHT, 0, EIGHT)]);
+    keeps(&rt, &mut ram, &EIGHT_ALONE);
     ram.boot(&[]);
-    keeps(&rt, &mut ram, &[(&[], 0, &[]), (&[0, 9], 0, &[0, 9])]);
+    keeps(&rt, &mut ram, &TWO_ALONE);
 }

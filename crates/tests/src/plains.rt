@@ -14,14 +14,29 @@ fn suspension(rt: &impl Abort) -> Entry {
     Entry::Suspend(hart, address, 7)
 }
 
+/// A formatted disk's state after a suspension of that memory.
+fn asleep(rt: &impl Abort, alloc: Global, memory: &[u8]) -> Plain {
+    let asleep = Plain::formatted().after(alloc, suspension(rt), memory);
+    asleep.expect(rt, "asleep")
+}
+
+/// A copy of that state, in which slot 2 is set.
+fn moved(rt: &impl Abort, alloc: Global, state: &Plain) -> Plain {
+    let again = state.copy(alloc).expect(rt, "again");
+    let moved = again.after(alloc, Entry::Command(Command::Slot(2)), &[]);
+    moved.expect(rt, "moved")
+}
+
+/// The state that is durable of that one, with that memory.
+fn made(rt: &impl Abort, alloc: Global, state: &Plain, memory: &[u8]) -> Plain {
+    let memory = Bytes::new(Vec::from_slice(alloc, memory).expect(rt, "memory"));
+    Plain::of(&state.durable(), memory)
+}
+
 /// How many bytes the image of a formatted disk's state has after a suspension of that memory.
 fn bytes_kept(rt: &impl Abort, alloc: Global, memory: &[u8]) -> usize {
-    let asleep = Plain::formatted().after(alloc, suspension(rt), memory);
-    let again = asleep.expect(rt, "asleep").copy(alloc).expect(rt, "again");
-    let moved = again.after(alloc, Entry::Command(Command::Slot(2)), &[]);
-    let moved = moved.expect(rt, "moved");
-    let memory = Bytes::new(Vec::from_slice(alloc, memory).expect(rt, "memory"));
-    let made = Plain::of(&moved.durable(), memory);
+    let moved = moved(rt, alloc, &asleep(rt, alloc, memory));
+    let made = made(rt, alloc, &moved, memory);
     same(rt, made == moved, true);
     made.image.map_or(0, |image| image.memory.len())
 }

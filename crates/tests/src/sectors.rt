@@ -32,23 +32,32 @@ fn a_superblock_byte_by_byte(rt: HostRuntime) {
     same(&rt, refused, Err(Refusal::BadShape));
 }
 
-/// A record in that version, with an image or none, and with a trial of 5 boots that falls back to slot 2, or none.
-fn a_record(rt: &impl Abort, version: Version, has_image: bool, has_trial: bool) -> Record {
+/// An image of hart 1 in the other area.
+fn an_image(rt: &impl Abort) -> Saved {
     let head = ImageHead {
         serial: 6,
         hart: HartId::new(1).expect(rt, "hart 1"),
         address: Addr::new(0x8000_1000).expect(rt, "an address"),
         opaque: 0x0102_0304_0506_0708,
     };
-    let saved = Saved {
+    Saved {
         head,
         area: Side::first().other(),
         counts: [2, 2, 1, 0],
-    };
-    let trial = Trial {
+    }
+}
+
+/// A trial of 5 boots that falls back to slot 2.
+fn a_trial(rt: &impl Abort) -> Trial {
+    Trial {
         fallback: Slot::new(2).expect(rt, "slot 2"),
         left: Boots::new(5).expect(rt, "5 boots"),
-    };
+    }
+}
+
+/// A record in that version, with that image or none, and with that trial or none.
+fn a_record(rt: &impl Abort, version: Version, has_image: bool, has_trial: bool) -> Record {
+    let (saved, trial) = (an_image(rt), a_trial(rt));
     Record {
         version,
         slot: Slot::new(3).expect(rt, "slot 3"),
