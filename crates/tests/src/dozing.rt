@@ -96,17 +96,21 @@ const DOZER: [u8; 28] = [
 /// Where its ECALL stands, and the hart while it dozes.
 const ASKS: u64 = RAM_BASE + 24;
 
+/// As many commands as a life acknowledges.
+const FULL: [Command; 4096] = [Command::Slot(1); 4096];
+
+/// What is issued before the board dozes, under a fault of its disk: a store takes commands, is over, full or down.
+static STORES: [(&[Command], ArmedFault); 4] = [
+    (&[], NEVER),
+    (&[Command::Reset(Reason::NoReason)], NEVER),
+    (&FULL, NEVER),
+    (&[Command::Slot(1)], ArmedFault::FailAt(3)),
+];
+
 /// A store that is over, full or down, and so refuses every command: the board dozes, and no receipt is told.
 #[test]
 fn a_board_dozes_whatever_its_store_would_refuse(rt: HostRuntime) {
-    let full = [Command::Slot(1); 4096];
-    let stores: [(&[Command], ArmedFault); 4] = [
-        (&[], NEVER),
-        (&[Command::Reset(Reason::NoReason)], NEVER),
-        (&full, NEVER),
-        (&[Command::Slot(1)], ArmedFault::FailAt(3)),
-    ];
-    for (commands, fault) in stores {
+    for &(commands, fault) in &STORES {
         let trial = BoardTrial {
             payload: &DOZER,
             commands,

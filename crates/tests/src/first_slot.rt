@@ -4,7 +4,6 @@ use crate::fixtures::{same, slot_of};
 use board_model::{Command, Refusal, Shape};
 use simdisk::SimDisk;
 use std::alloc::Global;
-use std::test::Fail;
 use store::{Receipt, Store, format};
 
 /// A disk in memory is formatted and opened, and the boot slot is set.
@@ -22,14 +21,13 @@ fn first_slot(alloc: Global) -> Result<(Store<SimDisk>, Receipt), Refusal> {
 }
 
 #[test]
-fn a_slot_is_set_and_found(rt: HostRuntime) -> Result<(), Fail> {
-    let (store, receipt) = first_slot(rt.alloc())?;
+fn a_slot_is_set_and_found(rt: HostRuntime) {
+    let (store, receipt) = first_slot(rt.alloc()).expect(&rt, "memory");
     let (now, found) = (store.now().slot, store.found().slot);
     same(
         &rt,
         (receipt.number(), now.number(), found.number()),
         (1, 1, 0),
     );
-    same(&rt, slot_of(rt.alloc(), store.into_disk())?, 1);
-    Ok(())
+    same(&rt, slot_of(rt.alloc(), store.into_disk()), Ok(1));
 }

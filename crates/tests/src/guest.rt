@@ -2,7 +2,6 @@
 //! until the console drops it; and `first_interrupt.c`.
 
 use crate::runs::{KEEP, PLAIN, Run, all_come};
-use std::test::*;
 
 const COUNTERS: &[u8] = b"\
 17110000130101006f00c0171300000013000000130000001300000013000000130000001300000013000000130000001300\
@@ -93,10 +92,8 @@ static SESSIONS: [Run; 4] = [
 ];
 
 #[test]
-fn a_guest_is_suspended_and_resumed_and_its_image_outlives_a_reset(
-    rt: HostRuntime,
-) -> Result<(), Fail> {
-    all_come(&rt, rt.alloc(), b"", &SESSIONS)
+fn a_guest_is_suspended_and_resumed_and_its_image_outlives_a_reset(rt: HostRuntime) {
+    all_come(&rt, rt.alloc(), b"", &SESSIONS);
 }
 
 /// So many turns are some hundred starts of hart 1. Where an interrupt is lost, the guest ends its board for a failure.
@@ -118,8 +115,6 @@ static STARTS: [Run; 2] = [
 ];
 
 #[test]
-fn an_interrupt_stays_that_is_sent_to_a_hart_which_reads_started(
-    rt: HostRuntime,
-) -> Result<(), Fail> {
-    all_come(&rt, rt.alloc(), b"", &STARTS)
+fn an_interrupt_stays_that_is_sent_to_a_hart_which_reads_started(rt: HostRuntime) {
+    all_come(&rt, rt.alloc(), b"", &STARTS);
 }

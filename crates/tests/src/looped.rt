@@ -16,7 +16,7 @@ pub const STOPPER: [u8; 28] = [
 type Stopped = (u64, Why, u64, Option<u32>);
 
 /// What the gate ends, how many turns the hart makes at most, and how its loop ends.
-const LOOPS: [(Short, u64, Stopped); 3] = [
+static LOOPS: [(Short, u64, Stopped); 3] = [
     (None, 3, (3, Why::Turns, 0x8000_000c, None)),
     (Some((0, 2)), 100, (2, Why::Gate, 0x8000_0008, None)),
     (None, 100, (6, Why::Life, 0x8000_0014, Some(1))),
@@ -24,7 +24,7 @@ const LOOPS: [(Short, u64, Stopped); 3] = [
 
 #[test]
 fn a_loop_ends_as_it_is_told(rt: HostRuntime) {
-    for (short, turns, wanted) in LOOPS {
+    for &(short, turns, wanted) in &LOOPS {
         let trial = BoardTrial {
             payload: &STOPPER,
             ..BoardTrial::of(turns)

@@ -67,7 +67,7 @@ fn made_by_each(rt: &impl Abort, gate: &CountingGate, turns: &[u64]) {
 /// make.
 type CountedRow = (u64, &'static [u8], Short, u64, &'static [u64]);
 
-const ROWS: [CountedRow; 3] = [
+static ROWS: [CountedRow; 3] = [
     // each of eight harts makes its turns, but one that the gate ends
     (8, &[], Some((3, 5)), 20, &[20, 20, 20, 5, 20, 20, 20, 20]),
     // the gate is asked past a million turns
@@ -78,7 +78,7 @@ const ROWS: [CountedRow; 3] = [
 
 #[test]
 fn each_hart_makes_its_turns(rt: HostRuntime) {
-    for (harts, payload, short, turns, made) in ROWS {
+    for &(harts, payload, short, turns, made) in &ROWS {
         let gate = CountingGate::new(short);
         let trial = BoardTrial {
             size: (harts, 1, 1),

@@ -5,7 +5,7 @@ use crate::memory_disk::Failing;
 use crate::memory_files::Broken;
 use crate::runs::{KEEP, OLD, PLAIN, Run, all_come, all_left, has_status};
 use crate::trials::SLEEPS;
-use std::test::*;
+use std::process::Abort;
 
 static ANSWERED: [Run; 2] = [
     Run {
@@ -22,8 +22,8 @@ static ANSWERED: [Run; 2] = [
 ];
 
 #[test]
-fn the_console_answers_and_the_disk_keeps(rt: HostRuntime) -> Result<(), Fail> {
-    all_come(&rt, rt.alloc(), b"", &ANSWERED)
+fn the_console_answers_and_the_disk_keeps(rt: HostRuntime) {
+    all_come(&rt, rt.alloc(), b"", &ANSWERED);
 }
 
 const FILES: [&str; 15] = [
@@ -108,11 +108,10 @@ static SLOTS: [[Run; 3]; 4] = [
 
 /// The guest of one file runs where its slot boots, and in no other.
 #[test]
-fn each_payload_file_is_for_its_slot(rt: HostRuntime) -> Result<(), Fail> {
+fn each_payload_file_is_for_its_slot(rt: HostRuntime) {
     for runs in &SLOTS {
-        all_come(&rt, rt.alloc(), b"", runs)?;
+        all_come(&rt, rt.alloc(), b"", runs);
     }
-    Ok(())
 }
 
 const LONG: [u8; 4097] = [0; 4097];
@@ -147,10 +146,9 @@ static LONG_GUEST: [Run; 2] = [
 
 /// A payload that is longer than RAM: the new disk was formatted, and stands in the place of the old one.
 #[test]
-fn a_refused_session_writes_its_disk(rt: HostRuntime) -> Result<(), Fail> {
-    let disk = all_left(&rt, rt.alloc(), b"another", &LONG_GUEST)?;
+fn a_refused_session_writes_its_disk(rt: HostRuntime) {
+    let disk = all_left(&rt, rt.alloc(), b"another", &LONG_GUEST);
     same(&rt, disk.len(), 13312);
-    Ok(())
 }
 
 static FULL: [Run; 2] = [
@@ -170,8 +168,8 @@ static FULL: [Run; 2] = [
 
 /// The answers do not fit: the command of the first line was acknowledged, and stands in the file.
 #[test]
-fn an_output_that_fails_is_a_refusal(rt: HostRuntime) -> Result<(), Fail> {
-    all_come(&rt, rt.alloc(), b"", &FULL)
+fn an_output_that_fails_is_a_refusal(rt: HostRuntime) {
+    all_come(&rt, rt.alloc(), b"", &FULL);
 }
 
 /// A session that makes a disk, and sets its slot.
@@ -196,22 +194,26 @@ static WRITES_AGAIN: [Run; 1] = [Run { words: &OLD, ..SET }];
 
 /// With `--sync` the file holds the same.
 #[test]
-fn a_file_holds_the_disk_either_way(rt: HostRuntime) -> Result<(), Fail> {
-    let written = all_left(&rt, rt.alloc(), b"", &WRITES)?;
-    let kept = all_left(&rt, rt.alloc(), b"", &SYNCS)?;
+fn a_file_holds_the_disk_either_way(rt: HostRuntime) {
+    let written = all_left(&rt, rt.alloc(), b"", &WRITES);
+    let kept = all_left(&rt, rt.alloc(), b"", &SYNCS);
     same(&rt, written.as_slice(), kept.as_slice());
-    Ok(())
+}
+
+/// These bytes, and a sector of sevens after them.
+fn longer(rt: &impl Abort, bytes: Vec<u8>) -> Vec<u8> {
+    let mut bytes = bytes;
+    bytes.extend_from_slice(&[7; 512]).expect(rt, "memory");
+    bytes
 }
 
 /// What stands after a disk in its file stays, but for a new disk.
 #[test]
-fn what_stands_behind_a_disk_stays(rt: HostRuntime) -> Result<(), Fail> {
-    let mut longer = all_left(&rt, rt.alloc(), b"", &WRITES)?;
-    longer.extend_from_slice(&[7; 512])?;
-    let longer = all_left(&rt, rt.alloc(), &longer, &WRITES_AGAIN)?;
-    same(&rt, longer.len(), 13824);
-    same(&rt, longer.get(13312..), Some([7; 512].as_slice()));
-    Ok(())
+fn what_stands_behind_a_disk_stays(rt: HostRuntime) {
+    let before = longer(&rt, all_left(&rt, rt.alloc(), b"", &WRITES));
+    let left = all_left(&rt, rt.alloc(), &before, &WRITES_AGAIN);
+    same(&rt, left.len(), 13824);
+    same(&rt, left.get(13312..), Some([7; 512].as_slice()));
 }
 
 /// The bytes of the disk's file, and a run over it.
@@ -306,11 +308,10 @@ static FAULTS: [(&[u8], &[Run]); 9] = [
 ];
 
 #[test]
-fn each_fault_has_its_status_and_its_line(rt: HostRuntime) -> Result<(), Fail> {
+fn each_fault_has_its_status_and_its_line(rt: HostRuntime) {
     for (disk, runs) in &FAULTS {
-        all_come(&rt, rt.alloc(), disk, runs)?;
+        all_come(&rt, rt.alloc(), disk, runs);
     }
-    Ok(())
 }
 
 /// Runs of words that ask for no session.

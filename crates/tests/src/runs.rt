@@ -8,11 +8,10 @@ use board_files::MemoryFile;
 use board_programs::{FileLeft, Operated, examine_on, operate_on};
 use board_session::Streams;
 use command_line::Pipe;
-use std::alloc::{AllocError, Global};
+use std::alloc::Global;
 use std::io::BufWriter;
 use std::process::Abort;
 use std::sync::Wait;
-use std::test::*;
 use std::thread::Threads;
 
 /// Which program runs.
@@ -84,27 +83,27 @@ fn compare(rt: &impl Abort, run: &Run, status: u8, told: &[u8], faults: &[u8]) {
 }
 
 /// A run of `sbidisk` over these files, which comes to what is told of it.
-fn examined(rt: &impl Abort, files: &MemoryFiles, run: &Run) -> Result<(), Fail> {
+fn examined(rt: &impl Abort, files: &MemoryFiles, run: &Run) {
     let page = Page::new(files.alloc, run.room);
-    let mut out = BufWriter::new(files.alloc, Pipe::new(page))?;
+    let mut out = BufWriter::new(files.alloc, Pipe::new(page)).expect(rt, "memory");
     let mut faults = FaultOutput(Vec::new(files.alloc));
     let status = examine_on(files.alloc, files, run.words, &mut out, &mut faults);
     compare(rt, run, status, &out.get_ref().get_ref().text, &faults.0);
-    Ok(())
 }
 
 /// What then stands in the file of the disk, where those bytes stood before.
 fn bytes_left(
+    rt: &impl Abort,
     alloc: Global,
     before: Vec<u8>,
     left: FileLeft<MemoryDisk, MemoryFile>,
-) -> Result<Vec<u8>, AllocError> {
+) -> Vec<u8> {
     match left {
-        FileLeft::None => Ok(before),
-        FileLeft::AtEnd(held, _disk) => Ok(held.found()),
+        FileLeft::None => before,
+        FileLeft::AtEnd(held, _disk) => held.found(),
         FileLeft::AllAlong(kept, _moments) => {
             let sectors = kept.found();
-            Vec::from_slice(alloc, sectors.as_flattened())
+            Vec::from_slice(alloc, sectors.as_flattened()).expect(rt, "memory")
         }
     }
 }
@@ -121,14 +120,10 @@ fn files_of(alloc: Global, disk: Vec<u8>, run: &Run) -> MemoryFiles {
 }
 
 /// What a run of `sbiboard` leaves in the disk's file, which comes to what is told of it.
-fn board_left<R: Abort + Threads + Wait + Sync>(
-    rt: &R,
-    files: MemoryFiles,
-    run: &Run,
-) -> Result<Vec<u8>, AllocError> {
+fn board_left<R: Abort + Threads + Wait + Sync>(rt: &R, files: MemoryFiles, run: &Run) -> Vec<u8> {
     let (ended, faults) = operated(rt, &files, run);
     compare(rt, run, ended.status, &ended.out.get_ref().text, &faults.0);
-    bytes_left(files.alloc, files.disk, ended.file_left)
+    bytes_left(rt, files.alloc, files.disk, ended.file_left)
 }
 
 /// What a run leaves in the disk's file of these bytes, which comes to what is told of it.
@@ -137,13 +132,13 @@ fn left<R: Abort + Threads + Wait + Sync>(
     alloc: Global,
     disk: Vec<u8>,
     run: &Run,
-) -> Result<Vec<u8>, Fail> {
+) -> Vec<u8> {
     let files = files_of(alloc, disk, run);
     match run.program {
-        Program::Board => Ok(board_left(rt, files, run)?),
+        Program::Board => board_left(rt, files, run),
         Program::Disk => {
-            examined(rt, &files, run)?;
-            Ok(files.disk)
+            examined(rt, &files, run);
+            files.disk
         }
     }
 }
@@ -155,12 +150,12 @@ pub fn all_left<R: Abort + Threads + Wait + Sync>(
     alloc: Global,
     disk: &[u8],
     runs: &[Run],
-) -> Result<Vec<u8>, Fail> {
-    let mut disk = Vec::from_slice(alloc, disk)?;
+) -> Vec<u8> {
+    let mut disk = Vec::from_slice(alloc, disk).expect(rt, "memory");
     for run in runs {
-        disk = left(rt, alloc, disk, run)?;
+        disk = left(rt, alloc, disk, run);
     }
-    Ok(disk)
+    disk
 }
 
 /// These runs, one after another over a file of these bytes.
@@ -169,9 +164,8 @@ pub fn all_come<R: Abort + Threads + Wait + Sync>(
     alloc: Global,
     disk: &[u8],
     runs: &[Run],
-) -> Result<(), Fail> {
-    let _left = all_left(rt, alloc, disk, runs)?;
-    Ok(())
+) {
+    let _left = all_left(rt, alloc, disk, runs);
 }
 
 /// A run has its status. Its texts are not compared.

@@ -1,7 +1,6 @@
 //! Sessions of `sbiboard` whose harts are looked at: one that goes on with an image, harts that `quit` halts, and one in a long payload.
 
 use crate::runs::{PLAIN, Run, all_come};
-use std::test::*;
 
 /// Hart 0 starts hart 1 at 0x8000002c and stops itself. Hart 1 waits until hart 0 is STOPPED, and suspends the board to disk with the
 /// opaque value 7, to be resumed at 0x80000070. There it writes a0 to `scause` and a1 to `stval`, and jumps to itself at 0x80000078.
@@ -53,8 +52,8 @@ stval 0x0000000000000000 turns 5 ended turns\n",
 ];
 
 #[test]
-fn a_session_goes_on_with_the_hart_of_its_image(rt: HostRuntime) -> Result<(), Fail> {
-    all_come(&rt, rt.alloc(), b"", &RESUMED)
+fn a_session_goes_on_with_the_hart_of_its_image(rt: HostRuntime) {
+    all_come(&rt, rt.alloc(), b"", &RESUMED);
 }
 
 /// Each hart has turns for minutes.
@@ -80,8 +79,8 @@ static QUIT: [Run; 1] = [Run {
 }];
 
 #[test]
-fn quit_halts_harts_that_have_turns_left(rt: HostRuntime) -> Result<(), Fail> {
-    all_come(&rt, rt.alloc(), b"", &QUIT)
+fn quit_halts_harts_that_have_turns_left(rt: HostRuntime) {
+    all_come(&rt, rt.alloc(), b"", &QUIT);
 }
 
 /// A payload of 300,000 bytes. Its first instruction jumps to its last, at 0x800493dc, which jumps to itself; between them are zeros.
@@ -100,6 +99,6 @@ stval 0x0000000000000000 turns 3 ended turns\n",
 
 /// The board has the end of such a payload.
 #[test]
-fn a_long_payload_is_read_to_its_end(rt: HostRuntime) -> Result<(), Fail> {
-    all_come(&rt, rt.alloc(), b"", &LONG)
+fn a_long_payload_is_read_to_its_end(rt: HostRuntime) {
+    all_come(&rt, rt.alloc(), b"", &LONG);
 }

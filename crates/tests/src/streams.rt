@@ -1,7 +1,6 @@
 //! What a session's input and output do to it: bytes that come one at a time, interrupted, or not at all, and
 //! answers that are seen at once.
 
-ghost use Rattle.std.specs.Prelude.{IfOk};
 ghost use Rattle.store.specs.Leaves.{IsIdle};
 
 use crate::fixtures::same;
@@ -16,7 +15,6 @@ use std::alloc::Global;
 use std::io::{self, BufWriter, ErrorKind, Read, Write};
 use std::process::Abort;
 use std::sync::Wait;
-use std::test::*;
 use std::thread::{self, Threads};
 use std::time::{Clock, Duration};
 
@@ -142,12 +140,17 @@ const QUIT: SessionEnding = SessionEnding {
 };
 
 /// What the words ask for, and a blank disk, large enough for three harts.
-fn begun(alloc: Global, words: &'static [&'static str]) -> Result<(Options, SimDisk), Fail>
-    ensures { IfOk result (λ b. IsIdle (⟦<SimDisk as Disk>⟧.facts b.1)) }
+fn begun(rt: &impl Abort, alloc: Global, words: &'static [&'static str]) -> (Options, SimDisk)
+    ensures { IsIdle (⟦<SimDisk as Disk>⟧.facts result.1) }
 {
-    let given = options(alloc, words).ok().ok_or("the words")?;
-    let disk = SimDisk::blank(alloc, Shape::new(3, 1, 1)?.sectors())?;
-    Ok((given, disk))
+    let Ok(given) = options(alloc, words) else {
+        rt.panic("the words")
+    };
+    let shape = Shape::new(3, 1, 1).expect(rt, "a shape");
+    let Ok(disk) = SimDisk::blank(alloc, shape.sectors()) else {
+        rt.panic("no memory")
+    };
+    (given, disk)
 }
 
 /// What a session of this input leaves of it, which ends so.
@@ -156,8 +159,8 @@ fn rest_of<R: Abort + Threads + Wait + Sync, I: Read + Drop>(
     alloc: Global,
     input: I,
     ending: &SessionEnding,
-) -> Result<I, Fail> {
-    let (given, disk) = begun(alloc, ending.words)?;
+) -> I {
+    let (given, disk) = begun(rt, alloc, ending.words);
     let streams = Streams {
         input,
         out: BufWriter::new(alloc, Flushed::new(alloc, ending.room)).expect(rt, "memory"),
@@ -169,7 +172,7 @@ fn rest_of<R: Abort + Threads + Wait + Sync, I: Read + Drop>(
     let shown = out.get_ref();
     same(rt, shown.page.text.as_slice(), ending.told);
     same(rt, shown.seen, ending.seen);
-    Ok(input)
+    input
 }
 
 static FALTERS: SessionEnding = SessionEnding {
@@ -181,14 +184,11 @@ static FALTERS: SessionEnding = SessionEnding {
 };
 
 #[test]
-fn an_interrupted_read_goes_on_and_a_failed_one_ends_the_input(
-    rt: HostRuntime,
-) -> Result<(), Fail> {
-    let ended = Faltering::new(b"slot 1\nstate\n");
-    let _rest = rest_of(&rt, rt.alloc(), ended, &FALTERS)?;
-    let cut = Faltering::new(b"slot 1\nstate");
-    let _rest = rest_of(&rt, rt.alloc(), cut, &FALTERS)?;
-    Ok(())
+fn an_interrupted_read_goes_on_and_a_failed_one_ends_the_input(rt: HostRuntime) {
+    let lines: [&[u8]; 2] = [b"slot 1\nstate\n", b"slot 1\nstate"];
+    for bytes in lines {
+        let _rest = rest_of(&rt, rt.alloc(), Faltering::new(bytes), &FALTERS);
+    }
 }
 
 /// The lines of a session, how it ends, and what is left of the lines: each answer is seen at once; one that is not written ends
@@ -231,22 +231,20 @@ static LINES: [(&[u8], SessionEnding, &[u8]); 3] = [
 ];
 
 #[test]
-fn answers_are_seen_at_once_or_end_the_session(rt: HostRuntime) -> Result<(), Fail> {
+fn answers_are_seen_at_once_or_end_the_session(rt: HostRuntime) {
     for (lines, ending, rest) in &LINES {
-        same(&rt, rest_of(&rt, rt.alloc(), *lines, ending)?, *rest);
+        same(&rt, rest_of(&rt, rt.alloc(), *lines, ending), *rest);
     }
-    Ok(())
 }
 
 static QUITS: SessionEnding = QUIT;
 
 #[test]
-fn quit_ends_all_harts(rt: HostRuntime) -> Result<(), Fail> {
+fn quit_ends_all_harts(rt: HostRuntime) {
     let input = Late {
         clock: &rt,
         waited: false,
         bytes: b"quit\n",
     };
-    let _rest = rest_of(&rt, rt.alloc(), input, &QUITS)?;
-    Ok(())
+    let _rest = rest_of(&rt, rt.alloc(), input, &QUITS);
 }

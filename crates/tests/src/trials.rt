@@ -1,7 +1,6 @@
 //! A slot on trial, over sessions: each boot counts, and what the console says of the trial (docs/DURABLE.md).
 
 use crate::runs::{KEEP, OLD, PLAIN, Run, all_come};
-use std::test::*;
 
 static FALLS_BACK: [Run; 3] = [
     Run {
@@ -35,8 +34,8 @@ tries refused 19\n\
 
 /// A slot that is found good stays, and the next trial falls back to it.
 #[test]
-fn a_trial_of_one_boot_falls_back_at_the_second(rt: HostRuntime) -> Result<(), Fail> {
-    all_come(&rt, rt.alloc(), b"", &FALLS_BACK)
+fn a_trial_of_one_boot_falls_back_at_the_second(rt: HostRuntime) {
+    all_come(&rt, rt.alloc(), b"", &FALLS_BACK);
 }
 
 /// A suspension to disk, resumed at 0x80000000: a0 is set to 0x80000001 and a1 to 0x80000000 by ADDI and SLLI, a2
@@ -78,6 +77,6 @@ static DISCARDS: [Run; 4] = [
 ];
 
 #[test]
-fn a_boot_that_discards_counts_too(rt: HostRuntime) -> Result<(), Fail> {
-    all_come(&rt, rt.alloc(), b"", &DISCARDS)
+fn a_boot_that_discards_counts_too(rt: HostRuntime) {
+    all_come(&rt, rt.alloc(), b"", &DISCARDS);
 }
