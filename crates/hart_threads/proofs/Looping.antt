@@ -1,5 +1,6 @@
 -- Turns one after another.
 use Rattle.std.proofs.Common.{◌≡◌, ◌+◌, ℕ, zero, suc, Bool, Option, Some, None, ap, true, false, arith, refl, sym, ◌∙◌, subst, inl, inr}
+use Rattle.atomic_table.specs.Seated.{TableId}
 use Rattle.board_model.specs.Shapes.{Size}
 use Rattle.board_model.specs.declared.durable.Entry.{Entry}
 use Rattle.sbi_abi.specs.declared.call.Call.{Call}
@@ -30,7 +31,7 @@ use Rattle.hart_threads.specs.Begun.{BeginsAs}
 use Rattle.hart_threads.specs.Ends.{AnyAnswer, AnyWord, HasGone}
 use Rattle.hart_threads.specs.Bused.{CallsBus}
 use Rattle.hart_threads.specs.declared.bus_turns.BusTurn.{BusTurn}
-use Rattle.hart_threads.specs.Seated.{StandsAfterTurn, StandsAfter}
+use Rattle.hart_threads.specs.Seated.{AreNamed, AreSeatsIn, StandsAfterTurn, StandsAfter}
 use Rattle.hart_threads.specs.Threads.{Seated, seated, HeldOnce, IsDozeBy, ComesOnce, OwnOnce, LookOnce, TurnOnceBy, TurnOnce, TurnsOn, LoopOnce}
 use Rattle.hart_threads.specs.declared.loops.Why.{Why}
 use Rattle.hart_threads.specs.declared.loops.Why.TheVariants as whys
@@ -42,6 +43,13 @@ gives_none t by s are = record {
   others = record { harts = refl; stages = λ k st ne x. x };
   pairs = record { harts = refl; each = λ h. refl };
 }
+
+-- seats of tables are of those of their names
+pub seats_named : {starts raises : TableId} (t : Tables) (s : Seats) → AreNamed starts raises t → AreSeatsOfBoth t s → AreSeatsIn starts raises s
+seats_named t s named are = ((are.0.0 ∙ named.0, are.0.1), (are.1.0 ∙ named.1, are.1.1))
+
+pub named_seats : {starts raises : TableId} (t : Tables) (s : Seats) → AreNamed starts raises t → AreSeatsIn starts raises s → AreSeatsOfBoth t s
+named_seats t s named are = ((are.0.0 ∙ sym named.0, are.0.1), (are.1.0 ∙ sym named.1, are.1.1))
 
 -- ---- where the hart stands
 -- after a durable call of which that is said

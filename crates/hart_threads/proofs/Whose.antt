@@ -5,6 +5,7 @@ use Rattle.board_model.specs.declared.durable.Entry.{Entry}
 use Rattle.hart.specs.State.{ArchState}
 use Rattle.machine.specs.Machine.{Machine}
 use Rattle.sbi.specs.declared.words.Word.{Word}
+use Rattle.sbi_calls.specs.Both.{Known}
 use Rattle.sbi_calls.specs.declared.words.Turned.{Turned}
 use Rattle.sbi_calls.specs.declared.words.Turned.TheVariants.{Made, Durable}
 use Rattle.susp.specs.declared.buses.Doze.{Doze}
@@ -59,8 +60,8 @@ module _ (size : Size) (answers : ℕ → Bool → Type 0) (hears : ℕ → Type
   loop_whose turns made a b whys.Turns told p = turns_whose made a b p.0
 
 -- of a hart that its end is told of
-pub hart_whose : (m : Machine) (turns : ℕ) (took : PartView BusTurn) (e : HartEnd) → IsOfHart m turns took e → took.who ≡ part_of_hart e.hart.id
-hart_whose m turns took e p =
+pub hart_whose : (m : Machine) (turns : ℕ) (took : PartView BusTurn) (later : Known) (e : HartEnd) → IsOfHart m turns took later e → took.who ≡ part_of_hart e.hart.id
+hart_whose m turns took later e p =
     let gone = p.1 in
     sym (ap (λ (d : PartView BusTurn). d.who) p.2)
     ∙ loop_whose m.size AnyAnswer AnyWord turns e.made gone.0 p.0 e.why (own_receipt e) gone.2

@@ -14,7 +14,7 @@ use Rattle.sbi_calls.specs.declared.tables.Tables.{Tables}
 use Rattle.susp.specs.Dozes.{doze_of}
 use Rattle.susp.specs.declared.buses.Doze.{Doze}
 use Rattle.hart_threads.specs.Bused.{fresh_part}
-use Rattle.hart_threads.specs.Seated.{IsSeated}
+use Rattle.hart_threads.specs.Seated.{AreOfHart, IsSeated}
 use Rattle.hart_threads.specs.declared.seated.ActingHart.{ActingHart}
 use Rattle.hart_threads.specs.Threads.{Seated, seated}
 
@@ -35,10 +35,10 @@ pub record BeginsAs (m : Machine) (h : ℕ) (a : Seated) : Type 0 where
   pub doze : a.doze ≡ doze_of h m.doze
   pub took : a.took ≡ fresh_part h
 
--- a hart with seats of its own, which is one of that board
+-- a hart with seats of its own and of no other, which is one of that board
 abbrev pub IsFromBoot : Machine → Tables → ArchState → Seats → Option Doze → Type 0
 IsFromBoot m t s seats doze =
-    IsSeated t s.id seats doze × BeginsAs m s.id (seated s (known seats) doze (fresh_part s.id))
+    IsSeated t s.id seats doze × AreOfHart s.id seats × BeginsAs m s.id (seated s (known seats) doze (fresh_part s.id))
 
 -- they are the harts of a board, that of the highest number first
 abbrev pub AreFromLast : List ActingHart → Type 0

@@ -2,10 +2,12 @@
 -- 2.0, chapter HSM.
 use Rattle.std.specs.Prelude.{◌≡◌, ℕ, suc, Bool, true, List, [], ◌∷◌, Option, Some, None}
 use Rattle.board_model.specs.declared.durable.Entry.{Entry}
-use Rattle.hsm.specs.Calls.{KeepsAll, StandsBy}
+use Rattle.hsm.specs.Calls.{KeepsAll, StandsBy, stage_of, state_in_word}
 use Rattle.hsm.specs.declared.state.State.{State}
-use Rattle.hsm.specs.Words.{HartView}
+use Rattle.hsm.specs.declared.view.Action.TheVariants.{Looked}
 use Rattle.machine.specs.Machine.{Machine}
+use Rattle.sbi_calls.specs.Both.{Known}
+use Rattle.sbi_calls.specs.Steps.{OneStep}
 use Rattle.tallies.specs.declared.book_views.PartView.{PartView}
 use Rattle.hart_threads.specs.declared.bus_turns.BusTurn.{BusTurn}
 use Rattle.hart_threads.specs.Begun.{BeginsAs}
@@ -53,16 +55,18 @@ abbrev pub HasGone : Machine → ℕ → ℕ → Seated → Why → Option (ℕ 
 HasGone m turns made b why told =
     (a : Seated) × BeginsAs m b.hart.id a × LoopOnce m.size AnyAnswer AnyWord turns made a b why told
 
--- the state that one look more tells of the hart, which stands there
-abbrev pub IsStateOf : State → ℕ → List HartView → Type 0
-IsStateOf state h vs = (later : List HartView) × KeepsAll vs later × StandsBy state h later
+-- the state that one look more tells of the hart, which stands there, and what its seats know after that look
+abbrev pub IsStateOf : State → ℕ → Known → Known → Type 0
+IsStateOf state h k later =
+    (found : ℕ) × (state ≡ state_in_word h found) × OneStep h (stage_of h k.harts) (Looked found) k later
+    × KeepsAll k.harts later.harts × StandsBy state h later.harts
 
 -- it is told of a hart that has gone so, with that part of the history of the bus: its registers, its state, and its copy of its doze;
--- and the receipt that it was told
-abbrev pub IsOfHart : Machine → ℕ → PartView BusTurn → HartEnd → Type 0
-IsOfHart m turns took e =
+-- and the receipt that it was told. Its last look was after its turns, and then its seats know just that.
+abbrev pub IsOfHart : Machine → ℕ → PartView BusTurn → Known → HartEnd → Type 0
+IsOfHart m turns took later e =
     (b : Seated) × HasGone m turns e.made b e.why (own_receipt e) × (b.took ≡ took)
-    × IsStateOf e.state b.hart.id b.known.harts × (e.hart ≡ b.hart) × (e.doze ≡ b.doze)
+    × IsStateOf e.state b.hart.id b.known later × (e.hart ≡ b.hart) × (e.doze ≡ b.doze)
 
 -- they are of the harts from that number on, one after another
 abbrev pub AreNumberedFrom : ℕ → List HartEnd → Type 0
@@ -70,7 +74,7 @@ AreNumberedFrom first [] = Unit {0}
 AreNumberedFrom first (e ∷ es) = (e.hart.id ≡ first) × AreNumberedFrom (suc first) es
 
 -- It ended for such a reason. What is told is of a hart of that board, which made just so many turns since the boot left it, with that
--- part of the history of the bus.
-abbrev pub IsEnding : Machine → ℕ → Bool → AfterConsole → PartView BusTurn → HartEnd → Type 0
-IsEnding m turns gated parting took e =
-    EndsBy turns gated parting e.made e.over e.why × ∥ IsOfHart m turns took e ∥₁
+-- part of the history of the bus, and whose seats then know that.
+abbrev pub IsEnding : Machine → ℕ → Bool → AfterConsole → PartView BusTurn → Known → HartEnd → Type 0
+IsEnding m turns gated parting took later e =
+    EndsBy turns gated parting e.made e.over e.why × ∥ IsOfHart m turns took later e ∥₁

@@ -5,7 +5,7 @@ ghost use Rattle.board_model.specs.declared.refusal.Refusal.TheVariants.{Memory}
 ghost use Rattle.sbi_calls.specs.Both.{AreTablesOf, known};
 ghost use Rattle.machine.specs.Held.{IsHeld};
 ghost use Rattle.hart_threads.specs.Bused.{fresh_part};
-ghost use Rattle.hart_threads.specs.Seated.{IsSeated};
+ghost use Rattle.hart_threads.specs.Seated.{AreNamed, AreOfHart, IsSeated};
 ghost use Rattle.hart_threads.specs.Threads.{seated};
 ghost use Rattle.hart_threads.specs.Begun.{AreFromLast, BeginsAs, IsFromBoot, board_of};
 ghost use Rattle.tallies.specs.Books.{fresh_from};
@@ -78,8 +78,8 @@ fn unbegun<'a, J: Threaded, E: Drop>(
 /// Runs each hart's loop on a thread of its own, and the console on this one; returns once the console and
 /// all threads have ended.
 ///
-/// The harts, seats, tables and bus are those of a board's parts, which the life's name has as its machine: each loop that
-/// ended is of a hart of that machine, which went from there by its own turns. `booted.doze` is the doze of that bus: it is
+/// The harts, seats, tables and bus are those of a board's parts, which the life's name has as its machine and tables: each loop that
+/// ended is of a hart of that machine, which went from there by its own turns, and has its seats of these tables. `booted.doze` is the doze of that bus: it is
 /// read before the bus goes behind its lock. Once a loop ended with the life, each other one
 /// ends before its next turn. The console goes on until it returns by itself, and where it returns first the harts
 /// run out their turns, unless it halts them by the board's `closing`, and as far as the gate lets them.
@@ -117,6 +117,7 @@ pub fn drive<
     requires fresh { All (λ p. p.receipts.told ≡ []) booted.parts.items }
     requires held { IsHeld board.shape.now booted.harts.items board.tables.now (Some booted.seats) booted.doze }
     requires machine { J.machine ≡ board_of board.shape.now J.memory booted.doze booted.harts.items booted.seats }
+    requires tables { AreNamed J.starts J.raises board.tables.now }
     ensures said { IfOk result (λ r. K.post console side r.1) }
     ensures loops { IfOk result (λ r. vec_len r.0 ≡ vec_len booted.harts) }
     ensures refused { IfErr result (λ e. (e.side ≡ side) × (e.refusal ≡ Memory)) }
@@ -177,6 +178,8 @@ struct HartWork<'r, 'g, 'a, 'c, 's, R, G: Gate, D: Disk + Drop, J: Threaded> {
     ghost sized: { board.shape.now ≡ J.size },
     ghost named: { J.machine.size ≡ board.shape.now },
     ghost tables: { AreTablesOf board.shape.now board.tables.now },
+    ghost theirs: { AreNamed J.starts J.raises board.tables.now },
+    ghost alone: { AreOfHart acting.hart.id acting.seats },
     ghost begins: { ∥ BeginsAs J.machine acting.hart.id
         (seated acting.hart (known acting.seats) acting.doze (fresh_part acting.hart.id)) ∥₁ },
     ghost fresh: { parts.receipts.told ≡ [] },
@@ -256,6 +259,7 @@ fn works_of<
     requires runs { map (λ p. p.run) parts.items ≡ fresh_from 2 (vec_len parts) }
     requires gated { (h n : ℕ) → G.answers gate.now h n false → J.gated ≡ true }
     requires tables { AreTablesOf board.shape.now board.tables.now }
+    requires theirs { AreNamed J.starts J.raises board.tables.now }
     requires begun { All (λ a. IsFromBoot J.machine board.tables.now a.hart a.seats a.doze) all.items }
     requires parts { vec_len parts ≡ vec_len all }
     requires fresh { All (λ p. p.receipts.told ≡ []) parts.items }
@@ -287,6 +291,7 @@ fn works_of<
 fn known_begun<J: Threaded>(acting: &ActingHart, tables: &Tables)
     requires { IsFromBoot J.machine tables.now acting.now.hart acting.now.seats acting.now.doze }
     ensures seated { IsSeated tables.now acting.now.hart.id acting.now.seats acting.now.doze }
+    ensures alone { AreOfHart acting.now.hart.id acting.now.seats }
     ensures begins { ∥ BeginsAs J.machine acting.now.hart.id
         (seated acting.now.hart (known acting.now.seats) acting.now.doze (fresh_part acting.now.hart.id)) ∥₁ }
 {

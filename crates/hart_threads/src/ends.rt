@@ -4,7 +4,7 @@ ghost use Rattle.std.specs.Prelude.{◌≡◌, ◌<◌, IsTrue, is_some};
 ghost use Rattle.hsm.specs.Calls.{StandsBy};
 ghost use Rattle.sbi_calls.specs.Both.{AreSeatsOfBoth, Known, harts_of_both, known, views};
 ghost use Rattle.hart_threads.specs.Ends.{EndsBy, HasGone, IsClosedBy, IsEnding, IsStateOf, own_receipt, receipt_by};
-ghost use Rattle.hart_threads.specs.Seated.{StandsAfter};
+ghost use Rattle.hart_threads.specs.Seated.{AreNamed, AreOfHart, AreSeatsIn, StandsAfter};
 ghost use Rattle.hart_threads.specs.Threads.{seated};
 ghost use Rattle.hart_threads.specs.declared.loops.Why.TheVariants.{Life};
 
@@ -20,16 +20,19 @@ use sbi_calls::{Seats, Tables};
 use susp::Doze;
 
 /// A loop that ended, and the state of its hart then. Its hart is one of the life's board, and went from where the boot left it
-/// to where it stands by just the turns that it made. Where it ended the life the halt was set.
+/// to where it stands by just the turns that it made; after these it made one look at the hart table. Its seats are of the life's
+/// tables, and of its hart alone. Where it ended the life the halt was set.
 #[derive(Drop)]
 pub struct Rested<'a, J: Threaded> {
     pub ended: Ended<'a, J>,
     state: State,
     set: Option<HaltSet<J>>,
     pub ghost halted: { (ended.why ≡ Life → IsTrue (is_some set)) },
+    pub ghost theirs: { AreSeatsIn J.starts J.raises ended.local.seats },
+    pub ghost alone: { AreOfHart ended.hart.id ended.local.seats },
     pub ghost gone: { ∥ ((k : Known) × HasGone J.machine J.turns ended.made
         (seated ended.hart k ended.local.doze ended.local.run) ended.why ended.told
-        × IsStateOf state ended.hart.id k.harts) ∥₁ },
+        × IsStateOf state ended.hart.id k (known ended.local.seats)) ∥₁ },
 }
 
 /// How a hart's loop ended and where the hart then stood, as plain data that does not name the life.
@@ -56,7 +59,9 @@ pub(crate) fn at_rest<'a, J: Threaded>(
     tables: &Tables,
 ) -> Rested<'a, J>
     requires halted { ended.why ≡ Life → IsTrue (is_some set) }
+    requires named { AreNamed J.starts J.raises tables.now }
     requires seats { AreSeatsOfBoth tables.now ended.local.seats }
+    requires alone { AreOfHart ended.hart.id ended.local.seats }
     requires hart { ended.hart.id < harts_of_both tables.now }
     requires stands { StandsAfter ended.why ended.local.doze ended.hart.id ended.local.seats }
     requires gone { ∥ HasGone J.machine J.turns ended.made
@@ -152,7 +157,8 @@ impl<'a, J: Threaded> Rested<'a, J> {
     pub fn end(&self, parted: &Parted<'a, J>) -> HartEnd
         ensures hart { result.hart ≡ self.now.ended.hart }
         ensures told { own_receipt result ≡ self.now.ended.told }
-        ensures well { IsEnding J.machine J.turns J.gated parted.now.token.value self.now.ended.local.run result }
+        ensures well { IsEnding J.machine J.turns J.gated parted.now.token.value self.now.ended.local.run
+            (known self.now.ended.local.seats) result }
     {
         let ended = &self.ended;
         let over = over_by(ended, parted);

@@ -10,8 +10,8 @@ use tallies::Journal;
 
 /// The name of the life of a board on threads, beside that of its journal: how many turns each hart is given, the lock
 /// in which the console says once what the harts do when it has left, the word that halts all loops, whether the gate may end
-/// one, and the board as the boot left it, with its memory, its harts and its tables. A type that has it stands for that life
-/// alone.
+/// one, the board as the boot left it, with its memory, its harts and its tables, and which hart table and which table of pending
+/// interrupts these are. A type that has it stands for that life alone.
 pub trait Threaded: Journal {
     ghost turns: { ℕ };
 
@@ -22,6 +22,10 @@ pub trait Threaded: Journal {
     ghost gated: { Bool };
 
     ghost machine: { Machine };
+
+    ghost starts: { TableId };
+
+    ghost raises: { TableId };
 }
 
 impl Threaded for Brand {
@@ -34,4 +38,8 @@ impl Threaded for Brand {
     ghost gated = { false };
 
     ghost machine = { resting one_page 0 };
+
+    ghost starts = { no_book };
+
+    ghost raises = { no_book };
 }

@@ -6,6 +6,7 @@ ghost use Rattle.store.specs.Leaves.{IsIdle};
 ghost use Rattle.store.specs.Views.{disk_of, found_state, failures_at_open};
 ghost use Rattle.hart_threads.specs.Begun.{board_of};
 ghost use Rattle.hart_threads.specs.Bused.{begun_bus};
+ghost use Rattle.hart_threads.specs.Seated.{AreNamed};
 ghost use Rattle.hart_threads.specs.Views.{bus_parts};
 ghost use Rattle.machine.specs.Held.{IsHeld};
 ghost use Rattle.tallies.specs.BookViews.{id_of, parts_of};
@@ -298,6 +299,7 @@ fn driven_as<J: Threaded + Send + Sync, R: Threads + Wait + Clock + Abort + Sync
     requires moment { (disk_of parts.store).moment ≡ J.moment }
     requires earlier { (t : ℕ) (c : Content) → (disk_of parts.store).since t c → J.earlier t c }
     requires machine { J.machine ≡ board_of shape.now J.memory parts.bus.doze parts.harts.items parts.seats }
+    requires tables { AreNamed J.starts J.raises parts.tables }
     requires driven { (marks.1.0.id ≡ J.parting) × (marks.1.1 ≡ J.halt) × (trial.turns ≡ J.turns) × (J.gated ≡ true) }
     ensures { IsIdle (⟦<SimDisk as Disk>⟧.facts result.disk) }
 {

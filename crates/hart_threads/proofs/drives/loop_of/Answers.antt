@@ -1,9 +1,10 @@
-use Rattle.std.proofs.Common.{◌∙◌, ap, sym, subst}
+use Rattle.std.proofs.Common.{◌∙◌, ℕ, ap, sym, subst}
 use Rattle.std.proofs.Math.Logic.{∥∥₁_map}
 use Rattle.sbi_calls.specs.Both.{known}
 use Rattle.hart_threads.specs.Begun.{BeginsAs}
 use Rattle.tallies.specs.declared.book_views.PartView.{PartView}
 use Rattle.hart_threads.specs.declared.bus_turns.BusTurn.{BusTurn}
+use Rattle.hart_threads.specs.Seated.{AreOfHart}
 use Rattle.hart_threads.specs.Threads.{seated}
 use Rattle.hart_threads.proofs.Looping.{has_gone}
 use Rattle.hart_threads.proofs.drives.loop_of.Goals as goal
@@ -20,3 +21,10 @@ at_rest-requires-clause-gone g c =
 
 pub hart_loop-ended-requires-clause-run : goal.hart_loop-ended-requires-clause-run
 hart_loop-ended-requires-clause-run g c κs within = ap (λ (d : PartView BusTurn). d.who) c.args.work.numbered
+
+pub at_rest-requires-clause-alone : goal.at_rest-requires-clause-alone
+at_rest-requires-clause-alone g c =
+    let w = c.args.work in
+    let loop = c.hart_loop-ended in
+    subst (λ (k : ℕ). AreOfHart k loop.result.local.seats) (sym loop.ensures.id)
+    (loop.ensures.gives.others.harts ∙ w.alone.0, loop.ensures.gives.pairs.harts ∙ w.alone.1)
