@@ -1,18 +1,31 @@
 -- The parts of a history that has ended, and what they say of it.
 use Rattle.std.proofs.Common.{◌≡◌, ◌∙◌, ℕ, suc, Bool, true, false, List, [], ◌∷◌, ◌++◌, ◌==◌, All, Option, Some, None, length, if◌then◌else◌, arith, inl, inr, refl, sym, ap, subst}
 use Rattle.std.proofs.lemmas.Bool.Decides.{nat_tests}
-use Rattle.std.specs.Prelude.{IfSome}
+use Rattle.std.proofs.lemmas.List.{append_assoc}
+use Rattle.std.proofs.lemmas.List.Elements.{All-push}
+use Rattle.std.specs.Prelude.{IfSome, get_or}
 use Rattle.std.proofs.Math.Logic.{∥∥₁_map, ∥∥₁_map₂}
 use Rattle.board_model.specs.Durable.{Change}
 use Rattle.board_model.specs.Shapes.{Size}
+use Rattle.hart.specs.State.{ArchState}
+use Rattle.hsm.specs.Words.{HartView}
+use Rattle.hsm.specs.declared.view.Action.{Action}
+use Rattle.hsm.specs.declared.view.Stage.{Stage}
+use Rattle.ipi.specs.Ledger.{PendingView}
+use Rattle.ipi.specs.declared.view.IpiAction.{IpiAction}
 use Rattle.machine.specs.Machine.{Machine}
+use Rattle.sbi_calls.specs.Both.{Known, known, pending_views, views}
+use Rattle.sbi_calls.specs.declared.tables.Seats.{Seats}
 use Rattle.store.specs.Lives.{Life}
 use Rattle.susp.specs.declared.buses.Bus.{Bus}
 use Rattle.tallies.specs.Books.{Each, IsPart, part_view, told_by}
-use Rattle.tallies.specs.Logs.{Log}
+use Rattle.tallies.specs.Logs.{IsOfLog, Log, actions_in, log_places}
+use Rattle.tallies.specs.Notes.{numbers}
+use Rattle.tallies.specs.declared.view.HartNotes.{HartNotes}
 use Rattle.tallies.specs.declared.book_views.PartView.{PartView}
 use Rattle.hart_threads.specs.Bused.{AreCalls, AreSaved, AreWakes, AsksSo, FoundSo, HasFailed, HasSlept, IsMoment, IsSaving, IsWaking, LooksFor, Makes, SavedBy, WasTold, begun_bus, console_part, count_of, part_of_hart, store_part}
 use Rattle.hart_threads.specs.Ends.{IsEnding, IsOfHart}
+use Rattle.hart_threads.specs.Seated.{AreOfHart}
 use Rattle.hart_threads.specs.declared.ends.HartEnd.{HartEnd}
 use Rattle.hart_threads.specs.Carried.{AllCarry, Carries, IsCarriedBy}
 use Rattle.hart_threads.specs.declared.bus_turns.BusTurn.{BusTurn}
@@ -20,7 +33,7 @@ use Rattle.hart_threads.specs.declared.bus_turns.HeldCall.{HeldCall}
 use Rattle.hart_threads.specs.declared.closing.AfterConsole.{AfterConsole}
 use Rattle.hart_threads.proofs.Bussing.{carried_more}
 use Rattle.hart_threads.proofs.Whose.{hart_whose}
-use Rattle.board_session.specs.Histories.{EndsHistory, EndsWith, IsHistory, IsOneOf, IsUnsaved, took_by}
+use Rattle.board_session.specs.Histories.{EndsHistory, EndsWith, HasTables, IsAmong, IsHistory, IsOneOf, IsUnsaved, known_by, noted_by, took_by}
 
 -- ---- a life that carries no memory yet
 abbrev none : ℕ → ℕ → ℕ → List ℕ → Type 0
@@ -45,37 +58,109 @@ no_history size memory life journal doubt issued down unsaved =
       doubted = subst (λ (o : Option Change). (c : Change) → o ≡ Some c → Carries (IsMoment HasFailed size [] (begun_bus memory)) c) (sym down) carried.doubt;
     } ∣₁
 
--- ---- parts that are back
-one_of : (P : PartView BusTurn → Type 0) (d : PartView BusTurn) (ps : List (PartView BusTurn)) → IsOneOf d ps → Each P ps → P d
+-- ---- what is among what came back
+one_of : {V : Type 0} (P : V → Type 0) (d : V) (ps : List V) → IsOneOf d ps → Each P ps → P d
 one_of P d [] is all = absurd is
 one_of P d (p ∷ ps) (inl same) all = subst P same all.0
 one_of P d (p ∷ ps) (inr rest) all = one_of P d ps rest all.1
 
+one_more : {V : Type 0} (d : V) (ps qs : List V) → IsOneOf d ps → IsOneOf d (ps ++ qs)
+one_more d [] qs is = absurd is
+one_more d (p ∷ ps) qs (inl same) = inl same
+one_more d (p ∷ ps) qs (inr rest) = inr (one_more d ps qs rest)
+
+one_there : {V : Type 0} (d : V) (ps qs : List V) → IsOneOf d (ps ++ d ∷ qs)
+one_there d [] qs = inl refl
+one_there d (p ∷ ps) qs = inr (one_there d ps qs)
+
+each_of : {V : Type 0} (P : V → Type 0) (vs ps : List V) → Each (λ v. IsOneOf v ps) vs → Each P ps → Each P vs
+each_of P [] ps are all = tt
+each_of P (v ∷ vs) ps are all = (one_of P v ps are.0 all, each_of P vs ps are.1 all)
+
+each_more : {V : Type 0} (vs ps qs : List V) → Each (λ v. IsOneOf v ps) vs → Each (λ v. IsOneOf v (ps ++ qs)) vs
+each_more [] ps qs are = tt
+each_more (v ∷ vs) ps qs are = (one_more v ps qs are.0, each_more vs ps qs are.1)
+
+each_there : {V : Type 0} (ps vs : List V) → Each (λ v. IsOneOf v (ps ++ vs)) vs
+each_there {V} ps [] = tt
+each_there {V} ps (v ∷ vs) = (one_there v ps vs, subst (λ (l : List V). Each (λ w. IsOneOf w l) vs) (append_assoc ps (v ∷ []) vs) (each_there (ps ++ v ∷ []) vs))
+
+among_more : (starts more : List HartView) (raises also : List PendingView) (h : ℕ) (k : Known) → IsAmong starts raises h k → IsAmong (starts ++ more) (raises ++ also) h k
+among_more starts more raises also h k is = (is.0, is.1, each_more k.harts starts more is.2, each_more k.pairs raises also is.3)
+
+-- the seats of one hart more
+among_these : (starts : List HartView) (raises : List PendingView) (h : ℕ) (s : Seats) → AreOfHart h s → IsAmong (starts ++ views s) (raises ++ pending_views s) h (known s)
+among_these starts raises h s of = (of.0, of.1, each_there starts (views s), each_there raises (pending_views s))
+
+-- ---- what a log has of one hart
+-- those of one hart alone that are in a log
+noted_in : {S D : Type 0} (log : Log D) (h : ℕ) (vs : List (HartNotes S D)) → numbers vs ≡ h ∷ [] → Each (λ v. IsOfLog log v.hart v.actions v.places) vs → (stage : S) × (vs ≡ noted_by log h stage)
+noted_in log h [] is of = absurd (cc)
+noted_in log h (v ∷ []) is of =
+    let same : v.hart ≡ h = ap (λ (l : List ℕ). get_or l 0 0) is in
+    let did : v.actions ≡ actions_in h log = of.0.0 ∙ ap (λ (k : ℕ). actions_in k log) same in
+    let at : v.places ≡ log_places h log = of.0.1 ∙ ap (λ (k : ℕ). log_places k log) same in
+    (v.stage, λ i. (record { hart = same i; stage = v.stage; actions = did i; places = at i }) ∷ [])
+noted_in log h (v ∷ w ∷ vs) is of = absurd (let long : suc (suc (length (numbers vs))) ≡ 1 = ap (λ (l : List ℕ). length l) is in omega (arith, long))
+
+known_in : (starts : Log Action) (raises : Log IpiAction) (h : ℕ) (k : Known) → numbers k.harts ≡ h ∷ [] → numbers k.pairs ≡ h ∷ [] → Each (λ v. IsOfLog starts v.hart v.actions v.places) k.harts → Each (λ v. IsOfLog raises v.hart v.actions v.places) k.pairs
+    → (stage : Stage) × (k ≡ known_by starts raises h stage)
+known_in starts raises h k one also did sent =
+    let x = noted_in starts h k.harts one did in
+    let y = noted_in raises h k.pairs also sent in
+    (x.0, λ i. record { harts = x.1 i; pairs = y.1 i })
+
+-- ---- parts that are back
 part_is : (log : Log BusTurn) (d : PartView BusTurn) (k : ℕ) → IsPart log d → d.who ≡ k → d ≡ part_view k (told_by k log)
 part_is log d k is who = let told : d.told ≡ told_by k log = is ∙ ap (λ (j : ℕ). told_by j log) who in λ i. record { who = who i; told = told i }
 
 module _ (machine : Machine) (turns : ℕ) (gated : Bool) (parting : AfterConsole) where
   -- one more is back
-  pub one_with : (d : PartView BusTurn) (parts : List (PartView BusTurn)) (e : HartEnd) → IsEnding machine turns gated parting d e → EndsWith machine turns gated parting (d ∷ parts) e
-  one_with d parts e is = (d, inl refl, is)
+  pub one_with : (d : PartView BusTurn) (parts : List (PartView BusTurn)) (starts : List HartView) (raises : List PendingView) (s : Seats) (of : ArchState) (e : HartEnd) → e.hart ≡ of → AreOfHart of.id s → IsEnding machine turns gated parting d (known s) e
+      → EndsWith machine turns gated parting (d ∷ parts) (starts ++ views s) (raises ++ pending_views s) e
+  one_with d parts starts raises s of e same alone is = (d, known s, inl refl, subst (λ (a : ArchState). IsAmong (starts ++ views s) (raises ++ pending_views s) a.id (known s)) (sym same) (among_these starts raises of.id s alone), is)
 
-  pub ends_with : (d : PartView BusTurn) (parts : List (PartView BusTurn)) (es : List HartEnd) → All (EndsWith machine turns gated parting parts) es → All (EndsWith machine turns gated parting (d ∷ parts)) es
-  ends_with d parts es all = λ k e lt. let is = all k e lt in (is.0, inr is.1, is.2)
+  pub ends_with : (d : PartView BusTurn) (parts : List (PartView BusTurn)) (starts more : List HartView) (raises also : List PendingView) (es : List HartEnd) → All (EndsWith machine turns gated parting parts starts raises) es
+      → All (EndsWith machine turns gated parting (d ∷ parts) (starts ++ more) (raises ++ also)) es
+  ends_with d parts starts more raises also es all = λ k e lt. let is = all k e lt in (is.0, is.1, inr is.2, among_more starts more raises also _ is.1 is.3, is.4)
+
+  -- and its end after the others
+  pub all_with : (d : PartView BusTurn) (before parts : List (PartView BusTurn)) (starts starts' : List HartView) (raises raises' : List PendingView) (s : Seats) (of : ArchState) (es es' : List HartEnd) (e : HartEnd)
+      → parts ≡ d ∷ before → starts' ≡ starts ++ views s → raises' ≡ raises ++ pending_views s → es' ≡ es ++ e ∷ [] → e.hart ≡ of → AreOfHart of.id s → IsEnding machine turns gated parting d (known s) e
+      → All (EndsWith machine turns gated parting before starts raises) es → All (EndsWith machine turns gated parting parts starts' raises') es'
+  all_with d before parts starts starts' raises raises' s of es es' e back came sent grown same alone is all =
+      let P = EndsWith machine turns gated parting (d ∷ before) (starts ++ views s) (raises ++ pending_views s) in
+      subst (λ (ps : List (PartView BusTurn)). All (EndsWith machine turns gated parting ps starts' raises') es') (sym back)
+      (subst (λ (vs : List HartView). All (EndsWith machine turns gated parting (d ∷ before) vs raises') es') (sym came)
+      (subst (λ (ws : List PendingView). All (EndsWith machine turns gated parting (d ∷ before) (starts ++ views s) ws) es') (sym sent)
+      (subst (λ (xs : List HartEnd). All P xs) (sym grown)
+      (All-push P es e (ends_with d before starts (views s) raises (pending_views s) es all) (one_with d before starts raises s of e same alone is)))))
 
   -- all are
-  abbrev pub EndedBy : Log BusTurn → HartEnd → Type 0
-  EndedBy log e = IsEnding machine turns gated parting (took_by log e.hart.id) e
+  abbrev pub EndedBy : Log BusTurn → Log Action → Log IpiAction → HartEnd → Type 0
+  EndedBy log starts raises e = (stage : Stage) × IsEnding machine turns gated parting (took_by log e.hart.id) (known_by starts raises e.hart.id stage) e
 
-  ends_by : (log : Log BusTurn) (d : PartView BusTurn) (e : HartEnd) → IsPart log d → IsEnding machine turns gated parting d e → IsEnding machine turns gated parting (took_by log e.hart.id) e
-  ends_by log d e is ending = (
+  ends_by : (log : Log BusTurn) (d : PartView BusTurn) (later : Known) (e : HartEnd) → IsPart log d → IsEnding machine turns gated parting d later e → IsEnding machine turns gated parting (took_by log e.hart.id) later e
+  ends_by log d later e is ending = (
     ending.0,
-    ∥∥₁_map ending.1 (λ (of : IsOfHart machine turns d e).
-        let so : IsOfHart machine turns (took_by log e.hart.id) e = subst (λ (p : PartView BusTurn). IsOfHart machine turns p e) (part_is log d (part_of_hart e.hart.id) is (hart_whose machine turns d e of)) of in so),
+    ∥∥₁_map ending.1 (λ (of : IsOfHart machine turns d later e).
+        let so : IsOfHart machine turns (took_by log e.hart.id) later e = subst (λ (p : PartView BusTurn). IsOfHart machine turns p later e) (part_is log d (part_of_hart e.hart.id) is (hart_whose machine turns d later e of)) of in so),
   )
 
-  pub all_ends_by : (log : Log BusTurn) (parts : List (PartView BusTurn)) (es : List HartEnd) → Each (IsPart log) parts → All (EndsWith machine turns gated parting parts) es
-      → All (λ e. IsEnding machine turns gated parting (took_by log e.hart.id) e) es
-  all_ends_by log parts es told all = λ k e lt. let is = all k e lt in ends_by log is.0 _ (one_of (IsPart log) is.0 parts is.1 told) is.2
+  one_ends_by : (log : Log BusTurn) (starts : Log Action) (raises : Log IpiAction) (parts : List (PartView BusTurn)) (vs : List HartView) (ws : List PendingView) (e : HartEnd) → Each (IsPart log) parts
+      → Each (λ v. IsOfLog starts v.hart v.actions v.places) vs → Each (λ w. IsOfLog raises w.hart w.actions w.places) ws → EndsWith machine turns gated parting parts vs ws e → EndedBy log starts raises e
+  one_ends_by log starts raises parts vs ws e told did sent is =
+      let am = is.3 in
+      let knows = known_in starts raises e.hart.id is.1 am.0 am.1 (each_of (λ v. IsOfLog starts v.hart v.actions v.places) is.1.harts vs am.2 did) (each_of (λ w. IsOfLog raises w.hart w.actions w.places) is.1.pairs ws am.3 sent) in
+      (knows.0, subst (λ (l : Known). IsEnding machine turns gated parting (took_by log e.hart.id) l e) knows.1 (ends_by log is.0 is.1 e (one_of (IsPart log) is.0 parts is.2 told) is.4))
+
+  pub all_ends_by : (log : Log BusTurn) (starts : Log Action) (raises : Log IpiAction) (parts : List (PartView BusTurn)) (vs : List HartView) (ws : List PendingView) (es : List HartEnd) → Each (IsPart log) parts
+      → Each (λ v. IsOfLog starts v.hart v.actions v.places) vs → Each (λ w. IsOfLog raises w.hart w.actions w.places) ws → All (EndsWith machine turns gated parting parts vs ws) es → All (EndedBy log starts raises) es
+  all_ends_by log starts raises parts vs ws es told did sent all = λ k e lt. one_ends_by log starts raises parts vs ws _ told did sent (all k e lt)
+
+-- no step was made
+pub no_steps : (harts : ℕ) → HasTables harts [] []
+no_steps harts = record { first = 0; started = tt; raised = tt }
 
 -- ---- a memory that the store found as it looked for a call
 equal : (a b : ℕ) → (a == b) ≡ true → a ≡ b

@@ -1,13 +1,22 @@
--- The one history of the bus of a session, and what it has of each hart, of the store and of the console. Source: docs/THREADS.md,
--- "The bus"; docs/CONSOLE.md.
+-- The one history of the bus of a session, and what it has of each hart, of the store and of the console; and the one log of each of its
+-- two tables, and what it has of each hart. Source: docs/THREADS.md, "The bus"; docs/TABLES.md, "Words"; docs/CONSOLE.md.
 use Rattle.std.specs.Prelude.{◌≡◌, ◌⊎◌, ◌<◌, ◌+◌, ℕ, Bool, false, List, [], ◌∷◌, All, Option, Some, None, length}
 use Rattle.board_model.specs.Durable.{Change}
 use Rattle.board_model.specs.Shapes.{Size}
+use Rattle.hsm.specs.Rule.{reading as start_reading, first_word as start_words}
+use Rattle.hsm.specs.Words.{HartView}
+use Rattle.hsm.specs.declared.view.Action.{Action}
+use Rattle.hsm.specs.declared.view.Stage.{Stage}
+use Rattle.ipi.specs.Ledger.{PendingView, reading as raise_reading, first_word as raise_words}
+use Rattle.ipi.specs.declared.view.IpiAction.{IpiAction}
 use Rattle.machine.specs.Machine.{Machine}
+use Rattle.sbi_calls.specs.Both.{Known}
 use Rattle.store.specs.Lives.{Life}
 use Rattle.susp.specs.declared.buses.Bus.{Bus}
 use Rattle.tallies.specs.Books.{Each, IsPart, part_view, told_by}
-use Rattle.tallies.specs.Logs.{Log}
+use Rattle.tallies.specs.Logs.{Log, IsTrueLog, actions_in, log_places}
+use Rattle.tallies.specs.Notes.{hart_notes, numbers}
+use Rattle.tallies.specs.declared.view.HartNotes.{HartNotes}
 use Rattle.tallies.specs.declared.book_views.PartView.{PartView}
 use Rattle.hart_threads.specs.Bused.{AreCalls, HasCalls, HasFailed, HasSlept, IsMoment, IsSaving, IsWaking, Made, Makes, begun_bus, console_part, count_of, part_of_hart, store_part}
 use Rattle.hart_threads.specs.Ends.{AreNumberedFrom, IsEnding}
@@ -30,6 +39,24 @@ harts_after lefts.Unwritten = Halt
 abbrev pub took_by : Log BusTurn → ℕ → PartView BusTurn
 took_by log h = part_view (part_of_hart h) (told_by (part_of_hart h) log)
 
+-- ---- the tables
+-- what a log of a table has of the hart of that number, which stands at that stage: its steps, each at its place
+abbrev pub noted_by : {S D : Type 0} → Log D → ℕ → S → List (HartNotes S D)
+noted_by log h stage = hart_notes h stage (actions_in h log) (log_places h log) ∷ []
+
+-- what the logs of the hart table and of the pending interrupts have of it
+abbrev pub known_by : Log Action → Log IpiAction → ℕ → Stage → Known
+known_by starts raises h stage = record { harts = noted_by starts h stage; pairs = noted_by raises h tt }
+
+-- There is one log of all steps of each table of a session. Each step is of a hart of the board, and found what the steps before it had
+-- left of the words that the table was made with: those of a hart table with that hart STARTED and every other one STOPPED, and those of
+-- no pending interrupt.
+pub record HasTables (harts : ℕ) (starts : Log Action) (raises : Log IpiAction) : Type 0 where
+  pub first : ℕ
+  pub started : IsTrueLog start_reading (start_words first) harts starts
+  pub raised : IsTrueLog raise_reading raise_words harts raises
+
+-- ---- the bus
 -- There is one history of the bus of a session. Its turns made what the bus was at the end, one after another, of the memory that the
 -- power-on left. Each is of a hart, of the store or of the console. Directly after each durable call of a hart the store looked for that
 -- very call, and at no other time. The store's leave the bus as it was. The console's wake a board that dozes, and there are as many as it
@@ -47,19 +74,22 @@ pub record IsHistory (size : Size) (memory : List ℕ) (journal : List Change) (
   pub doubted : (c : Change) → doubt ≡ Some c → Carries (IsMoment HasFailed size log (begun_bus memory)) c
 
 -- Each hart of that board had a loop, and there is an end of each, from hart 0 on. It went from where the power-on left it by just the
--- turns that its loop made, and what the history has of it is what those turns did with the bus. It made all the turns that each hart is
+-- turns that its loop made, and what the history has of it is what those turns did with the bus. What the logs of the two tables have of it
+-- is what the board's harts had done there before, what those turns did, and the look at its end. It made all the turns that each hart is
 -- given, or a hart ended the life by a command that was acknowledged, or the console had left so that the harts are halted. Where the
 -- console was not begun there is no end of any.
-abbrev pub AreDriven : ℕ → Machine → ℕ → Log BusTurn → Option Left → List HartEnd → Type 0
-AreDriven harts machine turns log None ends = ends ≡ []
-AreDriven harts machine turns log (Some left) ends =
+abbrev pub AreDriven : ℕ → Machine → ℕ → Log BusTurn → Log Action → Log IpiAction → Option Left → List HartEnd → Type 0
+AreDriven harts machine turns log starts raises None ends = ends ≡ []
+AreDriven harts machine turns log starts raises (Some left) ends =
     (length ends ≡ harts) × AreNumberedFrom 0 ends
-    × All (λ e. IsEnding machine turns false (harts_after left) (took_by log e.hart.id) e) ends
+    × All (λ e. (stage : Stage) × IsEnding machine turns false (harts_after left) (took_by log e.hart.id)
+    (known_by starts raises e.hart.id stage) e) ends
 
--- there is one such history, and it is the one of the harts
+-- there is one such history, and one such log of each table, and they are those of the harts
 abbrev pub HasHistory : Size → Machine → ℕ → List Change → Option Change → ℕ → Option Left → List HartEnd → Type 0
 HasHistory size machine turns journal doubt woken left ends =
-    (log : Log BusTurn) × AreDriven size.harts machine turns log left ends
+    (log : Log BusTurn) × (starts : Log Action) × (raises : Log IpiAction)
+    × AreDriven size.harts machine turns log starts raises left ends × HasTables size.harts starts raises
     × ∥ IsHistory size machine.memory journal doubt woken log ∥₁
 
 -- a life in which no suspension was asked for
@@ -68,14 +98,22 @@ IsUnsaved life = IsCarriedBy (λ hart address opaque memory. ⊥) (λ hart addre
 
 -- ---- while its parts come back
 -- a part is one of these
-abbrev pub IsOneOf : PartView BusTurn → List (PartView BusTurn) → Type 0
+abbrev pub IsOneOf : {V : Type 0} → V → List V → Type 0
 IsOneOf d [] = ⊥
 IsOneOf d (p ∷ ps) = (p ≡ d) ⊎ IsOneOf d ps
 
--- a loop ended so whose part is one of these
-abbrev pub EndsWith : Machine → ℕ → Bool → AfterConsole → List (PartView BusTurn) → HartEnd → Type 0
-EndsWith machine turns gated parting parts e =
-    (d : PartView BusTurn) × IsOneOf d parts × IsEnding machine turns gated parting d e
+-- what the seats of that hart know is among these, and it is of that hart alone
+abbrev pub IsAmong : List HartView → List PendingView → ℕ → Known → Type 0
+IsAmong starts raises h k =
+    (numbers k.harts ≡ h ∷ []) × (numbers k.pairs ≡ h ∷ []) × Each (λ v. IsOneOf v starts) k.harts
+    × Each (λ v. IsOneOf v raises) k.pairs
+
+-- a loop ended so whose part is one of these, and what its hart's seats know is among these
+abbrev pub EndsWith : Machine → ℕ → Bool → AfterConsole → List (PartView BusTurn) → List HartView → List PendingView → HartEnd
+    → Type 0
+EndsWith machine turns gated parting parts starts raises e =
+    (d : PartView BusTurn) × (later : Known) × IsOneOf d parts × IsAmong starts raises e.hart.id later
+    × IsEnding machine turns gated parting d later e
 
 -- the history ended, with these parts of it: the store's, the console's, and others
 pub record EndsHistory (size : Size) (memory : List ℕ) (log : Log BusTurn) (store console : PartView BusTurn)

@@ -8,6 +8,7 @@ ghost use Rattle.tallies.specs.Books.{fresh_from};
 ghost use Rattle.hart_threads.specs.Begun.{board_of};
 ghost use Rattle.hart_threads.specs.Bused.{begun_bus};
 ghost use Rattle.hart_threads.specs.Heard.{heard_nothing};
+ghost use Rattle.hart_threads.specs.Seated.{AreNamed};
 ghost use Rattle.hart_threads.specs.Views.{parts_with};
 ghost use Rattle.machine.specs.Held.{IsHeld};
 ghost use Rattle.store.specs.Leaves.{IsIdle};
@@ -57,10 +58,10 @@ pub(crate) struct Hardware {
 
 /// The same, with the bus as its threads share it.
 #[derive(Drop)]
-struct SharedHardware<J: Journal> {
-    shape: Shape,
-    tables: Tables,
-    bus: SharedBus<J>,
+pub(crate) struct SharedHardware<J: Journal> {
+    pub(crate) shape: Shape,
+    pub(crate) tables: Tables,
+    pub(crate) bus: SharedBus<J>,
 }
 
 /// The streams of a console, its part of the receipts, and what it heard beside them.
@@ -139,6 +140,7 @@ pub(crate) fn run_board<
     requires store { (size_of_store store ≡ J.size) × (found_state store ≡ J.found) × (journal_of store ≡ J.issued) }
     requires bus { hardware.bus ≡ begun_bus J.memory }
     requires machine { J.machine ≡ board_of hardware.shape J.memory on.doze on.harts.items on.seats }
+    requires tables { AreNamed J.starts J.raises hardware.tables }
     requires unsaved { IsUnsaved (life_of store) }
     requires turns { on.turns ≡ J.turns }
     requires lock { provisions.lock.id ≡ J.parting }
@@ -204,12 +206,19 @@ pub(crate) fn run_board<
     };
     let closing = Closing::new(lock, halt);
     let shared = SharedHardware { shape, tables, bus };
-    let (whole, bus, driven) = drive_beside_console(
+    let (whole, shared, driven) = drive_beside_console(
         rt, alloc, &closing, shared, whole, booted, side,
     );
     match driven {
-        Ok((loops, talked)) => after_console(rt, (whole, bus), loops, talked, boot, room),
-        Err(back) => without_console(alloc, (whole, bus), back.loops, back.parts, back.side, boot),
+        Ok((loops, talked)) => after_console(rt, (whole, shared), loops, talked, boot, room),
+        Err(back) => without_console(
+            alloc,
+            (whole, shared.bus),
+            back.loops,
+            back.parts,
+            back.side,
+            boot,
+        ),
     }
 }
 
@@ -220,7 +229,7 @@ type Driven<'c, J, I, W> = Result<
 >;
 
 /// Runs the harts on threads and the console beside them, with the bus and the store behind their locks, until all have ended.
-/// Then they are shared no longer.
+/// Then they are shared no longer, and come back with the tables.
 fn drive_beside_console<
     'c,
     D: Disk + Drop + Send,
@@ -236,7 +245,7 @@ fn drive_beside_console<
     whole: Unshared<D, J>,
     booted: BootedHarts<J>,
     side: ConsoleSide<J, I, W>,
-) -> (Unshared<D, J>, SharedBus<J>, Driven<'c, J, I, W>)
+) -> (Unshared<D, J>, SharedHardware<J>, Driven<'c, J, I, W>)
     requires none { length (parts_with whole) ≡ 0 }
     requires shape { hardware.shape ≡ J.size }
     requires turns { booted.turns ≡ J.turns }
@@ -245,7 +254,9 @@ fn drive_beside_console<
     requires fresh { All (λ p. p.receipts.told ≡ []) booted.parts.items }
     requires held { IsHeld hardware.shape booted.harts.items hardware.tables (Some booted.seats) booted.doze }
     requires machine { J.machine ≡ board_of hardware.shape J.memory booted.doze booted.harts.items booted.seats }
+    requires tables { AreNamed J.starts J.raises hardware.tables }
     ensures none { length (parts_with result.0) ≡ 0 }
+    ensures tables { result.1.tables ≡ hardware.tables }
     ensures said { IfOk result.2 (λ r. Talks J.found J.issued r.1.left
         (dialogue_ends (I.remaining side.streams.input) (output_of W.contents side.streams.out) (party side.part.told side.heard))
         (dialogue_ends (I.remaining r.1.side.streams.input) (output_of W.contents r.1.side.streams.out)
@@ -282,9 +293,7 @@ fn drive_beside_console<
                 (party result.side.part.told result.side.heard)) }
         { attend(rt, bus, store, closing, side) },
     );
-    (
-        store_lock.into_inner().unshare(),
-        bus_lock.into_inner(),
-        driven,
-    )
+    let whole = store_lock.into_inner().unshare();
+    let bus = bus_lock.into_inner();
+    (whole, SharedHardware { shape, tables, bus }, driven)
 }

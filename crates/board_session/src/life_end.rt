@@ -8,12 +8,17 @@ ghost use Rattle.hart_threads.specs.Noted.{boot_told};
 ghost use Rattle.hart_threads.specs.Bused.{AreSaved, AreWakes};
 ghost use Rattle.hart_threads.specs.Views.{bus_parts, inside, moments_with, parts_with};
 ghost use Rattle.hart_threads.specs.Ends.{AreNumberedFrom, IsEnding, own_receipt};
+ghost use Rattle.arrayvec.specs.ArrayVec.{array_vec_len};
+ghost use Rattle.hsm.specs.Seating.{all_harts};
+ghost use Rattle.ipi.specs.Seating.{all_pending_views};
+ghost use Rattle.sbi_calls.specs.Both.{known};
 ghost use Rattle.hart_threads.specs.declared.bus_turns.BusTurn.{BusTurn as TurnView};
 ghost use Rattle.tallies.specs.Logs.{Log};
 ghost use Rattle.board_session.specs.Backs.{AreBack};
 ghost use Rattle.board_session.specs.Histories.{EndsHistory, EndsWith};
 ghost use Rattle.board_session.specs.Sessions.{IsOfLife, IsOver};
 
+use crate::seats_back::SeatsBack;
 use board_model::Entry;
 use disk::Disk;
 use hart_threads::{
@@ -44,9 +49,11 @@ fn end_of<'c, R: Wait, J: Threaded>(
     last: &Option<(u32, Entry)>,
 ) -> HartEnd
     ensures number { result.hart.id ≡ number }
+    ensures hart { result.hart ≡ rested.now.ended.hart }
     ensures over { IsOver last.now result }
     ensures told { own_receipt result ≡ rested.now.ended.told }
-    ensures well { IsEnding J.machine J.turns J.gated parted.now.token.value rested.now.ended.local.run result }
+    ensures well { IsEnding J.machine J.turns J.gated parted.now.token.value rested.now.ended.local.run
+        (known rested.now.ended.local.seats) result }
 {
     let end = rested.end(parted);
     if end.hart.id().index() == number && is_over(last, &end) {
@@ -58,7 +65,7 @@ fn end_of<'c, R: Wait, J: Threaded>(
 
 /// How the harts of those loops ended, in the order of their numbers, from 0. In the list of loops the highest number comes
 /// first. `parted` holds what their console said of the harts when it left, and `last` the last command of their life. The parts of the
-/// loops come back to the store and to the bus.
+/// loops come back to the store and to the bus, and their seats of the tables are given back.
 pub(crate) fn ends_of<'c, R: Wait, D: Disk + Drop, J: Threaded>(
     rt: &R,
     whole: &mut Unshared<D, J>,
@@ -67,33 +74,38 @@ pub(crate) fn ends_of<'c, R: Wait, D: Disk + Drop, J: Threaded>(
     parted: &Parted<'c, J>,
     room: Vec<HartEnd>,
     last: &Option<(u32, Entry)>,
-) -> Vec<HartEnd>
+) -> (Vec<HartEnd>, SeatsBack<J>)
     requires none { length (parts_with whole.old) ≡ 0 }
     requires empty { vec_len room ≡ 0 }
     requires room { vec_len loops ≤ vec_capacity room }
+    requires few { vec_len loops ≤ 8 }
     ensures store { inside whole.new ≡ inside whole.old }
     ensures moments { moments_with whole.new ≡ moments_with whole.old }
-    ensures back { (back : AreBack (parts_with whole.new)) × (back.harts ≡ map own_receipt result.items) }
+    ensures back { (back : AreBack (parts_with whole.new)) × (back.harts ≡ map own_receipt result.0.items) }
     ensures parts { length (parts_with whole.new) ≡ vec_len loops.entry }
-    ensures many { vec_len result ≡ vec_len loops.entry }
-    ensures numbered { AreNumberedFrom 0 result.items }
-    ensures well { All (EndsWith J.machine J.turns J.gated parted.now.token.value (bus_parts bus.new)) result.items }
-    ensures over { All (IsOver last.now) result.items }
+    ensures many { vec_len result.0 ≡ vec_len loops.entry }
+    ensures numbered { AreNumberedFrom 0 result.0.items }
+    ensures seats { array_vec_len result.1.starts ≡ vec_len loops.entry }
+    ensures well { All (EndsWith J.machine J.turns J.gated parted.now.token.value (bus_parts bus.new)
+        (all_harts result.1.starts.items) (all_pending_views result.1.raises.items)) result.0.items }
+    ensures over { All (IsOver last.now) result.0.items }
 {
     let (mut loops, mut ends) = (loops, room);
+    let mut back = SeatsBack::new();
     while let Some(rested) = loops.pop() {
         let number = ends.len();
         ends.push_reserved(end_of(rt, &rested, parted, number, last));
         let HartLocal {
-            seats: _,
+            seats,
             doze: _,
             part,
             run,
         } = rested.ended.local;
         whole.gather(part);
         bus.gather(run);
+        back.push(seats);
     }
-    ends
+    (ends, back)
 }
 
 /// The history of the bus of a life that has ended, once the parts of its loops are back: with them the store's part and the console's,

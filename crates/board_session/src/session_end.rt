@@ -1,16 +1,18 @@
 //! What a session gives back, once its threads have ended or where none was begun.
 
-ghost use Rattle.std.specs.Prelude.{◌≡◌, ◌≤◌, ◌+◌, [], All, length, Some, None, false, Err, vec_len, vec_capacity};
+ghost use Rattle.std.specs.Prelude.{◌≡◌, ◌≤◌, ◌<◌, ◌+◌, [], All, length, Some, None, false, Err, vec_len, vec_capacity};
 ghost use Rattle.board_model.specs.declared.refusal.Refusal.TheVariants.{Memory};
 ghost use Rattle.hart_threads.specs.Heard.{heard_nothing};
 ghost use Rattle.hart_threads.specs.Noted.{boot_told};
+ghost use Rattle.hart_threads.specs.Seated.{AreNamed};
 ghost use Rattle.hart_threads.specs.Views.{parts_with};
+ghost use Rattle.sbi_calls.specs.Both.{AreTablesOf};
 ghost use Rattle.store.specs.Leaves.{IsIdle};
 ghost use Rattle.board_session.specs.Backs.{AreBack};
 ghost use Rattle.board_session.specs.Histories.{HasHistory};
 ghost use Rattle.board_session.specs.Sessions.{AreOfLife, IsOfLife, outcome_of};
 
-use crate::beside_threads::{ConsoleSide, Talked};
+use crate::beside_threads::{ConsoleSide, SharedHardware, Talked};
 use crate::heard::ConsoleHeard;
 use crate::life_end::{disk_of, end_history, ends_of, gather_loops, gather_parts};
 use crate::sessions::{SessionEnd, Streams};
@@ -33,7 +35,7 @@ fn outcome(left: Left) -> Result<(), Refusal>
 }
 
 /// What a session gives back whose console has left, once the loops of all harts have ended. `room` is for how they ended. The history of
-/// the bus ends with it.
+/// the bus ends with it, and so do the logs of the tables.
 pub(crate) fn after_console<
     'c,
     R: Wait,
@@ -43,7 +45,7 @@ pub(crate) fn after_console<
     W: Write + Drop,
 >(
     rt: &R,
-    shared: (Unshared<D, J>, SharedBus<J>),
+    shared: (Unshared<D, J>, SharedHardware<J>),
     loops: Vec<Rested<'c, J>>,
     talked: Talked<'c, J, I, W>,
     boot: BookPart<J, Entry>,
@@ -55,6 +57,9 @@ pub(crate) fn after_console<
     requires all { J.parts ≡ J.size.harts + 2 }
     requires ungated { J.gated ≡ false }
     requires machine { J.machine.memory ≡ J.memory }
+    requires tables { AreTablesOf J.size shared.1.tables }
+    requires named { AreNamed J.starts J.raises shared.1.tables }
+    requires some { (0 < vec_len loops) × (vec_len loops ≤ 8) }
     requires empty { vec_len room ≡ 0 }
     requires room { vec_len loops ≤ vec_capacity room }
     ensures none_out { IsIdle (D.facts result.disk) }
@@ -68,10 +73,16 @@ pub(crate) fn after_console<
     ensures console_left { result.console_left ≡ Some talked.entry.left }
     ensures ran { result.ran ≡ outcome_of (Some talked.entry.left) }
 {
-    let (mut whole, mut bus) = shared;
+    let (mut whole, hardware) = shared;
+    let SharedHardware {
+        shape: _,
+        tables,
+        mut bus,
+    } = hardware;
     let Talked { side, left, parted } = talked;
     let last = whole.last();
-    let harts = ends_of(rt, &mut whole, &mut bus, loops, &parted, room, &last);
+    let (harts, seats) = ends_of(rt, &mut whole, &mut bus, loops, &parted, room, &last);
+    seats.join(&tables);
     let ConsoleSide {
         streams,
         part,

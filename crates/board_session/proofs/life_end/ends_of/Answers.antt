@@ -1,6 +1,8 @@
 use Rattle.std.proofs.Common.{◌≡◌, ◌∙◌, ◌∷◌, List, length, map, arith, refl, sym, ap, subst, All}
 use Rattle.std.proofs.lemmas.List.Elements.{All-push}
 use Rattle.board_model.specs.declared.durable.Entry.{Entry}
+use Rattle.hsm.specs.Seating.{all_harts}
+use Rattle.ipi.specs.Seating.{all_pending_views}
 use Rattle.tallies.specs.declared.book_views.PartView.{PartView}
 use Rattle.hart_threads.specs.declared.ends.HartEnd.{HartEnd}
 use Rattle.hart_threads.specs.Ends.{AreNumberedFrom, own_receipt}
@@ -10,7 +12,7 @@ use Rattle.board_session.specs.Backs.{AreBack}
 use Rattle.board_session.specs.Histories.{EndsWith}
 use Rattle.board_session.specs.Sessions.{IsOver}
 use Rattle.board_session.proofs.Backing.{none_there, none_told, told_back, told_more}
-use Rattle.board_session.proofs.Historied.{ends_with, one_with}
+use Rattle.board_session.proofs.Historied.{all_with}
 use Rattle.board_session.proofs.Numbering.{numbered_next}
 use Rattle.board_session.proofs.life_end.ends_of.Goals as goal
 
@@ -28,7 +30,8 @@ loop-rested-init g c =
       made = omega (arith, empty);
       room = refl;
       numbered = subst (λ (es : List HartEnd). AreNumberedFrom 0 es) (sym none) tt;
-      well = subst (λ (es : List HartEnd). All (EndsWith t.machine t.turns t.gated c.args.parted.now.token.value (bus_parts c.args.bus.now)) es) (sym none) (λ k e lt. absurd (omega (arith, lt)));
+      well = subst (λ (es : List HartEnd). All (EndsWith t.machine t.turns t.gated c.args.parted.now.token.value (bus_parts c.args.bus.now) (all_harts c.new-back.result.starts.items) (all_pending_views c.new-back.result.raises.items)) es) (sym none) (λ k e lt. absurd (omega (arith, lt)));
+      seats = c.new-back.ensures.none ∙ sym empty;
       over = subst (λ (es : List HartEnd). All (IsOver c.args.last.now) es) (sym none) (λ k e lt. absurd (omega (arith, lt)));
     }
 
@@ -48,7 +51,6 @@ loop-rested-preserved-in-Some g c =
     let before = bus_parts c.loop-rested.bus in
     let back = told_back e.local.part (parts_with c.loop-rested.whole) e.told e.ends e.noted i.back.0 in
     let told = told_more c.loop-rested.ends.items c.push_reserved.new.self.items _ i.back.0.harts e.told grown c.end_of.ensures.told i.back.1 in
-    let P = EndsWith t.machine t.turns t.gated parting (e.local.run ∷ before) in
     record {
       store = c.gather.ensures.store ∙ i.store;
       moments = c.gather.ensures.moments ∙ i.moments;
@@ -57,10 +59,8 @@ loop-rested-preserved-in-Some g c =
       made = omega (arith, made, fewer, pushed);
       room = c.push_reserved.ensures.capacity ∙ i.room;
       numbered = numbered_next c.loop-rested.ends.items _ _ _ i.numbered (sym c.loop-rested.ends.ok.0 ∙ sym c.len-number.ensures) c.end_of.ensures.number grown;
-      well = subst (λ (ps : List (PartView BusTurn)). All (EndsWith t.machine t.turns t.gated parting ps) c.push_reserved.new.self.items) (sym c.gather-in-Some.ensures.parts)
-          (subst (λ es. All P es) (sym grown)
-          (All-push P c.loop-rested.ends.items _ (ends_with t.machine t.turns t.gated parting e.local.run before c.loop-rested.ends.items i.well)
-          (one_with t.machine t.turns t.gated parting e.local.run before _ c.end_of.ensures.well)));
+      well = all_with t.machine t.turns t.gated parting e.local.run before _ _ _ _ _ e.local.seats e.hart c.loop-rested.ends.items c.push_reserved.new.self.items _ c.gather-in-Some.ensures.parts c.push.ensures.starts c.push.ensures.raises grown c.end_of.ensures.hart c.in-Some.rested.alone c.end_of.ensures.well i.well;
+      seats = (let more = c.push.ensures.many in let were' = i.seats in omega (arith, more, were', pushed));
       over = subst (λ es. All (IsOver c.args.last.now) es) (sym grown)
           (All-push (IsOver c.args.last.now) c.loop-rested.ends.items _ i.over c.end_of.ensures.over);
     }
@@ -81,7 +81,6 @@ loop-rested-preserved g c =
     let before = bus_parts c.loop-rested.bus in
     let back = told_back e.local.part (parts_with c.loop-rested.whole) e.told e.ends e.noted i.back.0 in
     let told = told_more c.loop-rested.ends.items c.push_reserved.new.self.items _ i.back.0.harts e.told grown c.end_of.ensures.told i.back.1 in
-    let P = EndsWith t.machine t.turns t.gated parting (e.local.run ∷ before) in
     record {
       store = c.gather.ensures.store ∙ i.store;
       moments = c.gather.ensures.moments ∙ i.moments;
@@ -90,10 +89,19 @@ loop-rested-preserved g c =
       made = omega (arith, made, fewer, pushed);
       room = c.push_reserved.ensures.capacity ∙ i.room;
       numbered = numbered_next c.loop-rested.ends.items _ _ _ i.numbered (sym c.loop-rested.ends.ok.0 ∙ sym c.len-number.ensures) c.end_of.ensures.number grown;
-      well = subst (λ (ps : List (PartView BusTurn)). All (EndsWith t.machine t.turns t.gated parting ps) c.push_reserved.new.self.items) (sym c.gather-in-Some.ensures.parts)
-          (subst (λ es. All P es) (sym grown)
-          (All-push P c.loop-rested.ends.items _ (ends_with t.machine t.turns t.gated parting e.local.run before c.loop-rested.ends.items i.well)
-          (one_with t.machine t.turns t.gated parting e.local.run before _ c.end_of.ensures.well)));
+      well = all_with t.machine t.turns t.gated parting e.local.run before _ _ _ _ _ e.local.seats e.hart c.loop-rested.ends.items c.push_reserved.new.self.items _ c.gather-in-Some.ensures.parts c.push.ensures.starts c.push.ensures.raises grown c.end_of.ensures.hart c.in-Some.rested.alone c.end_of.ensures.well i.well;
+      seats = (let more = c.push.ensures.many in let were' = i.seats in omega (arith, more, were', pushed));
       over = subst (λ es. All (IsOver c.args.last.now) es) (sym grown)
           (All-push (IsOver c.args.last.now) c.loop-rested.ends.items _ i.over c.end_of.ensures.over);
     }
+
+pub push-requires-clause-theirs : goal.push-requires-clause-theirs
+push-requires-clause-theirs g c = c.in-Some.rested.theirs
+
+pub push-requires-clause-room : goal.push-requires-clause-room
+push-requires-clause-room g c =
+    let were = c.loop-rested.invariant.seats in
+    let made = c.loop-rested.invariant.made in
+    let fewer = c.in-Some.ensures.cases in
+    let few = c.requires.few in
+    omega (arith, were, made, fewer, few)

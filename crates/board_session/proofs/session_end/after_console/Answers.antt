@@ -1,9 +1,11 @@
-use Rattle.std.proofs.Common.{◌∙◌, Bool, All, sym, ap, subst}
+use Rattle.std.proofs.Common.{◌∙◌, ℕ, Bool, All, arith, sym, ap, subst}
+use Rattle.hsm.specs.Seating.{all_harts}
+use Rattle.ipi.specs.Seating.{all_pending_views}
 use Rattle.hart_threads.specs.Views.{bus_parts, inside}
 use Rattle.hart_threads.specs.declared.ends.HartEnd.{HartEnd}
 use Rattle.hart_threads.specs.declared.closing.AfterConsole.{AfterConsole}
 use Rattle.store.specs.Views.{journal_of, life_of}
-use Rattle.board_session.specs.Histories.{harts_after}
+use Rattle.board_session.specs.Histories.{HasTables, harts_after}
 use Rattle.board_session.proofs.Historied.{EndedBy, all_ends_by, history_of}
 use Rattle.board_session.proofs.Lasting.{all_over}
 use Rattle.board_session.proofs.session_end.after_console.Goals as goal
@@ -19,7 +21,11 @@ returns-clause-life g c =
     let j = g.J.Journal in
     let t = g.J.Threaded in
     let ended = c.ends_of-harts in
-    let ends = ended.result.items in
+    let ends = ended.result.0.items in
+    let came = ended.result.1 in
+    let logs = c.join.ensures in
+    let starts = logs.1.0 in
+    let raises = logs.2.0 in
     let back = ended.ensures.back in
     let life = c.disk_of-disk.ensures.life back.0 in
     let end = c.end_history.ensures in
@@ -29,15 +35,29 @@ returns-clause-life g c =
     let parts = bus_parts ended.new.bus in
     let left = c.args.talked.left in
     let kept = life_of (inside ended.new.whole) in
-    let gone = all_ends_by t.machine t.turns t.gated c.args.talked.parted.token.value log parts ends end.1.told.1.1 ended.ensures.well in
-    let driven = subst (λ (b : Bool). All (λ (e : HartEnd). EndedBy t.machine t.turns b (harts_after left) log e) ends) c.requires.ungated
-    (subst (λ (p : AfterConsole). All (λ (e : HartEnd). EndedBy t.machine t.turns t.gated p log e) ends) c.args.talked.parts gone) in
+    let gone = all_ends_by t.machine t.turns t.gated c.args.talked.parted.token.value log starts raises parts (all_harts came.starts.items) (all_pending_views came.raises.items) ends end.1.told.1.1 logs.1.2 logs.2.2 ended.ensures.well in
+    let driven = subst (λ (b : Bool). All (λ (e : HartEnd). EndedBy t.machine t.turns b (harts_after left) log starts raises e) ends) c.requires.ungated
+    (subst (λ (p : AfterConsole). All (λ (e : HartEnd). EndedBy t.machine t.turns t.gated p log starts raises e) ends) c.args.talked.parts gone) in
+    let true_logs : HasTables j.size.harts starts raises =
+    subst (λ (n : ℕ). HasTables n starts raises) c.requires.tables (record { first = logs.0; started = logs.1.1; raised = logs.2.1 }) in
     let many = ended.ensures.many ∙ c.requires.harts in (
       life.0,
       (life.1 ∙ back.1, all_over _ life.0.journal c.last-last.result ends (life.2 ∙ ap (λ x. journal_of x) ended.ensures.store) c.last-last.ensures ended.ensures.over),
       (
         log,
-        (sym ended.result.ok.0 ∙ many, ended.ensures.numbered, driven),
+        starts,
+        raises,
+        (sym ended.result.0.ok.0 ∙ many, ended.ensures.numbered, driven),
+        true_logs,
         history_of j.size j.memory t.machine.memory log own woke parts end.1 kept life.0.journal life.0.doubt c.args.talked.side.heard.woken c.requires.machine life.2 life.3 c.disk_of-disk.ensures.saved c.disk_of-disk.ensures.woken,
       ),
     )
+
+pub ends_of-harts-requires-clause-few : goal.ends_of-harts-requires-clause-few
+ends_of-harts-requires-clause-few g c κs within = c.requires.some.1
+
+pub join-requires-clause-some : goal.join-requires-clause-some
+join-requires-clause-some g c = let are = c.ends_of-harts.ensures.seats in let some = c.requires.some.0 in omega (arith, are, some)
+
+pub join-requires-clause-named : goal.join-requires-clause-named
+join-requires-clause-named g c = c.requires.named

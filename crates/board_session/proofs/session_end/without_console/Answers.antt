@@ -1,10 +1,10 @@
-use Rattle.std.proofs.Common.{◌≡◌, ap, arith, subst}
+use Rattle.std.proofs.Common.{◌≡◌, [], ap, arith, subst}
 use Rattle.hart_threads.specs.Bused.{AreWakes}
 use Rattle.hart_threads.specs.Heard.{Hearing}
 use Rattle.hart_threads.specs.Views.{bus_parts, inside}
 use Rattle.store.specs.Views.{doubt_of, journal_of, life_of}
 use Rattle.board_session.specs.Sessions.{IsOfLife}
-use Rattle.board_session.proofs.Historied.{history_of}
+use Rattle.board_session.proofs.Historied.{history_of, no_steps}
 use Rattle.board_session.proofs.session_end.without_console.Goals as goal
 
 pub disk_of-disk-requires-clause-harts : goal.disk_of-disk-requires-clause-harts
@@ -25,4 +25,4 @@ returns-clause-life g c =
     let woken = subst (λ n. AreWakes n told.2.1) (ap (λ (h : Hearing). h.woken) c.requires.unheard) c.disk_of-disk.ensures.woken in
     let history = history_of j.size j.memory g.J.Threaded.machine.memory end.0 told.2.0 told.2.1 (bus_parts c.args.shared.1) end.1 (life_of store) life.0.journal life.0.doubt 0 c.requires.machine life.2 life.3 c.disk_of-disk.ensures.saved woken in
     let un = c.unbegun.ensures in
-    rw (un.disk, un.moments, un.heard) (life.0, (end.0, un.harts, history))
+    rw (un.disk, un.moments, un.heard) (life.0, (end.0, [], [], un.harts, no_steps j.size.harts, history))
