@@ -26,6 +26,7 @@ use hart_threads::{
 use rv_decode::Reg;
 use simdisk::SimDisk;
 use std::alloc::Global;
+use std::io::BufWriter;
 use std::marker::Brand;
 use std::process::Abort;
 use std::sync::{Mutex, OnceLock, Wait};
@@ -157,7 +158,7 @@ fn issue<J: Journal>(
 }
 
 /// What the console of a trial writes, and what it heard.
-fn talk<J: Journal, R: Wait + Clock>(
+fn talk<J: Journal, R: Wait + Clock + Abort>(
     rt: &R,
     alloc: Global,
     bus: &Mutex<SharedBus<J>>,
@@ -166,7 +167,7 @@ fn talk<J: Journal, R: Wait + Clock>(
     heard: Heard<J>,
     trial: BoardTrial<'_>,
 ) -> (Vec<u8>, Heard<J>) {
-    let mut out = Vec::new(alloc);
+    let mut out = BufWriter::new(alloc, Vec::new(alloc)).expect(rt, "memory");
     let (mut input, mut heard) = (trial.input, heard);
     let mut locks = Locks::new(bus, store);
     if let Some(gate) = trial.until {
@@ -176,7 +177,8 @@ fn talk<J: Journal, R: Wait + Clock>(
     if let Some(gate) = trial.until {
         gate.tell();
     }
-    (out, heard)
+    let (shown, _held) = out.into_parts();
+    (shown, heard)
 }
 
 /// The books of a life: of its commands, of what is in doubt, and of the history of its bus.
