@@ -5,6 +5,7 @@ ghost use Rattle.disk.specs.Facts.{Content};
 ghost use Rattle.board_model.specs.declared.durable.Entry.{Entry};
 ghost use Rattle.tallies.specs.BookViews.{id_of, parts_of};
 ghost use Rattle.tallies.specs.Books.{fresh_from};
+ghost use Rattle.tallies.specs.Halts.{watched};
 ghost use Rattle.hart_threads.specs.Begun.{board_of};
 ghost use Rattle.hart_threads.specs.Bused.{begun_bus};
 ghost use Rattle.hart_threads.specs.Heard.{heard_nothing};
@@ -28,8 +29,8 @@ use board_model::{Entry, Shape};
 use disk::Disk;
 use hart::Hart;
 use hart_threads::{
-    BookPart, BootedHarts, Closing, Heard, Journal, Locks, Parted, Rested, SharedBoard, SharedBus,
-    SharedStore, Threaded, Undriven, Unshared, drive,
+    BookPart, BootedHarts, Closing, HaltReason, Heard, Journal, Locks, Parted, Rested, SharedBoard,
+    SharedBus, SharedStore, Threaded, Undriven, Unshared, drive,
 };
 use sbi_calls::{Seats, Tables};
 use std::alloc::Global;
@@ -87,7 +88,7 @@ fn attend<'c, R: Wait, D: Disk + Drop, J: Threaded, I: Read + Drop, W: Write + D
     rt: &R,
     bus: &Mutex<SharedBus<J>>,
     store: &Mutex<SharedStore<D, J>>,
-    closing: &'c Closing<J>,
+    halting: (&'c Closing<J>, &Mutex<HaltReason<'c, J>>),
     side: ConsoleSide<J, I, W>,
 ) -> Talked<'c, J, I, W>
     ensures { Talks J.found J.issued result.left
@@ -104,7 +105,8 @@ fn attend<'c, R: Wait, D: Disk + Drop, J: Threaded, I: Read + Drop, W: Write + D
     let mut heard = heard;
     let mut locks = Locks::new(bus, store);
     let (part, left) = console(rt, &mut locks, part, &mut heard, &mut input, &mut out);
-    let parted = closing.part(rt, harts_after(left));
+    let (closing, reason) = halting;
+    let parted = closing.part(rt, reason, harts_after(left));
     Talked {
         side: ConsoleSide {
             streams: Streams { input, out },
@@ -144,7 +146,7 @@ pub(crate) fn run_board<
     requires unsaved { IsUnsaved (life_of store) }
     requires turns { on.turns ≡ J.turns }
     requires lock { provisions.lock.id ≡ J.parting }
-    requires halt { provisions.halt ≡ J.halt }
+    requires halt { (provisions.halt ≡ J.halt) × (provisions.first ≡ watched J.halt true 0 None) }
     requires ungated { J.gated ≡ false }
     requires taken { (are_taken J.found J.issued ≡ true) × (length J.issued ≤ 2) }
     requires book { (id_of provisions.book ≡ J.book) × (parts_of provisions.book ≡ J.parts)
@@ -174,6 +176,7 @@ pub(crate) fn run_board<
         doubts,
         runs,
         halt,
+        first,
         lock,
         room,
     } = provisions;
@@ -204,10 +207,16 @@ pub(crate) fn run_board<
         parts,
         turns: on.turns,
     };
-    let closing = Closing::new(lock, halt);
+    let (closing, reason) = Closing::new(lock, halt, first);
     let shared = SharedHardware { shape, tables, bus };
     let (whole, shared, driven) = drive_beside_console(
-        rt, alloc, &closing, shared, whole, booted, side,
+        rt,
+        alloc,
+        (&closing, reason),
+        shared,
+        whole,
+        booted,
+        side,
     );
     match driven {
         Ok((loops, talked)) => after_console(rt, (whole, shared), loops, talked, boot, room),
@@ -240,7 +249,7 @@ fn drive_beside_console<
 >(
     rt: &R,
     alloc: Global,
-    closing: &'c Closing<J>,
+    halting: (&'c Closing<J>, HaltReason<'c, J>),
     hardware: SharedHardware<J>,
     whole: Unshared<D, J>,
     booted: BootedHarts<J>,
@@ -269,7 +278,9 @@ fn drive_beside_console<
     let SharedHardware { shape, tables, bus } = hardware;
     let bus_lock: Mutex<SharedBus<J>> = Mutex::new(bus);
     let store_lock: Mutex<SharedStore<D, J>> = Mutex::new(whole.share());
-    let (bus, store) = (&bus_lock, &store_lock);
+    let (closing, reason) = halting;
+    let reason_lock: Mutex<HaltReason<'c, J>> = Mutex::new(reason);
+    let (bus, store, reason) = (&bus_lock, &store_lock, &reason_lock);
     let crew = crew::Threads::new(rt);
     let board = SharedBoard {
         saving: Saving { alloc, crew: &crew },
@@ -278,6 +289,7 @@ fn drive_beside_console<
         bus,
         store,
         closing,
+        reason,
     };
     let driven = drive(
         rt,
@@ -291,7 +303,7 @@ fn drive_beside_console<
                 (party side.part.told side.heard))
                 (dialogue_ends (I.remaining result.side.streams.input) (output_of W.contents result.side.streams.out)
                 (party result.side.part.told result.side.heard)) }
-        { attend(rt, bus, store, closing, side) },
+        { attend(rt, bus, store, (closing, reason), side) },
     );
     let whole = store_lock.into_inner().unshare();
     let bus = bus_lock.into_inner();

@@ -1,22 +1,25 @@
 //! What the threads of a board need beside it.
 
-ghost use Rattle.std.specs.Prelude.{◌≡◌, ◌≤◌, ◌+◌, IfOk, vec_len, vec_capacity};
+ghost use Rattle.std.specs.Prelude.{◌≡◌, ◌≤◌, ◌+◌, None, true, IfOk, vec_len, vec_capacity};
 ghost use Rattle.tallies.specs.BookViews.{parts_of};
+ghost use Rattle.tallies.specs.Halts.{watched};
 
 use board_model::{Entry, Shape};
 use hart_threads::{AfterConsole, BusTurn, HartEnd, NewBook};
 use std::alloc::{AllocError, Global};
 use std::sync::OnceLock;
-use tallies::Halt;
+use tallies::{Halt, Watch};
 
 /// What the threads of a board need beside it: the book of its receipts, that of what is in doubt, that of the history of its bus, the
-/// word that halts its harts, the lock in which the console says what they do once it has left, and room for how they end.
+/// word that halts its harts with the watch that may set it, the lock in which the console says what they do once it has left, and room for
+/// how they end.
 #[derive(Drop)]
 pub(crate) struct Provisions {
     pub(crate) book: NewBook<Entry>,
     pub(crate) doubts: NewBook<Entry>,
     pub(crate) runs: NewBook<BusTurn>,
     pub(crate) halt: Halt,
+    pub(crate) first: Watch,
     pub(crate) lock: OnceLock<AfterConsole>,
     pub(crate) room: Vec<HartEnd>,
 }
@@ -26,18 +29,20 @@ pub(crate) struct Provisions {
 /// for each hart, one for the console and one for the store; and room for each hart's end.
 pub(crate) fn provide(alloc: Global, shape: &Shape) -> Result<Provisions, AllocError>
     ensures { IfOk result (λ p. (parts_of p.book ≡ shape.now.harts + 2) × (parts_of p.doubts ≡ 2)
-        × (parts_of p.runs ≡ shape.now.harts + 2) × (vec_len p.room ≡ 0) × (shape.now.harts ≤ vec_capacity p.room)) }
+        × (parts_of p.runs ≡ shape.now.harts + 2) × (vec_len p.room ≡ 0) × (shape.now.harts ≤ vec_capacity p.room)
+        × (p.first ≡ watched p.halt true 0 None)) }
 {
     let book = NewBook::new(alloc, shape.harts() + 2)?;
     let doubts = NewBook::new(alloc, 2)?;
     let runs = NewBook::new(alloc, shape.harts() + 2)?;
-    let halt = Halt::new(alloc)?;
+    let (halt, first) = Halt::new(alloc)?;
     let room = Vec::with_capacity(alloc, shape.harts() as usize)?;
     Ok(Provisions {
         book,
         doubts,
         runs,
         halt,
+        first,
         lock: OnceLock::new(),
         room,
     })

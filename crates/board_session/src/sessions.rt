@@ -77,8 +77,8 @@ pub fn session<R: Threads + Wait + Sync, D: Disk + Drop + Send, I: Read + Drop, 
     // hart, and no other was; and the memory of its suspension was a moment of the one history of its bus. A
     // command is in doubt only where the disk failed, and it was asked for by the console, which was answered 6, or by a hart.
     // Each hart went from where the power-on left it by its own turns: it made all of them, or one of them ended the life
-    // by the last command of its journal, whose receipt it was told, or the console left so that they were halted. It is then refused by why the console
-    // left alone. The moments given back are those at which its boot was over and its receipts were made: from each on a crash has
+    // by the last command of its journal, whose receipt it was told, or the console left so that they were halted. It is then
+    // refused by why the console left alone. The moments given back are those at which its boot was over and its receipts were made: from each on a crash has
     // left a state that all commands have made which had been acknowledged by then.
     ensures ended { (RefusesSession options.now.new options.now.shape options.now.mode payloads.now (D.facts disk)
         result.ran (D.facts result.disk) × (result.console_left ≡ None))

@@ -148,8 +148,8 @@ fn answer_to<R: Wait, D: Disk + Drop, J: Journal>(
 }
 
 /// Takes one line after another from the input, obeys each in one hold of the store or of the bus at the most, and
-/// writes its answer with no lock held, of which nothing is held back. It leaves after `quit`, at the end of input, where the input fails, and where an
-/// answer could not be written. Its part of the journal's receipts is told those that it answers, and it has heard of
+/// writes its answer with no lock held, of which nothing is held back. It leaves after `quit`, at the end of input, where the
+/// input fails, and where an answer could not be written. Its part of the journal's receipts is told those that it answers, and it has heard of
 /// each refusal and each state that it answers, and of each time that it woke the board.
 pub fn console<R: Wait, D: Disk + Drop, J: Journal, I: Read, W: Write + Drop>(
     rt: &R,

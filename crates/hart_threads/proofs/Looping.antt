@@ -48,9 +48,6 @@ gives_none t by s are = record {
 pub seats_named : {starts raises : TableId} (t : Tables) (s : Seats) → AreNamed starts raises t → AreSeatsOfBoth t s → AreSeatsIn starts raises s
 seats_named t s named are = ((are.0.0 ∙ named.0, are.0.1), (are.1.0 ∙ named.1, are.1.1))
 
-pub named_seats : {starts raises : TableId} (t : Tables) (s : Seats) → AreNamed starts raises t → AreSeatsIn starts raises s → AreSeatsOfBoth t s
-named_seats t s named are = ((are.0.0 ∙ sym named.0, are.0.1), (are.1.0 ∙ sym named.1, are.1.1))
-
 -- ---- where the hart stands
 -- after a durable call of which that is said
 abbrev pub StandsTold : Size → Call → ℕ → Seats → Option Doze → Word → Type 0

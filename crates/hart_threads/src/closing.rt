@@ -1,20 +1,21 @@
 //! What ends the loops of all harts before they made their turns.
 
-ghost use Rattle.std.specs.Prelude.{◌≡◌, ◌<◌, ◌+◌, ◌-◌, ◌^◌, ℕ, true, IsTrue, MatchResult, is_some};
+ghost use Rattle.std.specs.Prelude.{◌≡◌, ◌<◌, ◌+◌, ◌-◌, ◌^◌, ℕ, true, None, Some, IsTrue, MatchResult, is_none, is_some};
 ghost use Rattle.board_model.specs.declared.durable.Entry.{Entry};
 ghost use Rattle.hart_threads.specs.Locks.{no_locks};
-ghost use Rattle.hart_threads.specs.Threads.{is_end, ends_life};
+ghost use Rattle.hart_threads.specs.Threads.{is_end};
 ghost use Rattle.hart_threads.specs.declared.closing.AfterConsole.TheVariants as afters;
 ghost use Rattle.hart_threads.specs.declared.loops.Why.TheVariants.{Life};
+ghost use Rattle.tallies.specs.Halts.{watched};
 
 use crate::locks::Locks;
-use crate::loops::Why;
+use crate::loops::Ended;
 use crate::receipts::CommandReceipt;
 use crate::threaded::Threaded;
 use board_model::Entry;
 use disk::Disk;
 use std::marker::{Model, PhantomData};
-use std::sync::{OnceLock, OnceToken, Wait};
+use std::sync::{Mutex, OnceLock, OnceToken, Wait};
 use tallies::{Halt, Journal, Watch};
 
 /// What the harts do once the console has left.
@@ -54,6 +55,16 @@ impl<J: Journal> LastReceipt<J> {
         }
     }
 
+    fn again(&self) -> LastReceipt<J>
+        ensures { result ≡ self.now }
+    {
+        LastReceipt {
+            number: self.number,
+            entry: self.entry,
+            of: PhantomData,
+        }
+    }
+
     /// It ends the life.
     pub fn stands(&self)
         ensures { is_end self.now.1 ≡ true }
@@ -81,8 +92,29 @@ impl<J: Journal> LastReceipt<J> {
 pub struct Halted<'a, J: Threaded> {
     token: OnceToken<'a, AfterConsole>,
     of: PhantomData<J>,
-    pub ghost named: { token.of ≡ J.parting },
-    pub ghost halts: { token.value ≡ afters.Halt },
+}
+
+impl<'a, J: Threaded> Model for Halted<'a, J> {
+    ghost use Rattle.std.specs.Prelude.{◌≡◌};
+    ghost use Rattle.hart_threads.specs.declared.closing.AfterConsole.{AfterConsole};
+    ghost use Rattle.hart_threads.specs.declared.closing.AfterConsole.TheVariants.{Halt};
+
+    ghost Value = { AfterConsole };
+
+    ghost view = { λ h. h.token.value };
+
+    ghost invariant = { λ h. (h.token.of ≡ J.parting) × (h.token.value ≡ Halt) };
+}
+
+impl<'a, J: Threaded> Halted<'a, J> {
+    fn again(&self) -> Halted<'a, J>
+        ensures { result ≡ self.now }
+    {
+        Halted {
+            token: self.token.again(),
+            of: PhantomData,
+        }
+    }
 }
 
 /// The halt of the life J was set: no look at it finds it unset from then on.
@@ -107,9 +139,69 @@ pub struct Parted<'a, J: Threaded> {
 #[derive(Drop)]
 pub enum Shut<'a, J: Threaded> {
     /// A hart ended the life.
-    Life(&'a LastReceipt<J>),
+    Life(LastReceipt<J>),
     /// The console has left, and halted the harts.
     Console(Halted<'a, J>),
+}
+
+impl<'a, J: Threaded> Shut<'a, J> {
+    fn again(&self) -> Shut<'a, J>
+        ensures { result ≡ self.now }
+    {
+        match self {
+            Shut::Life(last) => Shut::Life(last.again()),
+            Shut::Console(halted) => Shut::Console(halted.again()),
+        }
+    }
+}
+
+/// Why the halt of the life J was set, where it was, and the right to set it where it was not. It lies behind a lock. The halt is set only
+/// together with its reason: so whoever finds it set finds here why.
+#[derive(Drop)]
+pub struct HaltReason<'c, J: Threaded> {
+    watch: Watch,
+    why: Option<Shut<'c, J>>,
+    pub ghost named: { watch.of ≡ J.halt },
+    pub ghost right: { watch.may_set ≡ is_none why },
+    pub ghost set: { is_some watch.sum ≡ is_some why },
+}
+
+impl<'c, J: Threaded> HaltReason<'c, J> {
+    /// Why the halt was set, for one who found it set.
+    fn found(&mut self, halt: &Halt, watch: &mut Watch) -> Shut<'c, J>
+        requires halt { halt.now ≡ J.halt }
+        requires watch { watch.old.of ≡ J.halt }
+        requires set { is_some watch.old.sum ≡ true }
+        ensures same { watch.new ≡ watch.old }
+        ensures why { self.old.why ≡ Some result }
+    {
+        match &self.why {
+            Some(why) => why.again(),
+            None => {
+                halt.compare(&mut self.watch, watch);
+                unreachable!()
+            }
+        }
+    }
+
+    /// Sets the halt for that reason. Where it was set before, the first reason stands.
+    fn set(&mut self, halt: &Halt, why: Shut<'c, J>) -> HaltSet<J>
+        requires halt { halt.now ≡ J.halt }
+        ensures first { self.old.why ≡ None → self.new.why ≡ Some why }
+        ensures stands { is_some self.old.why ≡ true → self.new.why ≡ self.old.why }
+    {
+        match self.why {
+            Some(_) => {}
+            None => {
+                self.why = Some(why);
+                halt.set(&mut self.watch);
+            }
+        }
+        HaltSet {
+            watch: halt.known(&mut self.watch),
+            of: PhantomData,
+        }
+    }
 }
 
 /// How often a loop asked whether it goes on, and it did. Only a look at the life's halt that found it unset counts here.
@@ -158,132 +250,124 @@ impl<'l, D: Disk + Drop, J: Threaded> Unhalted<'l, D, J> {
     }
 }
 
-/// What ends the loops of all harts: a hart that ended the life, and the console that halts them. Each is said once, and
-/// stays. What the loops look at is the halt, which is set once one of the two was said.
+/// What ends the loops of all harts: the halt, and the lock in which the console says once what the harts do when it has left. What the
+/// loops look at is the halt. Why it was set lies behind a lock of its own (`HaltReason`).
 #[derive(Drop)]
 pub struct Closing<J: Threaded> {
-    life: OnceLock<LastReceipt<J>>,
     console: OnceLock<AfterConsole>,
     halt: Halt,
+    of: PhantomData<J>,
     pub ghost named: { console.id ≡ J.parting },
     pub ghost halts: { halt ≡ J.halt },
 }
 
 impl<J: Threaded> Closing<J> {
-    /// Nothing was said yet. The lock is the console's, and nothing was written into it; the halt is not set.
-    pub fn new(console: OnceLock<AfterConsole>, halt: Halt) -> Closing<J>
+    /// Nothing was said yet. The lock is the console's, and nothing was written into it; the halt is not set, and `first` may set it.
+    pub fn new<'c>(
+        console: OnceLock<AfterConsole>,
+        halt: Halt,
+        first: Watch,
+    ) -> (Closing<J>, HaltReason<'c, J>)
         requires console { console.id ≡ J.parting }
         requires halt { halt ≡ J.halt }
+        requires first { first ≡ watched J.halt true 0 None }
     {
-        Closing {
-            life: OnceLock::new(),
-            console,
-            halt,
-        }
-    }
-
-    /// Whether the console has halted the harts.
-    fn halted(&self) -> Option<Halted<'_, J>> {
-        let token = self.console.witness()?;
-        if *self.console.value(&token) == AfterConsole::RunOut {
-            return None;
-        }
-        Some(Halted {
-            token,
-            of: PhantomData,
-        })
-    }
-
-    /// What was said that ends all loops, if anything was.
-    fn said(&self) -> Option<Shut<'_, J>> {
-        if let Some(last) = self.life.get() {
-            return Some(Shut::Life(last));
-        }
-        match self.halted() {
-            Some(halted) => Some(Shut::Console(halted)),
-            None => None,
-        }
+        (
+            Closing {
+                console,
+                halt,
+                of: PhantomData,
+            },
+            HaltReason {
+                watch: first,
+                why: None,
+            },
+        )
     }
 
     /// One look before a turn, by a hart that holds no lock: what ends its loop now, or the right to ask for the turn. A look that
-    /// finds the halt unset is counted, and only such a look gives that right.
-    pub(crate) fn look<'l, R: Wait, D: Disk + Drop>(
+    /// finds the halt unset is counted, and only such a look gives that right. One that finds it set takes the lock of its reason.
+    pub(crate) fn look<'c, 'l, R: Wait, D: Disk + Drop>(
         &self,
         rt: &R,
+        reason: &Mutex<HaltReason<'c, J>>,
         asked: &mut HaltPolls<J>,
         locks: Locks<'l, D, J>,
-    ) -> Result<Unhalted<'l, D, J>, Shut<'_, J>>
+    ) -> Result<Unhalted<'l, D, J>, Shut<'c, J>>
         requires few { asked.old < 2 ^ 64 - 1 }
         requires free { locks ≡ no_locks }
         ensures { MatchResult result (λ going. asked.new ≡ asked.old + 1) (λ shut. asked.new ≡ asked.old) }
     {
-        if !self.halt.is_set(&mut asked.watch) {
-            asked.times += 1;
-            return Ok(Unhalted { locks });
+        if self.halt.is_set(&mut asked.watch) {
+            return Err(reason.lock(rt).found(&self.halt, &mut asked.watch));
         }
-        // Why was said before the halt was set.
-        for _ in rt.forever() {
-            if let Some(shut) = self.said() {
-                return Err(shut);
+        asked.times += 1;
+        Ok(Unhalted { locks })
+    }
+
+    /// A loop ended so: where it ended the life the halt is set, and no further turn of any hart begins.
+    pub(crate) fn end_by<'c, R: Wait>(
+        &self,
+        rt: &R,
+        reason: &Mutex<HaltReason<'c, J>>,
+        ended: &Ended<'c, J>,
+    ) -> Option<HaltSet<J>>
+        ensures { ended.now.why ≡ Life → IsTrue (is_some result) }
+    {
+        match &ended.told {
+            Some(told) => {
+                let last = LastReceipt::of(told);
+                Some(reason.lock(rt).set(&self.halt, Shut::Life(last)))
             }
+            None => None,
         }
-        unreachable!()
-    }
-
-    /// Sets the halt.
-    fn close(&self) -> HaltSet<J> {
-        HaltSet {
-            watch: self.halt.set(),
-            of: PhantomData,
-        }
-    }
-
-    /// A loop ended for that reason, with that receipt: where it ended the life the halt is set.
-    pub(crate) fn end_by(&self, why: Why, told: &Option<CommandReceipt<J>>) -> Option<HaltSet<J>>
-        requires { ends_life told.now ≡ true }
-        ensures { why ≡ Life → IsTrue (is_some result) }
-    {
-        match why {
-            Why::Life => Some(self.end_life(told)),
-            Why::Closed | Why::Gate | Why::Turns => None,
-        }
-    }
-
-    /// The life has ended with the command of that receipt: no further turn of any hart begins.
-    fn end_life(&self, told: &Option<CommandReceipt<J>>) -> HaltSet<J>
-        requires { ends_life told.now ≡ true }
-    {
-        if let Some(told) = told {
-            let _first = self.life.try_set(LastReceipt::of(told));
-        }
-        self.close()
     }
 
     /// The harts are halted before the console was begun.
-    pub(crate) fn halt(&self) {
-        let _said = self.console.try_set(AfterConsole::Halt);
-        let _set = self.close();
+    pub(crate) fn halt<'c, R: Wait>(&'c self, rt: &R, reason: &Mutex<HaltReason<'c, J>>) {
+        let token = match self.console.try_insert(rt, AfterConsole::Halt) {
+            Ok(token) => token,
+            Err((token, _said)) => token,
+        };
+        let _set = self.close_for(rt, reason, &token);
     }
 
     /// Sets the halt where the console halts the harts.
-    fn close_for(&self, parting: AfterConsole) -> Option<HaltSet<J>>
-        ensures { parting ≡ afters.Halt → IsTrue (is_some result) }
+    fn close_for<'c, R: Wait>(
+        &'c self,
+        rt: &R,
+        reason: &Mutex<HaltReason<'c, J>>,
+        token: &OnceToken<'c, AfterConsole>,
+    ) -> Option<HaltSet<J>>
+        requires { token.now.of ≡ J.parting }
+        ensures { token.now.value ≡ afters.Halt → IsTrue (is_some result) }
     {
-        match parting {
-            AfterConsole::Halt => Some(self.close()),
+        match *self.console.value(token) {
+            AfterConsole::Halt => {
+                let halted = Halted {
+                    token: token.again(),
+                    of: PhantomData,
+                };
+                Some(reason.lock(rt).set(&self.halt, Shut::Console(halted)))
+            }
             AfterConsole::RunOut => None,
         }
     }
 
     /// The console has left, and the harts do this from now on. It says so once: a second call waits for ever.
-    pub fn part<R: Wait>(&self, rt: &R, parting: AfterConsole) -> Parted<'_, J>
+    pub fn part<'c, R: Wait>(
+        &'c self,
+        rt: &R,
+        reason: &Mutex<HaltReason<'c, J>>,
+        parting: AfterConsole,
+    ) -> Parted<'c, J>
         ensures { result.token.value ≡ parting }
     {
         match self.console.set(rt, parting) {
-            Ok(token) => Parted {
-                token,
-                set: self.close_for(parting),
-            },
+            Ok(token) => {
+                let set = self.close_for(rt, reason, &token);
+                Parted { token, set }
+            }
             Err(_) => {
                 for _ in rt.forever() {}
                 unreachable!()

@@ -10,7 +10,7 @@ ghost use Rattle.hart_threads.specs.Threads.{seated};
 ghost use Rattle.hart_threads.specs.Begun.{AreFromLast, BeginsAs, IsFromBoot, board_of};
 ghost use Rattle.tallies.specs.Books.{fresh_from};
 
-use crate::closing::Closing;
+use crate::closing::{Closing, HaltReason};
 use crate::ends::{Rested, at_rest};
 use crate::gates::Gate;
 use crate::locks::Locks;
@@ -24,7 +24,7 @@ use disk::Disk;
 use hart::Hart;
 use sbi_calls::{Seats, Tables};
 use std::alloc::Global;
-use std::sync::Wait;
+use std::sync::{Mutex, Wait};
 use std::thread::Threads;
 use susp::Doze;
 use tallies::Journal;
@@ -79,8 +79,8 @@ fn unbegun<'a, J: Threaded, E: Drop>(
 /// all threads have ended.
 ///
 /// The harts, seats, tables and bus are those of a board's parts, which the life's name has as its machine and tables: each loop that
-/// ended is of a hart of that machine, which went from there by its own turns, and has its seats of these tables. `booted.doze` is the doze of that bus: it is
-/// read before the bus goes behind its lock. Once a loop ended with the life, each other one
+/// ended is of a hart of that machine, which went from there by its own turns, and has its seats of these tables. `booted.doze` is the
+/// doze of that bus: it is read before the bus goes behind its lock. Once a loop ended with the life, each other one
 /// ends before its next turn. The console goes on until it returns by itself, and where it returns first the harts
 /// run out their turns, unless it halts them by the board's `closing`, and as far as the gate lets them.
 ///
@@ -146,7 +146,11 @@ pub fn drive<
     let (works, parts) = works_of(rt, gate, board, all, parts, turns, room);
     let done = on_threads(
         rt,
-        board.closing,
+        &Stop {
+            rt,
+            closing: board.closing,
+            reason: board.reason,
+        },
         rooms,
         works,
         &|work|
@@ -219,13 +223,21 @@ fn loop_of<
     };
     let locks = Locks::new(board.bus, board.store);
     let ended = hart_loop(rt, gate, board.of_loop(), locks, hart, local, turns);
-    let set = board.closing.end_by(ended.why, &ended.told);
+    let set = board.closing.end_by(rt, board.reason, &ended);
     at_rest(ended, set, board.tables)
 }
 
-impl<J: Threaded> StopSource for Closing<J> {
+/// What ends the loops that were begun, where one could not be.
+#[derive(Drop)]
+struct Stop<'r, 'a, 'c, R, J: Threaded> {
+    rt: &'r R,
+    closing: &'c Closing<J>,
+    reason: &'a Mutex<HaltReason<'c, J>>,
+}
+
+impl<'r, 'a, 'c, R: Wait, J: Threaded> StopSource for Stop<'r, 'a, 'c, R, J> {
     fn stop(&self) {
-        self.halt();
+        self.closing.halt(self.rt, self.reason);
     }
 }
 

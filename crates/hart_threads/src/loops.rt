@@ -143,7 +143,7 @@ pub fn hart_loop<'c, R: Wait, G: Gate, D: Disk + Drop, J: Threaded, C: Crew>(
     };
     let mut locks = locks;
     for made in 0..turns {
-        let unhalted = match board.closing.look(rt, &mut run.asked, locks) {
+        let unhalted = match board.closing.look(rt, board.reason, &mut run.asked, locks) {
             Ok(unhalted) => unhalted,
             Err(shut) => return run.end(made, Why::Closed, Some(shut), None),
         };

@@ -4,7 +4,7 @@ ghost use Rattle.std.specs.Prelude.{◌≡◌};
 
 use crate::bus_turns::BusPart;
 use crate::buses::SharedBus;
-use crate::closing::Closing;
+use crate::closing::{Closing, HaltReason};
 use crate::receipts::CommandReceipt;
 use crate::shared_store::SharedStore;
 use crate::threaded::Threaded;
@@ -19,7 +19,7 @@ use susp::Doze;
 use tallies::{BookPart, Journal};
 
 /// A board as the threads of its harts share it: the two tables, whose words change in single steps, the bus and the
-/// store, each behind its lock, what ends the loops of all harts, and what an image is written with.
+/// store, each behind its lock, what ends the loops of all harts and why it did, and what an image is written with.
 pub struct SharedBoard<'a, 'c, D: Disk + Drop, J: Threaded, C> {
     pub saving: Saving<'a, C>,
     pub tables: &'a Tables,
@@ -27,6 +27,7 @@ pub struct SharedBoard<'a, 'c, D: Disk + Drop, J: Threaded, C> {
     pub bus: &'a Mutex<SharedBus<J>>,
     pub store: &'a Mutex<SharedStore<D, J>>,
     pub closing: &'c Closing<J>,
+    pub reason: &'a Mutex<HaltReason<'c, J>>,
 }
 
 impl<'a, 'c, D: Disk + Drop, J: Threaded, C> Copy for SharedBoard<'a, 'c, D, J, C> {}
@@ -48,6 +49,7 @@ impl<'a, 'c, D: Disk + Drop, J: Threaded, C> SharedBoard<'a, 'c, D, J, C> {
             tables: self.tables,
             shape: self.shape,
             closing: self.closing,
+            reason: self.reason,
         }
     }
 }
@@ -58,6 +60,7 @@ pub struct LoopBoard<'a, 'c, J: Threaded, C> {
     pub tables: &'a Tables,
     pub shape: &'a Shape,
     pub closing: &'c Closing<J>,
+    pub reason: &'a Mutex<HaltReason<'c, J>>,
 }
 
 impl<'a, 'c, J: Threaded, C> Copy for LoopBoard<'a, 'c, J, C> {}

@@ -11,6 +11,7 @@ ghost use Rattle.hart_threads.specs.Views.{bus_parts};
 ghost use Rattle.machine.specs.Held.{IsHeld};
 ghost use Rattle.tallies.specs.BookViews.{id_of, parts_of};
 ghost use Rattle.tallies.specs.Books.{fresh_from};
+ghost use Rattle.tallies.specs.Halts.{watched};
 ghost use Rattle.tests.specs.Begun.{IsBegun};
 
 use crate::dozing::UntilWoken;
@@ -33,7 +34,7 @@ use std::sync::{Mutex, OnceLock, Wait};
 use std::thread::Threads;
 use std::time::Clock;
 use store::{Saving, Store};
-use tallies::Halt;
+use tallies::{Halt, Watch};
 
 /// Slot 0 boots these bytes, and the other slots nothing.
 fn booting(alloc: Global, payload: &[u8]) -> Result<Payloads, Refusal> {
@@ -189,12 +190,13 @@ struct Books {
     runs: NewBook<BusTurn>,
 }
 
-/// The marks of a life: its books, and what ends its loops: what the console says, and the halt.
-type Marks = (Books, (OnceLock<AfterConsole>, Halt));
+/// The marks of a life: its books, and what ends its loops: what the console says, and the halt with the watch that may set it.
+type Marks = (Books, (OnceLock<AfterConsole>, (Halt, Watch)));
 
 /// New marks, of which the books of commands and of the bus have so many parts.
 fn new_marks(rt: &impl Abort, alloc: Global, parts: u32) -> Marks
-    ensures { (parts_of result.0.commands ≡ parts) × (parts_of result.0.doubts ≡ 2) × (parts_of result.0.runs ≡ parts) }
+    ensures { (parts_of result.0.commands ≡ parts) × (parts_of result.0.doubts ≡ 2) × (parts_of result.0.runs ≡ parts)
+        × (result.1.1.1 ≡ watched result.1.1.0 true 0 None) }
 {
     let commands = NewBook::new(alloc, parts).expect(rt, "memory");
     let doubts = NewBook::new(alloc, 2).expect(rt, "memory");
@@ -302,7 +304,8 @@ fn driven_as<J: Threaded + Send + Sync, R: Threads + Wait + Clock + Abort + Sync
     requires earlier { (t : ℕ) (c : Content) → (disk_of parts.store).since t c → J.earlier t c }
     requires machine { J.machine ≡ board_of shape.now J.memory parts.bus.doze parts.harts.items parts.seats }
     requires tables { AreNamed J.starts J.raises parts.tables }
-    requires driven { (marks.1.0.id ≡ J.parting) × (marks.1.1 ≡ J.halt) × (trial.turns ≡ J.turns) × (J.gated ≡ true) }
+    requires driven { (marks.1.0.id ≡ J.parting) × (marks.1.1.0 ≡ J.halt) × (trial.turns ≡ J.turns) × (J.gated ≡ true)
+        × (marks.1.1.1 ≡ watched J.halt true 0 None) }
     ensures { IsIdle (⟦<SimDisk as Disk>⟧.facts result.disk) }
 {
     let BoardParts {
@@ -337,8 +340,9 @@ fn driven_as<J: Threaded + Send + Sync, R: Threads + Wait + Clock + Abort + Sync
     };
     let bus: Mutex<SharedBus<J>> = Mutex::new(bus);
     let store = Mutex::new(store);
-    let (lock, halt) = halting;
-    let closing = Closing::new(lock, halt);
+    let (lock, (halt, first)) = halting;
+    let (closing, reason) = Closing::new(lock, halt, first);
+    let reason = Mutex::new(reason);
     let crew = crew::Threads::new(rt);
     let (rung, told, size) = (&bus, &store, *shape);
     let board = SharedBoard {
@@ -348,6 +352,7 @@ fn driven_as<J: Threaded + Send + Sync, R: Threads + Wait + Clock + Abort + Sync
         bus: &bus,
         store: &store,
         closing: &closing,
+        reason: &reason,
     };
     let done = drive(
         rt,

@@ -68,7 +68,8 @@ impl<'a, R: Clock> Read for Late<'a, R> {
     }
 }
 
-/// An output that counts the ends of answers that were written since the last flush, and the answers that were flushed alone.
+/// An output that counts the answers of which each came in one write, with its line feed, and was flushed before the next. Since the last
+/// flush `waiting` counts the writes, and one without a line feed at its end twice.
 #[derive(Drop)]
 struct Flushed {
     page: Page,
@@ -90,8 +91,8 @@ impl Flushed {
 impl Write for Flushed {
     fn write(&mut self, buf: &[u8]) -> io::Result<usize> {
         let count = self.page.write(buf)?;
-        let lines = u64::from(buf.ends_with(b"\n"));
-        self.waiting = self.waiting.wrapping_add(lines);
+        let counted = if buf.ends_with(b"\n") { 1 } else { 2 };
+        self.waiting = self.waiting.wrapping_add(counted);
         Ok(count)
     }
 
@@ -105,7 +106,7 @@ impl Write for Flushed {
 }
 
 /// A session over a blank disk: its words, the room of its output, how it ends, why its console leaves, what it answers, and how
-/// many of the answers are flushed alone.
+/// many of the answers are each written at once and flushed.
 struct SessionEnding {
     words: &'static [&'static str],
     room: usize,
