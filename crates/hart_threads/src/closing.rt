@@ -187,7 +187,7 @@ impl<'c, J: Threaded> HaltReason<'c, J> {
     /// Sets the halt for that reason. Where it was set before, the first reason stands.
     fn set(&mut self, halt: &Halt, why: Shut<'c, J>) -> HaltSet<J>
         requires halt { halt.now ≡ J.halt }
-        ensures first { self.old.why ≡ None → self.new.why ≡ Some why }
+        ensures first { self.old.why ≡ None → self.new.why ≡ Some why.entry }
         ensures stands { is_some self.old.why ≡ true → self.new.why ≡ self.old.why }
     {
         match self.why {
