@@ -39,6 +39,7 @@ use std::sync::{Mutex, Wait};
 use std::thread::Threads;
 use store::{Saving, Store};
 use susp::{Bus, Doze};
+use tallies::Watch;
 
 /// The harts of a board that is on, the one seat of them all, the doze of their bus, and how many turns each makes at most.
 #[derive(Drop)]
@@ -207,12 +208,12 @@ pub(crate) fn run_board<
         parts,
         turns: on.turns,
     };
-    let (closing, reason) = Closing::new(lock, halt, first);
+    let closing = Closing::new(lock, halt);
     let shared = SharedHardware { shape, tables, bus };
     let (whole, shared, driven) = drive_beside_console(
         rt,
         alloc,
-        (&closing, reason),
+        (&closing, first),
         shared,
         whole,
         booted,
@@ -249,13 +250,14 @@ fn drive_beside_console<
 >(
     rt: &R,
     alloc: Global,
-    halting: (&'c Closing<J>, HaltReason<'c, J>),
+    halting: (&'c Closing<J>, Watch),
     hardware: SharedHardware<J>,
     whole: Unshared<D, J>,
     booted: BootedHarts<J>,
     side: ConsoleSide<J, I, W>,
 ) -> (Unshared<D, J>, SharedHardware<J>, Driven<'c, J, I, W>)
     requires none { length (parts_with whole) ≡ 0 }
+    requires first { halting.1 ≡ watched J.halt true 0 None }
     requires shape { hardware.shape ≡ J.size }
     requires turns { booted.turns ≡ J.turns }
     requires parts { vec_len booted.parts ≡ vec_len booted.harts }
@@ -278,8 +280,8 @@ fn drive_beside_console<
     let SharedHardware { shape, tables, bus } = hardware;
     let bus_lock: Mutex<SharedBus<J>> = Mutex::new(bus);
     let store_lock: Mutex<SharedStore<D, J>> = Mutex::new(whole.share());
-    let (closing, reason) = halting;
-    let reason_lock: Mutex<HaltReason<'c, J>> = Mutex::new(reason);
+    let (closing, first) = halting;
+    let reason_lock: Mutex<HaltReason<'c, J>> = Mutex::new(closing.reason(first));
     let (bus, store, reason) = (&bus_lock, &store_lock, &reason_lock);
     let crew = crew::Threads::new(rt);
     let board = SharedBoard {

@@ -262,27 +262,26 @@ pub struct Closing<J: Threaded> {
 }
 
 impl<J: Threaded> Closing<J> {
-    /// Nothing was said yet. The lock is the console's, and nothing was written into it; the halt is not set, and `first` may set it.
-    pub fn new<'c>(
-        console: OnceLock<AfterConsole>,
-        halt: Halt,
-        first: Watch,
-    ) -> (Closing<J>, HaltReason<'c, J>)
+    /// Nothing was said yet. The lock is the console's, and nothing was written into it; the halt is not set.
+    pub fn new(console: OnceLock<AfterConsole>, halt: Halt) -> Closing<J>
         requires console { console.id ≡ J.parting }
         requires halt { halt ≡ J.halt }
-        requires first { first ≡ watched J.halt true 0 None }
     {
-        (
-            Closing {
-                console,
-                halt,
-                of: PhantomData,
-            },
-            HaltReason {
-                watch: first,
-                why: None,
-            },
-        )
+        Closing {
+            console,
+            halt,
+            of: PhantomData,
+        }
+    }
+
+    /// No reason yet: the halt is not set, and `first` may set it.
+    pub fn reason<'c>(&'c self, first: Watch) -> HaltReason<'c, J>
+        requires { first ≡ watched J.halt true 0 None }
+    {
+        HaltReason {
+            watch: first,
+            why: None,
+        }
     }
 
     /// One look before a turn, by a hart that holds no lock: what ends its loop now, or the right to ask for the turn. A look that

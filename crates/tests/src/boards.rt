@@ -341,8 +341,8 @@ fn driven_as<J: Threaded + Send + Sync, R: Threads + Wait + Clock + Abort + Sync
     let bus: Mutex<SharedBus<J>> = Mutex::new(bus);
     let store = Mutex::new(store);
     let (lock, (halt, first)) = halting;
-    let (closing, reason) = Closing::new(lock, halt, first);
-    let reason = Mutex::new(reason);
+    let closing = Closing::new(lock, halt);
+    let reason = Mutex::new(closing.reason(first));
     let crew = crew::Threads::new(rt);
     let (rung, told, size) = (&bus, &store, *shape);
     let board = SharedBoard {
