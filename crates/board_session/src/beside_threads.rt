@@ -89,7 +89,7 @@ fn attend<'c, R: Wait, D: Disk + Drop, J: Threaded, I: Read + Drop, W: Write + D
     rt: &R,
     bus: &Mutex<SharedBus<J>>,
     store: &Mutex<SharedStore<D, J>>,
-    halting: (&'c Closing<J>, &Mutex<HaltReason<'c, J>>),
+    reason: &Mutex<HaltReason<'c, J>>,
     side: ConsoleSide<J, I, W>,
 ) -> Talked<'c, J, I, W>
     ensures { Talks J.found J.issued result.left
@@ -106,7 +106,7 @@ fn attend<'c, R: Wait, D: Disk + Drop, J: Threaded, I: Read + Drop, W: Write + D
     let mut heard = heard;
     let mut locks = Locks::new(bus, store);
     let (part, left) = console(rt, &mut locks, part, &mut heard, &mut input, &mut out);
-    let (closing, reason) = halting;
+    let closing = reason.lock(rt).closing();
     let parted = closing.part(rt, reason, harts_after(left));
     Talked {
         side: ConsoleSide {
@@ -305,7 +305,7 @@ fn drive_beside_console<
                 (party side.part.told side.heard))
                 (dialogue_ends (I.remaining result.side.streams.input) (output_of W.contents result.side.streams.out)
                 (party result.side.part.told result.side.heard)) }
-        { attend(rt, bus, store, (closing, reason), side) },
+        { attend(rt, bus, store, reason, side) },
     );
     let whole = store_lock.into_inner().unshare();
     let bus = bus_lock.into_inner();

@@ -159,6 +159,7 @@ impl<'a, J: Threaded> Shut<'a, J> {
 /// together with its reason: so whoever finds it set finds here why.
 #[derive(Drop)]
 pub struct HaltReason<'c, J: Threaded> {
+    closing: &'c Closing<J>,
     watch: Watch,
     why: Option<Shut<'c, J>>,
     pub ghost named: { watch.of ≡ J.halt },
@@ -167,9 +168,13 @@ pub struct HaltReason<'c, J: Threaded> {
 }
 
 impl<'c, J: Threaded> HaltReason<'c, J> {
+    /// What closes that life.
+    pub fn closing(&self) -> &'c Closing<J> {
+        self.closing
+    }
+
     /// Why the halt was set, for one who found it set.
-    fn found(&mut self, halt: &Halt, watch: &mut Watch) -> Shut<'c, J>
-        requires halt { halt.now ≡ J.halt }
+    fn found(&mut self, watch: &mut Watch) -> Shut<'c, J>
         requires watch { watch.old.of ≡ J.halt }
         requires set { is_some watch.old.sum ≡ true }
         ensures same { watch.new ≡ watch.old }
@@ -178,18 +183,18 @@ impl<'c, J: Threaded> HaltReason<'c, J> {
         match &self.why {
             Some(why) => why.again(),
             None => {
-                halt.compare(&mut self.watch, watch);
+                self.closing.halt.compare(&mut self.watch, watch);
                 unreachable!()
             }
         }
     }
 
     /// Sets the halt for that reason. Where it was set before, the first reason stands.
-    fn set(&mut self, halt: &Halt, why: Shut<'c, J>) -> HaltSet<J>
-        requires halt { halt.now ≡ J.halt }
+    fn set(&mut self, why: Shut<'c, J>) -> HaltSet<J>
         ensures first { self.old.why ≡ None → self.new.why ≡ Some why.entry }
         ensures stands { is_some self.old.why ≡ true → self.new.why ≡ self.old.why }
     {
+        let halt = &self.closing.halt;
         match self.why {
             Some(_) => {}
             None => {
@@ -279,6 +284,7 @@ impl<J: Threaded> Closing<J> {
         requires { first ≡ watched J.halt true 0 None }
     {
         HaltReason {
+            closing: self,
             watch: first,
             why: None,
         }
@@ -298,7 +304,7 @@ impl<J: Threaded> Closing<J> {
         ensures { MatchResult result (λ going. asked.new ≡ asked.old + 1) (λ shut. asked.new ≡ asked.old) }
     {
         if self.halt.is_set(&mut asked.watch) {
-            return Err(reason.lock(rt).found(&self.halt, &mut asked.watch));
+            return Err(reason.lock(rt).found(&mut asked.watch));
         }
         asked.times += 1;
         Ok(Unhalted { locks })
@@ -316,7 +322,7 @@ impl<J: Threaded> Closing<J> {
         match &ended.told {
             Some(told) => {
                 let last = LastReceipt::of(told);
-                Some(reason.lock(rt).set(&self.halt, Shut::Life(last)))
+                Some(reason.lock(rt).set(Shut::Life(last)))
             }
             None => None,
         }
@@ -347,7 +353,7 @@ impl<J: Threaded> Closing<J> {
                     token: token.again(),
                     of: PhantomData,
                 };
-                Some(reason.lock(rt).set(&self.halt, Shut::Console(halted)))
+                Some(reason.lock(rt).set(Shut::Console(halted)))
             }
             AfterConsole::RunOut => None,
         }
