@@ -1,12 +1,12 @@
 -- What was found by a system beside the one that is searched is carried over, and entered.
-use Rattle.std.proofs.Common.{◌≡◌, ⊎_elim, ℕ, ◌+◌, ◌<◌, Bool, true, false, if◌then◌else◌, List, [], ◌∷◌, ◌++◌, length, get_or, take, drop, refl, sym, ap, subst, ◌∙◌, arith, length-append}
-use Rattle.std.specs.Prelude.{All, ◌↔◌, ◌≢◌, slice_index}
+use Rattle.std.proofs.Common.{◌≡◌, ⊎_elim, ℕ, ◌+◌, ◌<◌, Bool, true, false, if◌then◌else◌, List, [], ◌∷◌, ◌++◌, length, get_or, refl, sym, ap, subst, ◌∙◌, arith, length-append}
+use Rattle.std.specs.Prelude.{All, ◌↔◌, ◌≢◌, slice_index, slice_set}
 use Rattle.std.proofs.lemmas.Bool.{cases_lt}
-use Rattle.std.proofs.lemmas.List.{take_at}
-use Rattle.std.proofs.lemmas.List.Elements.{All-push, All-same}
+use Rattle.std.proofs.lemmas.List.Elements.{All-push, All-same, All-set}
 use Rattle.state_space.specs.declared.found.Successors.{Successors}
 use Rattle.state_space.specs.declared.graph.Graph.{Graph}
 use Rattle.state_space.specs.declared.workers.Made.{Made}
+use Rattle.state_space.specs.declared.workers.Worker.{Worker}
 use Rattle.state_space.specs.Carried.{AreMade, AreTargets, IsCarried, IsLater, IsMade, IsPushed, IsTarget, NOWHERE}
 use Rattle.state_space.specs.Graphs.{count_of, expanded_of, row_at, IsAdded, IsSearched, IsWhole}
 use Rattle.state_space.specs.Numbered.{row_width}
@@ -165,19 +165,36 @@ module _ {State : Type 0} where
     width = two.width ∙ one.width;
   }
 
--- ---- all that a system made
-module _ {S State Setting : Type 0} (setting : S → Setting) (rules : Setting → Rules State) (stands : S → List ℕ → State → Type 0) where
-  pub are_later : (main main' : S) (old new : Graph) (system : S) (made : List Made) → setting main' ≡ setting main → IsSearched (rules (setting main)) (stands main) old → IsLater (stands main) (stands main') old new → AreMade setting rules stands main old system made → AreMade setting rules stands main' new system made
-  are_later main main' old new system made same searched later are = record {
-    alike = are.alike ∙ sym same;
-    each = λ k d lt. subst (λ t. IsMade (rules t) (stands main') (stands system) new (get_or made k d)) (sym same)
-        (made_later (rules (setting main)) (stands main) (stands main') (stands system) old new (get_or made k d) searched later (are.each k d lt));
+-- ---- what two systems remember of one another
+abbrev KnowsOn : {S State Setting Memo : Type 0} → (S → Setting) → (S → List ℕ → State → Type 0) → (S → S → Memo → Type 0) → Type 0
+KnowsOn {S} {State} {Setting} {Memo} setting stands knows =
+    (from to later after : S) (memo : Memo) → setting later ≡ setting from → setting after ≡ setting to
+    → Stay (stands from) (stands later) → Stay (stands to) (stands after) → knows from to memo → knows later after memo
+
+module _ {S State Setting Memo : Type 0} (setting : S → Setting) (rules : Setting → Rules State) (stands : S → List ℕ → State → Type 0) (knows : S → S → Memo → Type 0) (on : KnowsOn setting stands knows)
+    (main main' : S) (old new : Graph) (same : setting main' ≡ setting main) (searched : IsSearched (rules (setting main)) (stands main) old) (later : IsLater (stands main) (stands main') old new) where
+  -- the tables and the graph of the system that is searched grow
+  are_later : (worker : Worker S Memo) → AreMade setting rules stands knows main old worker → AreMade setting rules stands knows main' new worker
+  are_later worker are = record {
+    beside = record {
+      alike = are.beside.alike ∙ sym same;
+      to_own = on main worker.system main' worker.system worker.memo same refl later.stays (stays_same (stands worker.system)) are.beside.to_own;
+      to_main = on worker.system main worker.system main' worker.back refl same (stays_same (stands worker.system)) later.stays are.beside.to_main;
+    };
+    each = λ k d lt.
+        let made = get_or worker.made.items k d in
+        subst (λ t. IsMade (rules t) (stands main') (stands worker.system) new made) (sym same)
+        (made_later (rules (setting main)) (stands main) (stands main') (stands worker.system) old new made searched later (are.each k d lt));
   }
 
--- ---- a list is lent as a slice, and is what the slice has become
-module _ {X : Type 0} (new old items : List X) (n : ℕ) (as_many : length new ≡ length old) (value : old ≡ items) (long : n ≡ length items) where
-  put_back : take n (new ++ drop (length new) items) ≡ new
-  put_back = take_at new (drop (length new) items) n (as_many ∙ ap (λ (l : List X). length l) value ∙ sym long)
-
-  pub all_back : (P : X → Type 0) → All P new → All P (take n (new ++ drop (length new) items))
-  all_back P all = All-same P (take n (new ++ drop (length new) items)) new put_back all
+  -- and what it remembers of the numbers of one of the others is another
+  pub all_later : (workers : List (Worker S Memo)) (i : ℕ) (worker : Worker S Memo) (back : Memo) → knows worker.system main' back → AreMade setting rules stands knows main old worker
+      → All (AreMade setting rules stands knows main old) workers → All (AreMade setting rules stands knows main' new) (slice_set workers i (record worker { back = back }))
+  all_later workers i worker back to_main are all =
+      let was = are_later worker are in
+      All-set (AreMade setting rules stands knows main' new) workers i (record worker { back = back })
+      (record {
+        beside = record { alike = was.beside.alike; to_own = was.beside.to_own; to_main = to_main };
+        each = was.each;
+      })
+      (λ k d lt. are_later (get_or workers k d) (all k d lt))

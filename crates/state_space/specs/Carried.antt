@@ -3,6 +3,7 @@ use Rattle.std.specs.Prelude.{◌≡◌, ◌≢◌, ◌↔◌, ℕ, ◌+◌, ◌
 use Rattle.state_space.specs.declared.found.Successors.{Successors}
 use Rattle.state_space.specs.declared.graph.Graph.{Graph}
 use Rattle.state_space.specs.declared.workers.Made.{Made}
+use Rattle.state_space.specs.declared.workers.Worker.{Worker}
 use Rattle.state_space.specs.Graphs.{count_of, expanded_of, row_at}
 use Rattle.state_space.specs.Numbered.{row_width}
 use Rattle.state_space.specs.Successors.{found_count, found_event, found_row, found_width}
@@ -52,7 +53,13 @@ pub record IsLater {State : Type 0} (before after : List ℕ → State → Type 
   pub more : expanded_of old ≤ expanded_of new
   pub width : row_width new.rows ≡ row_width old.rows
 
--- A system beside `main` is of the same setting, and these are what it found of rows of the graph.
-pub record AreMade {S State Setting : Type 0} (setting : S → Setting) (rules : Setting → Rules State) (stands : S → List ℕ → State → Type 0) (main : S) (graph : Graph) (system : S) (made : List Made) : Type 0 where
+-- A system beside `main` is of the same setting, and what each of the two remembers of the numbers of the other one is right.
+pub record IsBeside {S Setting Memo : Type 0} (setting : S → Setting) (knows : S → S → Memo → Type 0) (main system : S) (memo back : Memo) : Type 0 where
   pub alike : setting system ≡ setting main
-  pub each : All (IsMade (rules (setting main)) (stands main) (stands system) graph) made
+  pub to_own : knows main system memo
+  pub to_main : knows system main back
+
+-- it is, and what it found is of rows of the graph
+pub record AreMade {S State Setting Memo : Type 0} (setting : S → Setting) (rules : Setting → Rules State) (stands : S → List ℕ → State → Type 0) (knows : S → S → Memo → Type 0) (main : S) (graph : Graph) (worker : Worker S Memo) : Type 0 where
+  pub beside : IsBeside setting knows main worker.system worker.memo worker.back
+  pub each : All (IsMade (rules (setting main)) (stands main) (stands worker.system) graph) worker.made.items

@@ -1,7 +1,8 @@
 -- A system within a number of events of a kind: its states, each with how many of them are left.
+use Rattle.std.proofs.Common.{ap, drop, refl, subst, sym}
 use Rattle.std.specs.Prelude.{◌≡◌, ℕ, suc, Bool, true, false, List, [], ◌∷◌}
 use Rattle.state_space.specs.Listed.{ListsAll, ListsNext}
-use Rattle.state_space.specs.Systems.{Rules}
+use Rattle.state_space.specs.Systems.{Rules, Stay}
 use Rattle.state_space.specs.declared.found.Successors.{Successors}
 
 -- how many of the events are of that kind
@@ -47,6 +48,14 @@ row_counted left row = left ∷ row
 
 abbrev pub StandsCounted : {State : Type 0} → (List ℕ → State → Type 0) → List ℕ → Counted State → Type 0
 StandsCounted stands row b = (inner : List ℕ) × (row ≡ row_counted b.left inner) × stands inner b.state
+
+-- what the rows stand for of a system whose events are counted stays, and so does what those of the system itself do
+pub counted_inner : {State : Type 0} (old new : List ℕ → State → Type 0) → Stay (StandsCounted old) (StandsCounted new) → Stay old new
+counted_inner {State} old new stays r b c has =
+    let both = stays (row_counted 0 r) (record { state = b; left = 0 }) (record { state = c; left = 0 }) (r, refl, has) in (
+      λ at. let got = both.0 (r, refl, at) in subst (λ (row : List ℕ). new row c) (ap (λ (row : List ℕ). drop 1 row) (sym got.1)) got.2,
+      λ at. let got = both.1 (r, refl, at) in subst (λ (row : List ℕ). old row c) (ap (λ (row : List ℕ). drop 1 row) (sym got.1)) got.2,
+    )
 
 -- of the first so many successors, each for which enough is left is listed, and no other
 abbrev pub AreCounted : (ℕ → Bool) → ℕ → Successors → Successors → ℕ → Type 0

@@ -1,8 +1,9 @@
 -- A system within a number of switches: its states, each with what is left there.
+use Rattle.std.proofs.Common.{ap, drop, refl, subst, sym}
 use Rattle.std.specs.Prelude.{◌≡◌, ◌⊎◌, ℕ, suc, Bool, true, false, List, ◌∷◌, Option, None, Some}
 use Rattle.state_space.specs.Bounded.{Budget, IsFreeBy, PaysBy, Richer}
 use Rattle.state_space.specs.Listed.{ListsAll, ListsNext}
-use Rattle.state_space.specs.Systems.{Rules}
+use Rattle.state_space.specs.Systems.{Rules, Stay}
 use Rattle.state_space.specs.declared.found.Successors.{Successors}
 
 pub record Switched (State : Type 0) : Type 0 where
@@ -31,6 +32,18 @@ row_within w row = last_number w.last ∷ w.left ∷ row
 
 abbrev pub StandsWithin : {State : Type 0} → (List ℕ → State → Type 0) → List ℕ → Switched State → Type 0
 StandsWithin stands row b = (inner : List ℕ) × (row ≡ row_within b.budget inner) × stands inner b.state
+
+-- no process made the last turn, and no switch is left
+abbrev none_left : Budget
+none_left = record { last = None; left = 0 }
+
+-- what the rows stand for of a system within switches stays, and so does what those of the system itself do
+pub within_inner : {State : Type 0} (old new : List ℕ → State → Type 0) → Stay (StandsWithin old) (StandsWithin new) → Stay old new
+within_inner {State} old new stays r b c has =
+    let both = stays (row_within none_left r) (record { state = b; budget = none_left }) (record { state = c; budget = none_left }) (r, refl, has) in (
+      λ at. let got = both.0 (r, refl, at) in subst (λ (row : List ℕ). new row c) (ap (λ (row : List ℕ). drop 2 row) (sym got.1)) got.2,
+      λ at. let got = both.1 (r, refl, at) in subst (λ (row : List ℕ). old row c) (ap (λ (row : List ℕ). drop 2 row) (sym got.1)) got.2,
+    )
 
 -- ---- what a successor costs
 -- What is said of switches in a state: each turn is free; else a process made the last turn, and does not wait.

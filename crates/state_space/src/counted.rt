@@ -153,7 +153,18 @@ impl<S: Counts> System for Counting<S> {
 }
 
 impl<S: Counts + Carries> Carries for Counting<S> {
+    ghost use Rattle.std.proofs.Common.{ℕ, ap};
+    ghost use Rattle.state_space.specs.Counted.{counted_inner};
+
     type Memo = S::Memo;
+
+    ghost knows = { λ from to memo. S.knows from.system to.system memo };
+
+    ghost knows_on = { λ from to later after memo first other stays grows knows.
+        S.knows_on from.system to.system later.system after.system memo
+        (ap (λ (t : S.Setting × ℕ). t.0) first) (ap (λ (t : S.Setting × ℕ). t.0) other)
+        (counted_inner (S.stands from.system) (S.stands later.system) stays)
+        (counted_inner (S.stands to.system) (S.stands after.system) grows) knows };
 
     fn another(&self) -> Result<Self, Refused> {
         Ok(Counting::new(self.alloc, self.system.another()?, self.most))

@@ -1,10 +1,12 @@
 //! The search, breadth first.
 
 ghost use Rattle.std.specs.Prelude.{◌≡◌, ◌<◌, ◌≤◌, ◌+◌, ℕ, All, IfOk, OnOk, IfSome, IfNone, true, false};
+ghost use Rattle.state_space.specs.Carried.{IsBeside};
 ghost use Rattle.state_space.specs.Graphs.{IsSearched, count_of, expanded_of};
 ghost use Rattle.state_space.specs.Numbered.{row_width};
 ghost use Rattle.state_space.specs.Searches.{IsVerdict};
 ghost use Rattle.state_space.specs.Successors.{found_width};
+ghost use Rattle.state_space.specs.Systems.{Stay};
 
 use crate::carries::Carries;
 use crate::found::Successors;
@@ -28,6 +30,7 @@ fn expand_next<S: System>(
     requires width { row_width graph.old.rows ≡ S.width (S.setting system.old) }
     requires found_width { found_width found.old ≡ S.width (S.setting system.old) }
     ensures setting { S.setting system.new ≡ S.setting system.old }
+    ensures stays { Stay (S.stands system.old) (S.stands system.new) }
     ensures searched { OnOk result (IsSearched (S.rules (S.setting system.new)) (S.stands system.new) graph.new) }
     ensures width { OnOk result (row_width graph.new.rows ≡ row_width graph.old.rows) }
     ensures found_width { found_width found.new ≡ found_width found.old }
@@ -76,12 +79,14 @@ fn advance<R: Threads + Sync, S: Carries>(
     requires searched { IsSearched (S.rules (S.setting system.old)) (S.stands system.old) graph.old }
     requires width { row_width graph.old.rows ≡ S.width (S.setting system.old) }
     requires found_width { found_width found.old ≡ S.width (S.setting system.old) }
-    requires workers { All (λ worker. S.setting worker.system ≡ S.setting system.old) workers.old.workers.items }
+    requires workers { All (λ worker. IsBeside S.setting S.knows system.old worker.system worker.memo worker.back)
+        workers.old.workers.items }
     ensures setting { S.setting system.new ≡ S.setting system.old }
     ensures searched { OnOk result (IsSearched (S.rules (S.setting system.new)) (S.stands system.new) graph.new) }
     ensures width { OnOk result (row_width graph.new.rows ≡ row_width graph.old.rows) }
     ensures found_width { found_width found.new ≡ found_width found.old }
-    ensures workers { OnOk result (All (λ worker. S.setting worker.system ≡ S.setting system.new) workers.new.workers.items) }
+    ensures workers { OnOk result (All (λ worker. IsBeside S.setting S.knows system.new worker.system worker.memo worker.back)
+        workers.new.workers.items) }
     ensures verdict { IfOk result (λ ended. IfSome ended (λ verdict. IsVerdict verdict (expanded_of graph.new) (count_of graph.new))) }
     ensures more { IfOk result (λ ended. IfNone ended (expanded_of graph.old < expanded_of graph.new)) }
 {

@@ -225,7 +225,18 @@ impl<S: Preempted> System for Switching<S> {
 }
 
 impl<S: Preempted + Carries> Carries for Switching<S> {
+    ghost use Rattle.std.proofs.Common.{ℕ, ap};
+    ghost use Rattle.state_space.specs.Switched.{within_inner};
+
     type Memo = S::Memo;
+
+    ghost knows = { λ from to memo. S.knows from.system to.system memo };
+
+    ghost knows_on = { λ from to later after memo first other stays grows knows.
+        S.knows_on from.system to.system later.system after.system memo
+        (ap (λ (t : S.Setting × ℕ). t.0) first) (ap (λ (t : S.Setting × ℕ). t.0) other)
+        (within_inner (S.stands from.system) (S.stands later.system) stays)
+        (within_inner (S.stands to.system) (S.stands after.system) grows) knows };
 
     fn another(&self) -> Result<Self, Refused> {
         Ok(Switching::new(self.alloc, self.system.another()?, self.switches))

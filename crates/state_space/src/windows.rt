@@ -1,8 +1,8 @@
 //! The rows of a window, which several systems expand side by side, and which are entered in their order.
 
-ghost use Rattle.std.specs.Prelude.{◌≡◌, ◌<◌, ◌≤◌, ◌+◌, ℕ, All, length, IfOk, OnOk, true, slice_index_or, vec_len, vec_capacity};
+ghost use Rattle.std.specs.Prelude.{◌≡◌, ◌<◌, ◌≤◌, ◌+◌, ℕ, All, IfOk, OnOk, true, vec_len, vec_capacity};
 ghost use Rattle.std.specs.Thread.{IsSend, IsSync};
-ghost use Rattle.state_space.specs.Carried.{AreMade, IsCarried, IsLater, IsMade, IsPushed};
+ghost use Rattle.state_space.specs.Carried.{AreMade, IsBeside, IsCarried, IsLater, IsMade, IsPushed};
 ghost use Rattle.state_space.specs.Graphs.{IsSearched, count_of, expanded_of, row_at};
 ghost use Rattle.state_space.specs.Numbered.{row_width};
 ghost use Rattle.state_space.specs.Successors.{found_count, found_row, found_width};
@@ -37,7 +37,9 @@ fn carry_one<S: Carries>(
     requires setting { S.setting system.old ≡ S.setting from.now }
     requires stands { (b : S.State) × S.stands from.now successor.now b }
     requires width { found_width found.old ≡ S.width (S.setting system.old) }
+    requires knows { S.knows from.now system.old memo.old }
     ensures setting { S.setting system.new ≡ S.setting system.old }
+    ensures knows { S.knows from.now system.new memo.new }
     ensures stays { Stay (S.stands system.old) (S.stands system.new) }
     ensures width { found_width found.new ≡ found_width found.old }
     ensures pushed { IfOk result (λ _. IsPushed (S.stands from.now) (S.stands system.new) found.old found.new event successor.now) }
@@ -59,7 +61,9 @@ fn carry_all<S: Carries>(
     requires known { (i : ℕ) → i < found_count successors.now
         → (b : S.State) × S.stands from.now (found_row successors.now i) b }
     requires width { found_width found.old ≡ S.width (S.setting system.old) }
+    requires knows { S.knows from.now system.old memo.old }
     ensures setting { S.setting system.new ≡ S.setting system.old }
+    ensures knows { S.knows from.now system.new memo.new }
     ensures stays { Stay (S.stands system.old) (S.stands system.new) }
     ensures width { found_width found.new ≡ found_width found.old }
     ensures carried { IfOk result (λ _. IsCarried (S.stands from.now) (S.stands system.new) successors.now found.new
@@ -96,7 +100,9 @@ fn enter<S: Carries>(
     requires made { IsMade (S.rules (S.setting system.old)) (S.stands system.old) (S.stands from.now) graph.old made.now }
     requires width { row_width graph.old.rows ≡ S.width (S.setting system.old) }
     requires found_width { found_width found.old ≡ S.width (S.setting system.old) }
+    requires knows { S.knows from.now system.old memo.old }
     ensures setting { S.setting system.new ≡ S.setting system.old }
+    ensures knows { S.knows from.now system.new memo.new }
     ensures searched { OnOk result (IsSearched (S.rules (S.setting system.new)) (S.stands system.new) graph.new) }
     ensures later { OnOk result (IsLater (S.stands system.old) (S.stands system.new) graph.old graph.new) }
     ensures width { OnOk result (row_width graph.new.rows ≡ row_width graph.old.rows) }
@@ -119,33 +125,27 @@ fn enter_share<S: Carries>(
     system: &mut S,
     graph: &mut Graph,
     limits: Limits,
-    worker: &Worker<S>,
+    from: &S,
     memo: &mut S::Memo,
+    all: &[Made],
     row: &mut Vec<u32>,
     found: &mut Successors,
 ) -> Result<(), Refused>
+    requires setting { S.setting system.old ≡ S.setting from.now }
     requires searched { IsSearched (S.rules (S.setting system.old)) (S.stands system.old) graph.old }
-    requires made { AreMade S.setting S.rules S.stands system.old graph.old worker.now.system worker.now.made.items }
+    requires made { All (IsMade (S.rules (S.setting system.old)) (S.stands system.old) (S.stands from.now) graph.old) all.now }
     requires width { row_width graph.old.rows ≡ S.width (S.setting system.old) }
     requires found_width { found_width found.old ≡ S.width (S.setting system.old) }
+    requires knows { S.knows from.now system.old memo.old }
     ensures setting { S.setting system.new ≡ S.setting system.old }
+    ensures knows { S.knows from.now system.new memo.new }
     ensures searched { OnOk result (IsSearched (S.rules (S.setting system.new)) (S.stands system.new) graph.new) }
     ensures later { OnOk result (IsLater (S.stands system.old) (S.stands system.new) graph.old graph.new) }
     ensures width { OnOk result (row_width graph.new.rows ≡ row_width graph.old.rows) }
     ensures found_width { found_width found.new ≡ found_width found.old }
 {
-    for index in 0..worker.count() {
-        let made = worker.at(index);
-        if !enter(
-            system,
-            graph,
-            limits,
-            &worker.system,
-            memo,
-            made,
-            row,
-            found,
-        )? {
+    for made in all {
+        if !enter(system, graph, limits, from, memo, made, row, found)? {
             return Ok(());
         }
     }
@@ -157,32 +157,25 @@ fn with_share<S: Carries>(
     system: &S,
     graph: &Graph,
     each: usize,
-    memos: &[S::Memo],
     index: usize,
     worker: Worker<S>,
 ) -> Worker<S>
-    requires setting { S.setting worker.system ≡ S.setting system.now }
+    requires beside { IsBeside S.setting S.knows system.now worker.system worker.memo worker.back }
     requires searched { IsSearched (S.rules (S.setting system.now)) (S.stands system.now) graph.now }
-    ensures { AreMade S.setting S.rules S.stands system.now graph.now result.system result.made.items }
+    ensures { AreMade S.setting S.rules S.stands S.knows system.now graph.now result }
 {
     let mut worker = worker;
-    match memos.get(index) {
-        None => worker.forget(),
-        Some(memo) => {
-            let from = index.saturating_mul(each).saturating_add(graph.expanded());
-            worker.make_all(system, graph, memo, from, from.saturating_add(each));
-        }
-    }
+    let from = index.saturating_mul(each).saturating_add(graph.expanded());
+    worker.make_all(system, graph, from, from.saturating_add(each));
     worker
 }
 
-/// The last of the systems, which is taken out of their list. The system that is searched is an argument only so that its setting can be
-/// named.
+/// The last of the systems, which is taken out of their list. The system that is searched is an argument only so that it can be named.
 fn last_of<S: Carries>(system: &S, workers: &mut Vec<Worker<S>>) -> Worker<S>
     requires some { 0 < vec_len workers.old }
-    requires setting { All (λ worker. S.setting worker.system ≡ S.setting system.now) workers.old.items }
-    ensures setting { S.setting result.system ≡ S.setting system.now }
-    ensures rest { All (λ worker. S.setting worker.system ≡ S.setting system.now) workers.new.items }
+    requires beside { All (λ worker. IsBeside S.setting S.knows system.now worker.system worker.memo worker.back) workers.old.items }
+    ensures beside { IsBeside S.setting S.knows system.now result.system result.memo result.back }
+    ensures rest { All (λ worker. IsBeside S.setting S.knows system.now worker.system worker.memo worker.back) workers.new.items }
     ensures many { vec_len workers.new + 1 ≡ vec_len workers.old }
     ensures room { vec_capacity workers.new ≡ vec_capacity workers.old }
 {
@@ -201,15 +194,13 @@ fn with_shares<R: Threads + Sync, S: Carries>(
     system: &S,
     graph: &Graph,
     each: usize,
-    memos: &[S::Memo],
     workers: Vec<Worker<S>>,
 ) -> Vec<Worker<S>>
     requires searched { IsSearched (S.rules (S.setting system.now)) (S.stands system.now) graph.now }
-    requires setting { All (λ worker. S.setting worker.system ≡ S.setting system.now) workers.items }
+    requires beside { All (λ worker. IsBeside S.setting S.knows system.now worker.system worker.memo worker.back) workers.items }
     ensures many { vec_len result ≡ vec_len workers }
     ensures room { vec_capacity result ≡ vec_capacity workers }
-    ensures made { All (λ worker. AreMade S.setting S.rules S.stands system.now graph.now worker.system worker.made.items)
-        result.items }
+    ensures made { All (AreMade S.setting S.rules S.stands S.knows system.now graph.now) result.items }
 {
     let mut rest = workers;
     if rest.is_empty() {
@@ -218,50 +209,25 @@ fn with_shares<R: Threads + Sync, S: Carries>(
     let last = last_of(system, &mut rest);
     let index = rest.len();
     if index == 0 {
-        rest.push_reserved(with_share(system, graph, each, memos, index, last));
+        rest.push_reserved(with_share(system, graph, each, index, last));
         return rest;
     }
     let one = move || -> Worker<S>
-        requires { IsSync S.row × IsSend S.row × IsSync S.Memo.row × IsSend S.Memo.row × (S.setting last.system ≡ S.setting system.now)
+        requires { IsSync S.row × IsSend S.row × IsSync S.Memo.row × IsSend S.Memo.row
+            × IsBeside S.setting S.knows system.now last.system last.memo last.back
             × IsSearched (S.rules (S.setting system.now)) (S.stands system.now) graph.now }
-        ensures { AreMade S.setting S.rules S.stands system.entry.now graph.entry.now result.system result.made.items }
-    { with_share(system, graph, each, memos, index, last) };
+        ensures { AreMade S.setting S.rules S.stands S.knows system.entry.now graph.entry.now result }
+    { with_share(system, graph, each, index, last) };
     let others = move || -> Vec<Worker<S>>
         requires { IsSync R.row × IsSync S.row × IsSend S.row × IsSync S.Memo.row × IsSend S.Memo.row
-            × All (λ worker. S.setting worker.system ≡ S.setting system.now) rest.items
+            × All (λ worker. IsBeside S.setting S.knows system.now worker.system worker.memo worker.back) rest.items
             × IsSearched (S.rules (S.setting system.now)) (S.stands system.now) graph.now }
         ensures { (vec_len result ≡ vec_len rest) × (vec_capacity result ≡ vec_capacity rest)
-            × All (λ worker. AreMade S.setting S.rules S.stands system.entry.now graph.entry.now worker.system worker.made.items)
-            result.items }
-    { with_shares(rt, system, graph, each, memos, rest) };
+            × All (AreMade S.setting S.rules S.stands S.knows system.entry.now graph.entry.now) result.items }
+    { with_shares(rt, system, graph, each, rest) };
     let (one, mut all) = thread::join(rt, one, others);
     all.push_reserved(one);
     all
-}
-
-/// One of several.
-fn worker_at<S: Carries>(workers: &[Worker<S>], index: usize) -> &Worker<S>
-    requires { index < length workers.now }
-    ensures { result.now ≡ slice_index_or workers.now index result.now }
-{
-    &workers[index]
-}
-
-/// Adds one more system beside that one, and what that one remembers of its numbers: nothing yet.
-fn add_one<S: Carries>(
-    alloc: Global,
-    system: &S,
-    workers: &mut Vec<Worker<S>>,
-    memos: &mut Vec<S::Memo>,
-) -> Result<(), Refused>
-    requires one_each { length memos.old.items ≡ length workers.old.items }
-    requires setting { All (λ worker. S.setting worker.system ≡ S.setting system.now) workers.old.items }
-    ensures one_each { OnOk result (length memos.new.items ≡ length workers.new.items) }
-    ensures setting { OnOk result (All (λ worker. S.setting worker.system ≡ S.setting system.now) workers.new.items) }
-{
-    workers.push(Worker::new(alloc, system)?)?;
-    memos.push(system.memo())?;
-    Ok(())
 }
 
 /// The systems beside the one that is searched.
@@ -269,27 +235,23 @@ fn add_one<S: Carries>(
 pub struct Workers<S: Carries> {
     alloc: Global,
     workers: Vec<Worker<S>>,
-    /// What the one that is searched remembers of the numbers of each.
-    memos: Vec<S::Memo>,
     /// The row that was carried over last.
     row: Vec<u32>,
-    ghost one_each: { length memos.items ≡ length workers.items },
 }
 
 impl<S: Carries> Workers<S> {
     /// So many, of the same setting as that one.
     pub fn new(alloc: Global, system: &S, count: usize) -> Result<Workers<S>, Refused>
-        ensures setting { IfOk result (λ all. All (λ worker. S.setting worker.system ≡ S.setting system.now) all.workers.items) }
+        ensures { IfOk result (λ all. All (λ worker. IsBeside S.setting S.knows system.now worker.system worker.memo worker.back)
+            all.workers.items) }
     {
         let mut workers = Vec::new(alloc);
-        let mut memos = Vec::new(alloc);
         for _ in 0..count {
-            add_one(alloc, system, &mut workers, &mut memos)?;
+            workers.push(Worker::new(alloc, system)?)?;
         }
         Ok(Workers {
             alloc,
             workers,
-            memos,
             row: Vec::new(alloc),
         })
     }
@@ -313,25 +275,25 @@ impl<S: Carries> Workers<S> {
         found: &mut Successors,
     ) -> Result<(), Refused>
         requires searched { IsSearched (S.rules (S.setting system.old)) (S.stands system.old) graph.old }
-        requires made { All (λ worker. AreMade S.setting S.rules S.stands system.old graph.old worker.system worker.made.items)
-            self.old.workers.items }
+        requires made { All (AreMade S.setting S.rules S.stands S.knows system.old graph.old) self.old.workers.items }
         requires width { row_width graph.old.rows ≡ S.width (S.setting system.old) }
         requires found_width { found_width found.old ≡ S.width (S.setting system.old) }
         ensures setting { S.setting system.new ≡ S.setting system.old }
-        ensures workers { self.new.workers.items ≡ self.old.workers.items }
+        ensures made { OnOk result (All (AreMade S.setting S.rules S.stands S.knows system.new graph.new) self.new.workers.items) }
         ensures searched { OnOk result (IsSearched (S.rules (S.setting system.new)) (S.stands system.new) graph.new) }
         ensures later { OnOk result (IsLater (S.stands system.old) (S.stands system.new) graph.old graph.new) }
         ensures width { OnOk result (row_width graph.new.rows ≡ row_width graph.old.rows) }
         ensures found_width { found_width found.new ≡ found_width found.old }
     {
         for index in 0..self.workers.len() {
-            let worker = worker_at(&self.workers, index);
+            let worker = &mut self.workers[index];
             enter_share(
                 system,
                 graph,
                 limits,
-                worker,
-                &mut self.memos[index],
+                &worker.system,
+                &mut worker.back,
+                &worker.made,
                 &mut self.row,
                 found,
             )?;
@@ -350,11 +312,13 @@ impl<S: Carries> Workers<S> {
         found: &mut Successors,
     ) -> Result<(), Refused>
         requires searched { IsSearched (S.rules (S.setting system.old)) (S.stands system.old) graph.old }
-        requires workers { All (λ worker. S.setting worker.system ≡ S.setting system.old) self.old.workers.items }
+        requires workers { All (λ worker. IsBeside S.setting S.knows system.old worker.system worker.memo worker.back)
+            self.old.workers.items }
         requires width { row_width graph.old.rows ≡ S.width (S.setting system.old) }
         requires found_width { found_width found.old ≡ S.width (S.setting system.old) }
         ensures setting { S.setting system.new ≡ S.setting system.old }
-        ensures workers { All (λ worker. S.setting worker.system ≡ S.setting system.new) self.new.workers.items }
+        ensures workers { OnOk result (All (λ worker. IsBeside S.setting S.knows system.new worker.system worker.memo worker.back)
+            self.new.workers.items) }
         ensures searched { OnOk result (IsSearched (S.rules (S.setting system.new)) (S.stands system.new) graph.new) }
         ensures more { OnOk result (expanded_of graph.old ≤ expanded_of graph.new) }
         ensures width { OnOk result (row_width graph.new.rows ≡ row_width graph.old.rows) }
@@ -365,7 +329,7 @@ impl<S: Carries> Workers<S> {
             return Ok(());
         }
         let workers = mem::replace(&mut self.workers, Vec::new(self.alloc));
-        self.workers = with_shares(rt, system, graph, each, &self.memos, workers);
+        self.workers = with_shares(rt, system, graph, each, workers);
         self.enter_all(system, graph, limits, found)
     }
 }

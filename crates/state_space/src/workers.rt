@@ -1,7 +1,7 @@
 //! Systems beside the one that is searched, each of which expands rows of it by tables of its own.
 
 ghost use Rattle.std.specs.Prelude.{◌≡◌, ◌≢◌, ◌<◌, ℕ, All, IfOk, IfSome, Ok, [], false, length, slice_index_or, true};
-ghost use Rattle.state_space.specs.Carried.{AreTargets, IsCarried, IsMade, IsPushed, IsTarget, NOWHERE};
+ghost use Rattle.state_space.specs.Carried.{AreTargets, IsBeside, IsCarried, IsMade, IsPushed, IsTarget, NOWHERE};
 ghost use Rattle.state_space.specs.Graphs.{count_of, row_at};
 ghost use Rattle.state_space.specs.Successors.{found_count, found_row, found_width};
 ghost use Rattle.state_space.specs.Systems.{Stay};
@@ -36,6 +36,8 @@ pub struct Worker<S: Carries> {
     pub(crate) system: S,
     /// What it remembers of the numbers of the system that is searched.
     memo: S::Memo,
+    /// What that one remembers of its numbers.
+    pub(crate) back: S::Memo,
     /// The row that was carried over last.
     row: Vec<u32>,
     /// What it found, in the order of the rows.
@@ -121,6 +123,7 @@ fn know_one<S: Carries>(
     known: &mut Successors,
 ) -> Result<bool, Refused>
     requires setting { S.setting main.now ≡ S.setting system.now }
+    requires knows { S.knows system.now main.now back.now }
     requires stands { (b : S.State) × S.stands system.now successor.now b }
     ensures pushed { result ≡ Ok true
         → IsPushed (S.stands system.now) (S.stands main.now) known.old known.new event successor.now }
@@ -143,6 +146,7 @@ fn know_all<S: Carries>(
     known: &mut Successors,
 ) -> Result<bool, Refused>
     requires setting { S.setting main.now ≡ S.setting system.now }
+    requires knows { S.knows system.now main.now back.now }
     requires stands { (i : ℕ) → i < found_count found.now → (b : S.State) × S.stands system.now (found_row found.now i) b }
     requires none { found_count known.old ≡ 0 }
     ensures carried { result ≡ Ok true
@@ -173,7 +177,9 @@ fn made_of<S: Carries>(
     requires within { number < count_of graph.now }
     requires setting { S.setting system.old ≡ S.setting main.now }
     requires known { (b : S.State) × S.stands main.now (row_at graph.now number) b }
+    requires knows { S.knows main.now system.old memo.old }
     ensures setting { S.setting system.new ≡ S.setting system.old }
+    ensures knows { S.knows main.now system.new memo.new }
     ensures stays { Stay (S.stands system.old) (S.stands system.new) }
     ensures made { IfOk result (λ found. IfSome found
         (IsMade (S.rules (S.setting main.now)) (S.stands main.now) (S.stands system.new) graph.now)) }
@@ -205,6 +211,7 @@ fn known_made<S: Carries>(
     spare: &mut Vec<Made>,
 ) -> Result<Made, Refused>
     requires setting { S.setting main.now ≡ S.setting system.now }
+    requires knows { S.knows system.now main.now back.now }
     requires known { (k : ℕ) → k < count_of graph.now → (b : S.State) × S.stands main.now (row_at graph.now k) b }
     requires made { IsMade (S.rules (S.setting main.now)) (S.stands main.now) (S.stands system.now) graph.now made }
     requires own { made.is_known ≡ false }
@@ -225,7 +232,7 @@ fn known_made<S: Carries>(
 impl<S: Carries> Worker<S> {
     /// A system of the same setting as that one, which found nothing yet.
     pub fn new(alloc: Global, main: &S) -> Result<Worker<S>, Refused>
-        ensures setting { IfOk result (λ worker. S.setting worker.system ≡ S.setting main.now) }
+        ensures { IfOk result (λ worker. IsBeside S.setting S.knows main.now worker.system worker.memo worker.back) }
     {
         let system = main.another()?;
         let memo = system.memo();
@@ -233,39 +240,19 @@ impl<S: Carries> Worker<S> {
             alloc,
             system,
             memo,
+            back: main.memo(),
             row: Vec::new(alloc),
             made: Vec::new(alloc),
             spare: Vec::new(alloc),
         })
     }
 
-    /// How many rows it expanded.
-    pub fn count(&self) -> usize
-        ensures { result ≡ length self.now.made.items }
-    {
-        self.made.len()
-    }
-
-    /// What it found of one.
-    pub fn at(&self, index: usize) -> &Made
-        requires { index < length self.now.made.items }
-        ensures { result.now ≡ slice_index_or self.now.made.items index result.now }
-    {
-        &self.made[index]
-    }
-
     /// What a row leads to. `None` where its system wants no more of the search.
-    fn expanded(
-        &mut self,
-        main: &S,
-        graph: &Graph,
-        back: &S::Memo,
-        number: usize,
-    ) -> Result<Option<Made>, Refused>
+    fn expanded(&mut self, main: &S, graph: &Graph, number: usize) -> Result<Option<Made>, Refused>
         requires within { number < count_of graph.now }
-        requires setting { S.setting self.old.system ≡ S.setting main.now }
+        requires beside { IsBeside S.setting S.knows main.now self.old.system self.old.memo self.old.back }
         requires known { (k : ℕ) → k < count_of graph.now → (b : S.State) × S.stands main.now (row_at graph.now k) b }
-        ensures setting { S.setting self.new.system ≡ S.setting main.now }
+        ensures beside { IsBeside S.setting S.knows main.now self.new.system self.new.memo self.new.back }
         ensures stays { Stay (S.stands self.old.system) (S.stands self.new.system) }
         ensures same { self.new.made.items ≡ self.old.made.items }
         ensures made { IfOk result (λ found. IfSome found
@@ -288,7 +275,7 @@ impl<S: Carries> Worker<S> {
                 main,
                 graph,
                 &self.system,
-                back,
+                &self.back,
                 made,
                 &mut self.row,
                 &mut self.spare,
@@ -297,43 +284,44 @@ impl<S: Carries> Worker<S> {
     }
 
     /// Expands a row, and answers whether it could. It can't where its system wants no more of the search, or where memory was refused.
-    fn make(&mut self, main: &S, graph: &Graph, back: &S::Memo, number: usize) -> bool
+    fn make(&mut self, main: &S, graph: &Graph, number: usize) -> bool
         requires within { number < count_of graph.now }
-        requires setting { S.setting self.old.system ≡ S.setting main.now }
+        requires beside { IsBeside S.setting S.knows main.now self.old.system self.old.memo self.old.back }
         requires known { (k : ℕ) → k < count_of graph.now → (b : S.State) × S.stands main.now (row_at graph.now k) b }
         requires made { All (IsMade (S.rules (S.setting main.now)) (S.stands main.now) (S.stands self.old.system) graph.now)
             self.old.made.items }
-        ensures setting { S.setting self.new.system ≡ S.setting main.now }
+        ensures beside { IsBeside S.setting S.knows main.now self.new.system self.new.memo self.new.back }
         ensures made { All (IsMade (S.rules (S.setting main.now)) (S.stands main.now) (S.stands self.new.system) graph.now)
             self.new.made.items }
     {
-        match self.expanded(main, graph, back, number) {
+        match self.expanded(main, graph, number) {
             Ok(Some(made)) => self.made.push(made).is_ok(),
             _ => false,
         }
     }
 
     /// Forgets what it found, and keeps the memory.
-    pub fn forget(&mut self)
+    fn forget(&mut self)
         ensures system { self.new.system ≡ self.old.system }
+        ensures memo { self.new.memo ≡ self.old.memo }
+        ensures back { self.new.back ≡ self.old.back }
         ensures none { self.new.made.items ≡ [] }
     {
         mem::swap(&mut self.made, &mut self.spare);
         self.made.clear();
     }
 
-    /// Expands the rows of a graph from one up to another, in place of those before, as far as it can. `back` is what `main` remembers of
-    /// its numbers.
-    pub fn make_all(&mut self, main: &S, graph: &Graph, back: &S::Memo, from: usize, to: usize)
-        requires setting { S.setting self.old.system ≡ S.setting main.now }
+    /// Expands the rows of a graph from one up to another, in place of those before, as far as it can.
+    pub fn make_all(&mut self, main: &S, graph: &Graph, from: usize, to: usize)
+        requires beside { IsBeside S.setting S.knows main.now self.old.system self.old.memo self.old.back }
         requires known { (k : ℕ) → k < count_of graph.now → (b : S.State) × S.stands main.now (row_at graph.now k) b }
-        ensures setting { S.setting self.new.system ≡ S.setting main.now }
+        ensures beside { IsBeside S.setting S.knows main.now self.new.system self.new.memo self.new.back }
         ensures made { All (IsMade (S.rules (S.setting main.now)) (S.stands main.now) (S.stands self.new.system) graph.now)
             self.new.made.items }
     {
         self.forget();
         for number in from..to.min(graph.count()) {
-            if !self.make(main, graph, back, number) {
+            if !self.make(main, graph, number) {
                 return;
             }
         }

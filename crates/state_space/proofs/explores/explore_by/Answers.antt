@@ -9,5 +9,5 @@ rows-init g c = record {
       c.in_ok-graph.ensures.one (c.in_ok-graph.ensures.start ∙ c.deref.ensures.value) c.in_ok-graph.ensures.none c.in_ok-graph.ensures.whole c.in_ok-start.ensures.first;
   width = c.in_ok-graph.ensures.width ∙ ap length c.deref.ensures.value ∙ c.in_ok-start.ensures.width;
   found_width = c.new-found.ensures.width ∙ c.len.ensures ∙ c.in_ok-start.start.ok.0 ∙ c.in_ok-start.ensures.width;
-  workers = c.in_ok-workers.ensures.setting;
+  workers = c.in_ok-workers.ensures;
 }

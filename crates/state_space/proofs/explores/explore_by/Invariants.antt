@@ -1,5 +1,6 @@
 use Rattle.std.proofs.Common.{◌≡◌, ◌-◌}
 use Rattle.std.specs.Prelude.{All}
+use Rattle.state_space.specs.Carried.{IsBeside}
 use Rattle.state_space.specs.Graphs.{IsSearched, expanded_of}
 use Rattle.state_space.specs.Numbered.{row_width}
 use Rattle.state_space.specs.Successors.{found_width}
@@ -11,7 +12,7 @@ invariant-rows g l = record {
   searched : IsSearched (g.S.System.rules (g.S.System.setting l.system)) (g.S.System.stands l.system) l.graph;
   width : row_width l.graph.rows ≡ g.S.System.width (g.S.System.setting l.system);
   found_width : found_width l.found ≡ g.S.System.width (g.S.System.setting l.system);
-  workers : All (λ worker. g.S.System.setting worker.system ≡ g.S.System.setting l.system) l.workers.workers.items;
+  workers : All (λ worker. IsBeside g.S.System.setting g.S.Carries.knows l.system worker.system worker.memo worker.back) l.workers.workers.items;
 }
 
 abbrev pub decreases-rows : goal.decreases-rows

@@ -20,6 +20,7 @@ loop-index-preserved g c =
       setting = c.carry_one.ensures.setting ∙ until.setting;
       stays = stays_on (s.stands c.args.system.now) (s.stands c.loop-index.system) (s.stands c.carry_one.new.system) until.stays c.carry_one.ensures.stays;
       width = c.carry_one.ensures.width ∙ until.width;
+      knows = c.carry_one.ensures.knows;
       carried = carried_more (s.stands c.args.from.now) (s.stands c.loop-index.system) (s.stands c.carry_one.new.system) c.args.successors.now c.loop-index.found c.carry_one.new.found c.loop-index.index
           c.carry_one.ensures.stays (omega (arith, c.loop-index-test.true, c.count-index-end.ensures)) until.carried pushed;
     }

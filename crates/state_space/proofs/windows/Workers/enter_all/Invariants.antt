@@ -1,5 +1,6 @@
-use Rattle.std.proofs.Common.{◌≡◌}
-use Rattle.state_space.specs.Carried.{IsLater}
+use Rattle.std.proofs.Common.{◌≡◌, length}
+use Rattle.std.specs.Prelude.{All}
+use Rattle.state_space.specs.Carried.{AreMade, IsLater}
 use Rattle.state_space.specs.Graphs.{IsSearched}
 use Rattle.state_space.specs.Numbered.{row_width}
 use Rattle.state_space.specs.Successors.{found_width}
@@ -7,7 +8,8 @@ use Rattle.state_space.proofs.windows.Workers.enter_all.Given as goal
 
 abbrev pub invariant-loop-index : goal.invariant-loop-index
 invariant-loop-index g l = record {
-  workers : l.self.workers.items ≡ l.fn.self.workers.items;
+  long : length l.self.workers.items ≡ length l.fn.self.workers.items;
+  made : All (AreMade g.S.System.setting g.S.System.rules g.S.System.stands g.S.Carries.knows l.system l.graph) l.self.workers.items;
   setting : g.S.System.setting l.system ≡ g.S.System.setting l.fn.system;
   searched : IsSearched (g.S.System.rules (g.S.System.setting l.system)) (g.S.System.stands l.system) l.graph;
   later : IsLater (g.S.System.stands l.fn.system) (g.S.System.stands l.system) l.fn.graph l.graph;

@@ -1,9 +1,8 @@
-use Rattle.std.proofs.Common.{◌≡◌, length}
 use Rattle.std.specs.Prelude.{All}
+use Rattle.state_space.specs.Carried.{IsBeside}
 use Rattle.state_space.proofs.windows.Workers.new.Given as goal
 
 abbrev pub invariant-loop : goal.invariant-loop
 invariant-loop g l = record {
-  setting : All (λ worker. g.S.System.setting worker.system ≡ g.S.System.setting l.system) l.workers.items;
-  one_each : length l.memos.items ≡ length l.workers.items;
+  beside : All (λ worker. IsBeside g.S.System.setting g.S.Carries.knows l.system worker.system worker.memo worker.back) l.workers.items;
 }
