@@ -70,7 +70,7 @@ life_in (On l) m = l
 life_in (Off s) m = m
 life_in (Ended s) m = m
 
-one_life : (k m : Life) → On k ≡ On m → k ≡ m
+pub one_life : (k m : Life) → On k ≡ On m → k ≡ m
 unfolding life_in
 one_life k m e = ap (λ (b : Board). life_in b k) e
 

@@ -23,6 +23,7 @@ pub mod Few
 pub mod ByLives
 pub mod Waiting
 pub mod Carried
+pub mod Remembered
 pub mod Seen
 pub mod Skipped
 pub mod PutOver

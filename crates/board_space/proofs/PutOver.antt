@@ -102,7 +102,7 @@ life_in d (On l) = l
 life_in d (Off s) = d
 life_in d (Ended s) = d
 
-machine_on : (power : Power) (reason : Reason) (down : Bool) (m : Machine) (l : Life) → board_shown power reason down m ≡ On l → m ≡ l.machine
+pub machine_on : (power : Power) (reason : Reason) (down : Bool) (m : Machine) (l : Life) → board_shown power reason down m ≡ On l → m ≡ l.machine
 machine_on powers.On reason down m l e = ap (λ (b : Board). (life_in l b).machine) e
 machine_on (powers.Off at) reason down m l e = absurd (cc)
 machine_on powers.Ended reason down m l e = absurd (cc)

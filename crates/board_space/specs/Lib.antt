@@ -19,3 +19,4 @@ pub mod Moving
 pub mod Few
 pub mod Searches
 pub mod Carried
+pub mod Knowing

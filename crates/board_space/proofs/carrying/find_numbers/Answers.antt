@@ -1,18 +1,18 @@
 use Rattle.std.proofs.Common.{rules, List, ℕ, [], ◌∷◌, ◌++◌, ◌≡◌, ◌+◌, length, sym, subst}
-use Rattle.board_space.specs.Carried.{AreSameRecords}
+use Rattle.board_space.specs.Carried.{AreFound}
 use Rattle.board_space.specs.Rows.{Extends}
-use Rattle.board_space.proofs.Carried.{records_more}
 use Rattle.board_space.proofs.Numbers.{extends_more}
-use Rattle.board_space.proofs.carrying.find_records.Goals as goal
+use Rattle.board_space.proofs.Remembered.{found_more}
+use Rattle.board_space.proofs.carrying.find_numbers.Goals as goal
 
 pub loop-place-preserved : goal.loop-place-preserved
-loop-place-preserved g c =
+loop-place-preserved c =
     let until = c.loop-place.invariant in
     let n = c.loop-place.place in
     let k = c.in-Some.number in
     let items : c.push.new.self.items ≡ c.loop-place.out.items ++ k ∷ [] = search rules in
     record {
       row = subst (λ (r : List ℕ). Extends c.args.out.now.items r (n + 1)) (sym items) (extends_more c.args.out.now.items c.loop-place.out.items n k until.row);
-      same = subst (λ (r : List ℕ). AreSameRecords c.args.from.now.records.items c.args.row.now c.args.first c.args.to.now.records.items r (length c.args.out.now.items) (n + 1)) (sym items)
-          (records_more c.args.from.now.records.items c.args.row.now c.args.first c.args.to.now.records.items c.args.to.now.records.items c.args.out.now.items c.loop-place.out.items n k until.row (λ m x is. is) until.same c.in-Some.ensures);
+      found = subst (λ (r : List ℕ). AreFound c.args.memo.now c.args.row.now c.args.first r (length c.args.out.now.items) (n + 1)) (sym items)
+          (found_more c.args.memo.now c.args.row.now c.args.out.now.items c.loop-place.out.items c.args.first n k until.row until.found c.in-Some.ensures);
     }

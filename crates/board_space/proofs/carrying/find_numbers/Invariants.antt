@@ -1,10 +1,10 @@
 use Rattle.std.specs.Prelude.{length}
-use Rattle.board_space.specs.Carried.{AreSameWords}
+use Rattle.board_space.specs.Carried.{AreFound}
 use Rattle.board_space.specs.Rows.{Extends}
-use Rattle.board_space.proofs.carrying.find_segments.Given as goal
+use Rattle.board_space.proofs.carrying.find_numbers.Given as goal
 
 abbrev pub invariant-loop-place : goal.invariant-loop-place
 invariant-loop-place l = record {
   row : Extends l.initial.out.items l.out.items l.place;
-  same : AreSameWords l.from l.row l.first l.to l.out.items (length l.initial.out.items) l.place;
+  found : AreFound l.memo l.row l.first l.out.items (length l.initial.out.items) l.place;
 }
