@@ -1,10 +1,9 @@
 //! Sectors that lie in blocks of a device (docs/DISK.md, "Larger blocks").
 
-use crate::fixtures::same;
+use crate::fixtures::{are_all, same};
 use board_files::{
-    BlockDevice, BlockSize, ByteFile, DiskFile, FormedFile, SectorFile, SectorsInBlocks, unreached,
+    BlockDevice, BlockSize, DiskFile, FormedFile, MemoryFolder, SectorFile, SectorsInBlocks,
 };
-use command_line::FileFault;
 use disk::Sector;
 use std::alloc::Global;
 use std::io::{self, ErrorKind};
@@ -70,7 +69,7 @@ fn rest_after<'a>(rt: &impl Abort, bytes: &'a [u8], piece: Piece) -> &'a [u8] {
     let Some((first, rest)) = bytes.split_at_checked(count) else {
         rt.panic("too few bytes")
     };
-    assert!(rt; first.iter().all(|b| *b == value));
+    assert!(rt; are_all(first, value));
     rest
 }
 
@@ -112,36 +111,8 @@ fn blocks_of_512_bytes_are_the_sectors(rt: HostRuntime) {
     are_pieces(&rt, &held, &IN_SECTORS);
 }
 
-/// A file in memory, of whose bytes contracts know nothing.
-#[derive(Drop)]
-struct MemoryBytes {
-    alloc: Global,
-    bytes: Vec<u8>,
-}
-
-impl ByteFile for MemoryBytes {
-    ghost use Rattle.std.specs.Prelude.{None};
-
-    ghost held = { λ _. None };
-
-    fn byte_count(&self) -> Result<u64, FileFault> {
-        Ok(self.bytes.len() as u64)
-    }
-
-    fn read_at(&self, at: u64, into: &mut [u8]) -> Result<(), FileFault> {
-        let (room, count) = (self.bytes.len(), into.len());
-        if room < count || ((room - count) as u64) < at {
-            let why = io::Error::from(ErrorKind::UnexpectedEof);
-            return Err(unreached(self.alloc, "D", why));
-        }
-        let at = at as usize;
-        into.copy_from_slice(&self.bytes[at..at + count]);
-        Ok(())
-    }
-}
-
-/// The sectors of a file of 2,048 bytes.
-fn sectors_of(rt: &impl Abort, alloc: Global, file: &FormedFile<MemoryBytes>) -> Vec<u8> {
+/// The sectors of a file that has four.
+fn sectors_of(rt: &impl Abort, alloc: Global, file: &FormedFile<MemoryFolder>) -> Vec<u8> {
     assert!(rt; matches!(file.length(), Ok(2048)));
     let mut sectors = vec![in alloc; 0; 2048].expect(rt, "memory");
     assert!(rt; file.read(&mut sectors).is_ok());
@@ -151,7 +122,8 @@ fn sectors_of(rt: &impl Abort, alloc: Global, file: &FormedFile<MemoryBytes>) ->
 /// Four sectors in a file of blocks of that size, as the file has them; and how many bytes it says that a block has.
 fn found(rt: &impl Abort, alloc: Global, size: BlockSize) -> (u32, Vec<u8>) {
     let bytes = written(rt, alloc, size, &[(0, 7), (1, 8), (2, 9), (3, 10)]);
-    let Ok(file) = FormedFile::found(MemoryBytes { alloc, bytes }) else {
+    let folder = MemoryFolder::of(alloc, &bytes, u64::MAX).expect(rt, "memory");
+    let Ok(file) = FormedFile::found(folder) else {
         rt.panic("no form")
     };
     (file.block_size().bytes, sectors_of(rt, alloc, &file))

@@ -2,7 +2,6 @@
 
 ghost use Rattle.std.specs.Prelude.{◌≡◌, ◌+◌, ℕ, [], true, None, Some, All, IfOk, map, vec_len};
 ghost use Rattle.disk.specs.Facts.{Content};
-ghost use Rattle.store.specs.Leaves.{IsIdle};
 ghost use Rattle.store.specs.Views.{disk_of, found_state, failures_at_open};
 ghost use Rattle.hart_threads.specs.Begun.{board_of};
 ghost use Rattle.hart_threads.specs.Bused.{begun_bus};
@@ -19,7 +18,7 @@ use crate::fixtures::{NEVER, formatted};
 use board::{Board, BoardParts, Payloads};
 use board_model::{BootMode, Command, Entry, Refusal, Shape, Slot};
 use board_session::console;
-use disk::{ArmedFault, Disk};
+use disk::ArmedFault;
 use hart_threads::{
     AfterConsole, BookPart, BootedHarts, BusTurn, Closing, Gate, HartParts, Heard, Journal, Locks,
     NewBook, Rested, SharedBoard, SharedBus, SharedStore, Threaded, Unshared, Why, drive,
@@ -124,14 +123,6 @@ pub struct End {
     pub receipt: Option<u32>,
 }
 
-/// How the loop of a board's first hart ended, what its console wrote, and its disk.
-#[derive(Drop)]
-pub struct Ran {
-    end: Option<End>,
-    said: Vec<u8>,
-    pub disk: SimDisk,
-}
-
 /// How the first of these loops ended.
 fn end_of<J: Threaded>(loops: &[Rested<'_, J>]) -> Option<End> {
     let ended = &loops.first()?.ended;
@@ -140,7 +131,10 @@ fn end_of<J: Threaded>(loops: &[Rested<'_, J>]) -> Option<End> {
         why: ended.why,
         regs: (ended.hart.reg(Reg::new(10)), ended.hart.reg(Reg::new(11))),
         pc: ended.hart.pc(),
-        receipt: ended.told.as_ref().map(|told| told.number()),
+        receipt: match &ended.told {
+            Some(told) => Some(told.number()),
+            None => None,
+        },
     })
 }
 
@@ -158,7 +152,7 @@ fn issue<J: Journal>(
     }
 }
 
-/// What the console of a trial writes, and what it heard.
+/// What the console of a trial writes.
 fn talk<J: Journal, R: Wait + Clock + Abort>(
     rt: &R,
     alloc: Global,
@@ -167,7 +161,7 @@ fn talk<J: Journal, R: Wait + Clock + Abort>(
     part: BookPart<J, Entry>,
     heard: Heard<J>,
     trial: BoardTrial<'_>,
-) -> (Vec<u8>, Heard<J>) {
+) -> Vec<u8> {
     let mut out = BufWriter::new(alloc, Vec::new(alloc)).expect(rt, "memory");
     let (mut input, mut heard) = (trial.input, heard);
     let mut locks = Locks::new(bus, store);
@@ -179,7 +173,7 @@ fn talk<J: Journal, R: Wait + Clock + Abort>(
         gate.tell();
     }
     let (shown, _held) = out.into_parts();
-    (shown, heard)
+    shown
 }
 
 /// The books of a life: of its commands, of what is in doubt, and of the history of its bus.
@@ -210,15 +204,14 @@ fn new_marks(rt: &impl Abort, alloc: Global, parts: u32) -> Marks
     (books, (OnceLock::new(), halt))
 }
 
-/// Runs the harts of a board that was powered on fresh under that gate, with its console.
+/// Runs the harts of a board that was powered on fresh under that gate, with its console: how the loop of its first hart ends, and what
+/// its console writes.
 pub fn driven<R: Threads + Wait + Clock + Abort + Sync>(
     rt: &R,
     alloc: Global,
     gate: &(dyn Gate + Sync),
     trial: BoardTrial<'_>,
-) -> Ran
-    ensures { IsIdle (⟦<SimDisk as Disk>⟧.facts result.disk) }
-{
+) -> (End, Vec<u8>) {
     let (harts, pages, lanes) = trial.size;
     let Ok(size) = Shape::new(harts, pages, lanes) else {
         rt.panic("not a shape")
@@ -229,17 +222,6 @@ pub fn driven<R: Threads + Wait + Clock + Abort + Sync>(
     let parts = armed(parts, &shape, trial.fault);
     let marks = new_marks(rt, alloc, shape.harts() + 2);
     driven_as::<Brand, R>(rt, alloc, gate, trial, parts, marks, &shape)
-}
-
-/// How the loop of such a board's first hart ends, and what its console writes.
-pub fn ended<R: Threads + Wait + Clock + Abort + Sync>(
-    rt: &R,
-    alloc: Global,
-    gate: &(dyn Gate + Sync),
-    trial: BoardTrial<'_>,
-) -> (End, Vec<u8>) {
-    let ran = driven(rt, alloc, gate, trial);
-    (ran.end.expect(rt, "a loop"), ran.said)
 }
 
 /// The store of a life that has just begun, with its books, shared by its console and so many harts once these commands were issued;
@@ -289,7 +271,7 @@ fn driven_as<J: Threaded + Send + Sync, R: Threads + Wait + Clock + Abort + Sync
     parts: BoardParts<SimDisk>,
     marks: Marks,
     shape: &Shape,
-) -> Ran
+) -> (End, Vec<u8>)
     requires held { IsHeld shape.now parts.harts.items parts.tables (Some parts.seats) parts.bus.doze }
     requires begun { IsBegun shape.now parts.store }
     requires named { (J.size ≡ shape.now) × (J.found ≡ found_state parts.store) × (J.issued ≡ [])
@@ -306,7 +288,6 @@ fn driven_as<J: Threaded + Send + Sync, R: Threads + Wait + Clock + Abort + Sync
     requires tables { AreNamed J.starts J.raises parts.tables }
     requires driven { (marks.1.0.id ≡ J.parting) × (marks.1.1.0 ≡ J.halt) × (trial.turns ≡ J.turns) × (J.gated ≡ true)
         × (marks.1.1.1 ≡ watched J.halt true 0 None) }
-    ensures { IsIdle (⟦<SimDisk as Disk>⟧.facts result.disk) }
 {
     let BoardParts {
         harts,
@@ -362,14 +343,8 @@ fn driven_as<J: Threaded + Send + Sync, R: Threads + Wait + Clock + Abort + Sync
         part,
         move |part| talk(rt, alloc, rung, told, part, heard, trial),
     );
-    let Ok((loops, (said, heard))) = done else {
+    let Ok((loops, said)) = done else {
         rt.panic("a thread was not had")
     };
-    let end = end_of(&loops);
-    let (store, _moments, _runs) = store.into_inner().unshare().close(heard);
-    Ran {
-        end,
-        said,
-        disk: store.into_disk(),
-    }
+    (end_of(&loops).expect(rt, "a loop"), said)
 }

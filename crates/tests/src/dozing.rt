@@ -1,6 +1,6 @@
 //! Boards that sleep in their RAM, on threads (docs/THREADS.md, "A doze").
 
-use crate::boards::{BoardTrial, ENDLESS, ended};
+use crate::boards::{BoardTrial, ENDLESS, driven};
 use crate::fixtures::{NEVER, has_come, same};
 use crate::many::CountingGate;
 use board_model::{Command, HartId, RAM_BASE, Reason};
@@ -79,7 +79,7 @@ fn a_board_that_sleeps_in_its_ram_is_woken_by_its_console(rt: HostRuntime) {
         until: Some(&gate),
         ..BoardTrial::of(ENDLESS)
     };
-    let (end, said) = ended(&rt, rt.alloc(), &gate, trial);
+    let (end, said) = driven(&rt, rt.alloc(), &gate, trial);
     let told = b"wake ok\nwake refused 18\nslot ok 1\nquit\n";
     same(&rt, said.as_slice(), told.as_slice());
     same(&rt, (end.regs, end.pc), ((0, 9), SITE));
@@ -117,7 +117,7 @@ fn a_board_dozes_whatever_its_store_would_refuse(rt: HostRuntime) {
             fault,
             ..BoardTrial::of(10)
         };
-        let (end, _said) = ended(&rt, rt.alloc(), &CountingGate::new(None), trial);
+        let (end, _said) = driven(&rt, rt.alloc(), &CountingGate::new(None), trial);
         same(&rt, (end.made, end.why, end.pc), (10, Why::Turns, ASKS));
         same(&rt, end.receipt, None);
     }

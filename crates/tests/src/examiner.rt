@@ -1,21 +1,18 @@
 //! The examiner over files and streams in memory (docs/CONSOLE.md, "The program `sbidisk`").
 
-use crate::memory_disk::Failing;
 use crate::memory_files::Broken;
-use crate::runs::{PLAIN, Program, Run, all_come};
+use crate::runs::{PLAIN, Run, all_come};
 use crate::trials::SUSPENDED;
 
 /// A look at what stands in the file, which nothing stops.
 const LINES: Run = Run {
-    program: Program::Disk,
-    words: &["sbidisk", "D"],
+    line: "sbidisk D",
     ..PLAIN
 };
 
 /// The memory of its image is written, which has its payload and zeros after it.
 const RECALLED: Run = Run {
-    words: &["sbidisk", "--memory", "D"],
-    room: 1_048_576,
+    line: "sbidisk --memory D",
     told: b"\
 \x13\x05\x10\x00\x13\x15\xf5\x01\x13\x05\x15\x00\x93\x05\x10\x00\x93\x95\xf5\x01\
 \x13\x06\x00\x00\x13\x08\x00\x00\xb7\x58\x55\x53\x93\x88\x08\x35\x73\x00\x00\x00",
@@ -50,10 +47,7 @@ fn a_disk_with_an_image_is_shown(rt: HostRuntime) {
 /// A disk of the largest board, with an image, is shown.
 static LARGEST: [Run; 3] = [
     Run {
-        words: &[
-            "sbiboard", "--disk", "D", "--mode", "fresh", "--new", "--harts", "8", "--pages",
-            "256", "--lanes", "4", "--turns", "10", "--p0", "p0",
-        ],
+        line: "sbiboard --disk D --mode fresh --new --harts 8 --pages 256 --lanes 4 --turns 10 --p0 p0",
         ..SUSPENDED
     },
     Run {
@@ -88,7 +82,7 @@ static FAULTS: [(&[u8], &[Run]); 5] = [
     (
         &[0; 512],
         &[Run {
-            broken: Broken::Disk(Failing::Read),
+            broken: Broken::Read,
             status: 1,
             faults: b"sbidisk: file\nsbidisk: D: it fails\n",
             ..LINES
@@ -115,7 +109,7 @@ static FAULTS: [(&[u8], &[Run]); 5] = [
         &[
             PLAIN,
             Run {
-                words: &["sbidisk", "--memory", "D"],
+                line: "sbidisk --memory D",
                 status: 1,
                 faults: b"sbidisk: refusal 8\n",
                 ..LINES

@@ -24,8 +24,6 @@ mod decoder;
 #[cfg(test)]
 mod dozing;
 #[cfg(test)]
-mod driven;
-#[cfg(test)]
 mod edges;
 #[cfg(test)]
 mod examiner;
@@ -61,7 +59,6 @@ mod many;
 mod many_writes;
 #[cfg(test)]
 mod meeting;
-mod memory_disk;
 #[cfg(test)]
 mod memory_files;
 #[cfg(test)]

@@ -1,6 +1,6 @@
 //! One loop, by how it ends.
 
-use crate::boards::{BoardTrial, ended};
+use crate::boards::{BoardTrial, driven};
 use crate::fixtures::same;
 use crate::many::{CountingGate, Short};
 use hart_threads::Why;
@@ -29,7 +29,7 @@ fn a_loop_ends_as_it_is_told(rt: HostRuntime) {
             payload: &STOPPER,
             ..BoardTrial::of(turns)
         };
-        let (end, _said) = ended(&rt, rt.alloc(), &CountingGate::new(short), trial);
+        let (end, _said) = driven(&rt, rt.alloc(), &CountingGate::new(short), trial);
         same(&rt, (end.made, end.why, end.pc, end.receipt), wanted);
     }
 }

@@ -1,6 +1,6 @@
 //! Boards of three harts and of eight: each hart makes its turns, and the life of all ends with one's.
 
-use crate::boards::{BoardTrial, ENDLESS, ended};
+use crate::boards::{BoardTrial, ENDLESS, driven};
 use crate::fixtures::same;
 use crate::looped::STOPPER;
 use board_model::HartId;
@@ -47,8 +47,10 @@ impl Gate for CountingGate {
     ghost hears = { λ gate hart turn. Unit {0} };
 
     fn before(&self, hart: HartId, turn: u64) -> bool {
-        self.short
-            .is_none_or(|(short, turns)| hart.index() != short || turn < turns)
+        let Some((short, turns)) = self.short else {
+            return true;
+        };
+        hart.index() != short || turn < turns
     }
 
     fn after(&self, hart: HartId, _turn: u64) {
@@ -85,7 +87,7 @@ fn each_hart_makes_its_turns(rt: HostRuntime) {
             payload,
             ..BoardTrial::of(turns)
         };
-        ended(&rt, rt.alloc(), &gate, trial);
+        driven(&rt, rt.alloc(), &gate, trial);
         made_by_each(&rt, &gate, made);
     }
 }

@@ -1,6 +1,6 @@
 //! Two harts' turns overlap: at their gate each waits for the other, before and after every turn.
 
-use crate::boards::{BoardTrial, ended};
+use crate::boards::{BoardTrial, driven};
 use crate::fixtures::{has_come, same};
 use board_model::HartId;
 use hart_threads::Gate;
@@ -59,7 +59,7 @@ fn two_harts_meet_before_and_after_every_turn(rt: HostRuntime) {
         size: (2, 1, 1),
         ..BoardTrial::of(100)
     };
-    ended(&rt, rt.alloc(), &gate, trial);
+    driven(&rt, rt.alloc(), &gate, trial);
     assert!(&rt; !gate.missed.load(Ordering::SeqCst));
     for calls in &gate.after {
         same(&rt, calls.load(Ordering::SeqCst), 100);

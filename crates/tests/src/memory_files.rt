@@ -1,47 +1,47 @@
-//! The files and the streams of the program in memory.
+//! The files and the streams of the programs in memory. Contracts know nothing of their bytes.
 
-ghost use Rattle.std.specs.Prelude.{◌≡◌, None, Some, IfErr, IfOk};
+ghost use Rattle.std.specs.Prelude.{◌≡◌, None, IfErr, IfOk};
 ghost use Rattle.board_files.specs.Faults.{IsFileFault};
 
-use crate::memory_disk::{Failing, MemoryDisk};
 use board_files::{
-    BlockSize, BoardFiles, DiskFile, DiskFiles, FileFate, MemoryFile, PayloadFiles, unreached,
+    BlockSize, BoardFiles, DiskFile, DiskFiles, FileFate, HeldFile, MemoryFile, PayloadFiles,
+    unreached,
 };
 use board_model::Refusal;
 use board_programs::Answers;
 use command_line::FileFault;
 use disk::Sector;
-use std::alloc::{AllocError, Global};
-use std::io::{self, Cursor, ErrorKind, IsTerminal, Read, Write};
+use std::alloc::Global;
+use std::io::{self, ErrorKind, IsTerminal, Read, Write};
 
 /// What fails of the files.
 #[derive(Clone, Copy, Drop)]
 pub enum Broken {
     Nothing,
-    /// The payload file of that slot is not there.
+    /// The payload file of that digit is not there.
     Payload(u8),
     /// The disk's file can't be held.
     Hold,
-    /// A call of the disk's file.
-    Disk(Failing),
+    /// Each call of the disk's file that asks for its length, reads it or writes it.
+    Length,
+    Read,
+    Write,
     /// The disk can't be kept in its file.
     Keep,
 }
 
-/// Four payload files, `p0` to `p3`, in hexadecimal digits, and the file of a disk. In each payload file so many zeros stand after
-/// its first instruction.
+/// Four payload files, `p0` to `p3`, and the file of a disk. The payload file of that digit has those bytes, the others are empty.
 #[derive(Drop)]
 pub struct MemoryFiles {
     pub alloc: Global,
-    pub payloads: [&'static [u8]; 4],
-    pub gap: usize,
+    pub payload: (u8, &'static [u8]),
     pub disk: Vec<u8>,
     pub broken: Broken,
 }
 
 /// A payload file that is open.
 #[derive(Drop)]
-pub struct PayloadFile(Cursor<Vec<u8>>);
+pub struct PayloadFile(&'static [u8]);
 
 impl Read for PayloadFile {
     fn read(&mut self, buf: &mut [u8]) -> io::Result<usize> {
@@ -55,59 +55,109 @@ impl PayloadFiles for MemoryFiles {
     ghost bytes_at = { λ files path. None };
 
     fn open(&self, path: &str) -> io::Result<PayloadFile> {
-        for (slot, digit) in b"0123".iter().enumerate() {
-            if path.as_bytes().get(1) == Some(digit) && self.is_there(*digit) {
-                let bytes = decoded(self.alloc, self.payloads[slot])?;
-                let spread = with_gap(self.alloc, bytes, self.gap)?;
-                return Ok(PayloadFile(Cursor::new(spread)));
+        let Some(digit) = path.as_bytes().get(1) else {
+            return Err(io::Error::other("it has no digit"));
+        };
+        if let Broken::Payload(missing) = self.broken {
+            if missing == *digit {
+                return Err(io::Error::other("it is not there"));
             }
         }
-        Err(io::Error::other("it is not there"))
+        Ok(PayloadFile(if self.payload.0 == *digit {
+            self.payload.1
+        } else {
+            &[]
+        }))
     }
 }
 
-/// The bytes of hexadecimal digits.
-fn decoded(alloc: Global, digits: &[u8]) -> io::Result<Vec<u8>> {
-    match hex::decode(alloc, digits) {
-        Ok(bytes) => Ok(bytes),
-        Err(_) => Err(io::Error::other("it is no digits")),
+/// The file of a disk. Faults name it `D`.
+#[derive(Drop)]
+pub struct MemoryDisk {
+    alloc: Global,
+    pub bytes: Vec<u8>,
+    size: BlockSize,
+    broken: Broken,
+}
+
+impl MemoryDisk {
+    /// The fault with which its calls fail.
+    fn fault(&self) -> FileFault
+        ensures { IsFileFault result.fault }
+    {
+        unreached(self.alloc, "D", io::Error::other("it fails"))
     }
 }
 
-/// Those bytes with so many zeros after the first four.
-fn with_gap(alloc: Global, bytes: Vec<u8>, gap: usize) -> Result<Vec<u8>, AllocError> {
-    let Some((first, rest)) = bytes.split_at_checked(4) else {
-        return Ok(bytes);
-    };
-    let mut spread = Vec::from_slice(alloc, first)?;
-    spread.resize(gap.saturating_add(4), 0)?;
-    spread.extend_from_slice(rest)?;
-    Ok(spread)
+impl DiskFile for MemoryDisk {
+    ghost bytes = { λ disk. None };
+
+    ghost block = { λ disk. disk.size.bytes };
+
+    fn block_size(&self) -> BlockSize {
+        self.size
+    }
+
+    fn length(&self) -> Result<u64, FileFault> {
+        match self.broken {
+            Broken::Length => Err(self.fault()),
+            _ => Ok(self.bytes.len() as u64),
+        }
+    }
+
+    fn read(&self, into: &mut [u8]) -> Result<(), FileFault> {
+        match (self.broken, self.bytes.get(..into.len())) {
+            (Broken::Read, _) | (_, None) => Err(self.fault()),
+            (_, Some(first)) => {
+                into.copy_from_slice(first);
+                Ok(())
+            }
+        }
+    }
+}
+
+impl HeldFile for MemoryDisk {
+    ghost use Rattle.board_files.specs.Folders.{left_of, no_facts};
+
+    ghost left = { λ disk. left_of no_facts };
+
+    fn write(&mut self, sectors: &[Sector], is_new: bool) -> Result<(), FileFault> {
+        if let Broken::Write = self.broken {
+            return Err(self.fault());
+        }
+        let disk = sectors.as_flattened();
+        if !is_new && disk.len() <= self.bytes.len() {
+            self.bytes[..disk.len()].copy_from_slice(disk);
+            return Ok(());
+        }
+        match Vec::from_slice(self.alloc, disk) {
+            Ok(bytes) => {
+                self.bytes = bytes;
+                Ok(())
+            }
+            Err(_) => Err(FileFault::refused(Refusal::Memory)),
+        }
+    }
+
+    ghost counts_now = { λ disk. tt };
 }
 
 impl MemoryFiles {
-    /// Whether the payload file of that slot, a digit, is there.
-    fn is_there(&self, slot: u8) -> bool {
-        match self.broken {
-            Broken::Payload(missing) => missing != slot,
-            _ => true,
-        }
-    }
-
-    /// The disk's file.
-    fn disk_file(&self, path: &str) -> Result<MemoryDisk, FileFault>
-        ensures opened { IfOk result (λ file. ⟦<MemoryDisk as DiskFile>⟧.bytes file ≡ Some self.now.disk.items) }
+    /// The disk's file, whose blocks have that size.
+    fn disk_file(&self, path: &str, size: BlockSize) -> Result<MemoryDisk, FileFault>
+        ensures sized { IfOk result (λ file. file.size ≡ size) }
         ensures failed { IfErr result (λ e. IsFileFault e.fault) }
     {
-        let failing = match self.broken {
-            Broken::Disk(failing) => failing,
-            Broken::Hold => {
-                return Err(unreached(self.alloc, path, io::Error::other("another has it")));
-            }
-            _ => Failing::Never,
-        };
-        match MemoryDisk::of(self.alloc, &self.disk, failing) {
-            Ok(held) => Ok(held),
+        if let Broken::Hold = self.broken {
+            return Err(unreached(self.alloc, path, io::Error::other("another has it")));
+        }
+        match Vec::from_slice(self.alloc, &self.disk) {
+            Ok(bytes) => Ok(MemoryDisk {
+                alloc: self.alloc,
+                bytes,
+                size,
+                broken: self.broken,
+            }),
             Err(_) => Err(FileFault::refused(Refusal::Memory)),
         }
     }
@@ -116,10 +166,10 @@ impl MemoryFiles {
 impl DiskFiles for MemoryFiles {
     type Opened = MemoryDisk;
 
-    ghost disk_at = { λ files path. Some files.disk.items };
+    ghost disk_at = { λ files path. None };
 
     fn open(&self, path: &str) -> Result<MemoryDisk, FileFault> {
-        self.disk_file(path)
+        self.disk_file(path, BlockSize::sector())
     }
 }
 
@@ -130,25 +180,18 @@ impl BoardFiles for MemoryFiles {
 
     ghost use Rattle.std.specs.Prelude.{⊤};
 
-    ghost disk_at = { λ files path. Some files.disk.items };
+    ghost disk_at = { λ files path. None };
 
     ghost left_at = { λ files path c. ⊤ };
 
     fn hold(
         &self,
         path: &str,
-        is_new: bool,
+        _is_new: bool,
         _is_synced: bool,
         block: BlockSize,
     ) -> Result<MemoryDisk, FileFault> {
-        if is_new && block.bytes != 512 {
-            return Err(unreached(
-                self.alloc,
-                path,
-                io::Error::other("its sectors lie one after the other"),
-            ));
-        }
-        self.disk_file(path)
+        self.disk_file(path, block)
     }
 
     fn keep(
@@ -167,7 +210,7 @@ impl BoardFiles for MemoryFiles {
     }
 }
 
-/// An output that takes so many bytes.
+/// An output that takes so many bytes more, and is no terminal.
 #[derive(Drop)]
 pub struct Page {
     pub text: Vec<u8>,
@@ -185,44 +228,26 @@ impl Page {
 }
 
 impl Write for Page {
-    ghost contents = { λ page. Some page.text.items };
-
     fn write(&mut self, buf: &[u8]) -> io::Result<usize> {
-        if self.room < self.text.len() || self.room - self.text.len() < buf.len() {
+        if self.room < buf.len() {
             return Err(io::Error::from(ErrorKind::StorageFull));
         }
         self.text.extend_from_slice(buf)?;
+        self.room -= buf.len();
         Ok(buf.len())
     }
 
     fn flush(&mut self) -> io::Result<()> {
         Ok(())
+    }
+}
+
+impl IsTerminal for Page {
+    fn is_terminal(&self) -> bool {
+        false
     }
 }
 
 impl Answers for Page {
     fn begin(&mut self, _is_synced: bool) {}
-}
-
-/// Where faults are told, which is no terminal.
-#[derive(Drop)]
-pub struct FaultOutput(pub Vec<u8>);
-
-impl Write for FaultOutput {
-    ghost contents = { λ told. Some told.0.items };
-
-    fn write(&mut self, buf: &[u8]) -> io::Result<usize> {
-        self.0.extend_from_slice(buf)?;
-        Ok(buf.len())
-    }
-
-    fn flush(&mut self) -> io::Result<()> {
-        Ok(())
-    }
-}
-
-impl IsTerminal for FaultOutput {
-    fn is_terminal(&self) -> bool {
-        false
-    }
 }

@@ -1,9 +1,8 @@
 //! Runs of `sbiboard` over files: what a session answers, what its disk's file holds after it, and what is refused.
 
 use crate::fixtures::same;
-use crate::memory_disk::Failing;
 use crate::memory_files::Broken;
-use crate::runs::{KEEP, OLD, PLAIN, Run, all_come, all_left, has_status};
+use crate::runs::{KEEP, OLD, PLAIN, Run, all_come, all_left, status_of};
 use crate::trials::SLEEPS;
 use std::process::Abort;
 
@@ -14,7 +13,7 @@ static ANSWERED: [Run; 2] = [
         ..PLAIN
     },
     Run {
-        words: &OLD,
+        line: OLD,
         lines: b"state",
         told: b"state slot 1 reason 0 image none next 0\n",
         ..PLAIN
@@ -26,14 +25,11 @@ fn the_console_answers_and_the_disk_keeps(rt: HostRuntime) {
     all_come(&rt, rt.alloc(), b"", &ANSWERED);
 }
 
-const FILES: [&str; 15] = [
-    "sbiboard", "--disk", "D", "--mode", "fresh", "--turns", "10", "--p0", "p0", "--p1", "p1",
-    "--p2", "p2", "--p3", "p3",
-];
+const FILES: &str = "sbiboard --disk D --mode fresh --turns 10 --p0 p0 --p1 p1 --p2 p2 --p3 p3";
 
 /// A session that shows the state.
 const SEEN: Run = Run {
-    words: &KEEP,
+    line: KEEP,
     lines: b"state\n",
     ..PLAIN
 };
@@ -47,8 +43,8 @@ static SLOTS: [[Run; 3]; 4] = [
             ..PLAIN
         },
         Run {
-            words: &FILES,
-            payloads: [SLEEPS, b"", b"", b""],
+            line: FILES,
+            payload: (b'0', SLEEPS),
             ..PLAIN
         },
         Run {
@@ -63,8 +59,8 @@ static SLOTS: [[Run; 3]; 4] = [
             ..PLAIN
         },
         Run {
-            words: &FILES,
-            payloads: [b"", SLEEPS, b"", b""],
+            line: FILES,
+            payload: (b'1', SLEEPS),
             ..PLAIN
         },
         Run {
@@ -79,8 +75,8 @@ static SLOTS: [[Run; 3]; 4] = [
             ..PLAIN
         },
         Run {
-            words: &FILES,
-            payloads: [b"", b"", SLEEPS, b""],
+            line: FILES,
+            payload: (b'2', SLEEPS),
             ..PLAIN
         },
         Run {
@@ -95,8 +91,8 @@ static SLOTS: [[Run; 3]; 4] = [
             ..PLAIN
         },
         Run {
-            words: &FILES,
-            payloads: [b"", b"", b"", SLEEPS],
+            line: FILES,
+            payload: (b'3', SLEEPS),
             ..PLAIN
         },
         Run {
@@ -120,11 +116,8 @@ const LONG: [u8; 4097] = [0; 4097];
 const UNWHOLE: &[u8] =
     b"sbiboard: refusal 3\nsbiboard: the disk's file is empty, or not whole sectors of 512 bytes\n";
 
-/// The digits of a payload that is longer than RAM.
-const LONG_PAYLOAD: [u8; 8194] = [b'0'; 8194];
-
 const FORMATTED: Run = Run {
-    words: &OLD,
+    line: OLD,
     lines: b"state\n",
     told: b"state slot 0 reason 0 image none next 0\n",
     ..PLAIN
@@ -132,10 +125,8 @@ const FORMATTED: Run = Run {
 
 static LONG_GUEST: [Run; 2] = [
     Run {
-        payloads: [&LONG_PAYLOAD, b"", b"", b""],
-        words: &[
-            "sbiboard", "--disk", "D", "--mode", "fresh", "--new", "--turns", "1", "--p0", "p0",
-        ],
+        payload: (b'0', &LONG),
+        line: "sbiboard --disk D --mode fresh --new --turns 1 --p0 p0",
         lines: b"slot 1\n",
         status: 1,
         faults: b"sbiboard: refusal 3\nsbiboard: a payload is longer than the board's RAM\n",
@@ -179,18 +170,16 @@ const SET: Run = Run {
     ..PLAIN
 };
 
-const SYNCED: [&str; 9] = [
-    "sbiboard", "--disk", "D", "--mode", "fresh", "--new", "--turns", "1", "--sync",
-];
+const SYNCED: &str = "sbiboard --disk D --mode fresh --new --turns 1 --sync";
 
 static WRITES: [Run; 1] = [SET];
 
 static SYNCS: [Run; 1] = [Run {
-    words: &SYNCED,
+    line: SYNCED,
     ..SET
 }];
 
-static WRITES_AGAIN: [Run; 1] = [Run { words: &OLD, ..SET }];
+static WRITES_AGAIN: [Run; 1] = [Run { line: OLD, ..SET }];
 
 /// With `--sync` the file holds the same.
 #[test]
@@ -221,7 +210,7 @@ static FAULTS: [(&[u8], &[Run]); 9] = [
     (
         b"",
         &[Run {
-            words: &FILES,
+            line: FILES,
             broken: Broken::Payload(b'2'),
             status: 1,
             faults: b"sbiboard: file\nsbiboard: p2: it is not there\n",
@@ -240,8 +229,8 @@ static FAULTS: [(&[u8], &[Run]); 9] = [
     (
         b"",
         &[Run {
-            words: &OLD,
-            broken: Broken::Disk(Failing::Length),
+            line: OLD,
+            broken: Broken::Length,
             status: 1,
             faults: b"sbiboard: file\nsbiboard: D: it fails\n",
             ..PLAIN
@@ -250,8 +239,8 @@ static FAULTS: [(&[u8], &[Run]); 9] = [
     (
         &LONG,
         &[Run {
-            words: &OLD,
-            broken: Broken::Disk(Failing::Read),
+            line: OLD,
+            broken: Broken::Read,
             status: 1,
             faults: b"sbiboard: file\nsbiboard: D: it fails\n",
             ..PLAIN
@@ -260,7 +249,7 @@ static FAULTS: [(&[u8], &[Run]); 9] = [
     (
         &LONG,
         &[Run {
-            words: &OLD,
+            line: OLD,
             status: 1,
             faults: UNWHOLE,
             ..PLAIN
@@ -269,7 +258,7 @@ static FAULTS: [(&[u8], &[Run]); 9] = [
     (
         &[0; 512],
         &[Run {
-            words: &OLD,
+            line: OLD,
             status: 1,
             faults: b"sbiboard: refusal 1\n",
             ..PLAIN
@@ -278,7 +267,7 @@ static FAULTS: [(&[u8], &[Run]); 9] = [
     (
         b"",
         &[Run {
-            broken: Broken::Disk(Failing::Write),
+            broken: Broken::Write,
             lines: b"slot 1\n",
             status: 1,
             told: b"slot ok 1\n",
@@ -289,7 +278,7 @@ static FAULTS: [(&[u8], &[Run]); 9] = [
     (
         b"",
         &[Run {
-            words: &SYNCED,
+            line: SYNCED,
             broken: Broken::Keep,
             status: 1,
             faults: b"sbiboard: file\nsbiboard: D.new: no room\n",
@@ -299,7 +288,7 @@ static FAULTS: [(&[u8], &[Run]); 9] = [
     (
         b"",
         &[Run {
-            words: &OLD,
+            line: OLD,
             status: 1,
             faults: UNWHOLE,
             ..PLAIN
@@ -314,101 +303,31 @@ fn each_fault_has_its_status_and_its_line(rt: HostRuntime) {
     }
 }
 
-/// Runs of words that ask for no session.
-static STATUSES: [Run; 15] = [
-    Run {
-        words: &["sbiboard", "--help"],
-        ..PLAIN
-    },
-    Run {
-        words: &["sbiboard", "--version"],
-        ..PLAIN
-    },
-    Run {
-        words: &["sbiboard"],
-        status: 2,
-        ..PLAIN
-    },
-    // No disk, and no mode.
-    Run {
-        words: &["sbiboard", "--mode", "fresh"],
-        status: 2,
-        ..PLAIN
-    },
-    Run {
-        words: &["sbiboard", "--disk", "D"],
-        status: 2,
-        ..PLAIN
-    },
-    Run {
-        words: &["sbiboard", "--disk", "", "--mode", "fresh"],
-        status: 2,
-        ..PLAIN
-    },
-    Run {
-        words: &["sbiboard", "--disk", "D", "--mode", "asleep"],
-        status: 2,
-        ..PLAIN
-    },
+/// Command lines that ask for no session, and their statuses.
+static STATUSES: [(&str, u8); 15] = [
+    ("sbiboard --help", 0),
+    ("sbiboard --version", 0),
+    ("sbiboard", 2),
+    // No disk, no mode, and a disk without a name.
+    ("sbiboard --mode fresh", 2),
+    ("sbiboard --disk D", 2),
+    ("sbiboard --disk  --mode fresh", 2),
+    ("sbiboard --disk D --mode asleep", 2),
     // An option twice.
-    Run {
-        words: &["sbiboard", "--disk", "D", "--disk", "E", "--mode", "fresh"],
-        status: 2,
-        ..PLAIN
-    },
+    ("sbiboard --disk D --disk E --mode fresh", 2),
     // Numbers out of their limits.
-    Run {
-        words: &["sbiboard", "--disk", "D", "--mode", "fresh", "--harts", "9"],
-        status: 2,
-        ..PLAIN
-    },
-    Run {
-        words: &["sbiboard", "--disk", "D", "--mode", "fresh", "--pages", "0"],
-        status: 2,
-        ..PLAIN
-    },
-    Run {
-        words: &["sbiboard", "--disk", "D", "--mode", "fresh", "--lanes", "5"],
-        status: 2,
-        ..PLAIN
-    },
-    Run {
-        words: &[
-            "sbiboard", "--disk", "D", "--mode", "fresh", "--block", "600",
-        ],
-        status: 2,
-        ..PLAIN
-    },
-    Run {
-        words: &[
-            "sbiboard", "--disk", "D", "--mode", "fresh", "--block", "131072",
-        ],
-        status: 2,
-        ..PLAIN
-    },
-    Run {
-        words: &["sbiboard", "--disk", "D", "--mode", "fresh", "--turns", "0"],
-        status: 2,
-        ..PLAIN
-    },
-    Run {
-        words: &[
-            "sbiboard",
-            "--disk",
-            "D",
-            "--mode",
-            "fresh",
-            "--turns",
-            "1000000001",
-        ],
-        status: 2,
-        ..PLAIN
-    },
+    ("sbiboard --disk D --mode fresh --harts 9", 2),
+    ("sbiboard --disk D --mode fresh --pages 0", 2),
+    ("sbiboard --disk D --mode fresh --lanes 5", 2),
+    ("sbiboard --disk D --mode fresh --block 600", 2),
+    ("sbiboard --disk D --mode fresh --block 131072", 2),
+    ("sbiboard --disk D --mode fresh --turns 0", 2),
+    ("sbiboard --disk D --mode fresh --turns 1000000001", 2),
 ];
 
 #[test]
 fn words_that_ask_for_no_session_have_their_status(rt: HostRuntime) {
-    for run in &STATUSES {
-        has_status(&rt, rt.alloc(), run);
+    for &(line, status) in &STATUSES {
+        same(&rt, status_of(&rt, rt.alloc(), line), status);
     }
 }

@@ -1,11 +1,10 @@
 //! Runs of the programs `sbiboard` and `sbidisk` by the words of a command line, over files and streams in memory: what they are
 //! given, and what has to come of them (docs/CONSOLE.md, "Statuses and faults").
 
-use crate::fixtures::{same, zeros_behind};
-use crate::memory_disk::MemoryDisk;
-use crate::memory_files::{Broken, FaultOutput, MemoryFiles, Page};
+use crate::fixtures::{same, words_of, zeros_behind};
+use crate::memory_files::{Broken, MemoryDisk, MemoryFiles, Page};
 use board_files::MemoryFile;
-use board_programs::{FileLeft, Operated, examine_on, operate_on};
+use board_programs::{FileLeft, examine_on, operate_on};
 use board_session::Streams;
 use command_line::Pipe;
 use std::alloc::Global;
@@ -14,20 +13,12 @@ use std::process::Abort;
 use std::sync::Wait;
 use std::thread::Threads;
 
-/// Which program runs.
-pub enum Program {
-    Board,
-    Disk,
-}
-
-/// A run: the program and its words, the payload files `p0` to `p3` in hexadecimal digits with so many zeros after the first
-/// instruction of each, what fails of the files, the lines of the console and the room of the output; and the status, the output and
-/// the faults that have to come of it. After what is told the output has so many zeros.
+/// A run: its command line, the bytes of the payload file of that digit, what fails of the files, the lines of the console and the
+/// room of the output; and the status, the output and the faults that have to come of it. After what is told the output has so
+/// many zeros.
 pub struct Run {
-    pub program: Program,
-    pub words: &'static [&'static str],
-    pub payloads: [&'static [u8]; 4],
-    pub gap: usize,
+    pub line: &'static str,
+    pub payload: (u8, &'static [u8]),
     pub broken: Broken,
     pub lines: &'static [u8],
     pub room: usize,
@@ -37,109 +28,110 @@ pub struct Run {
     pub faults: &'static [u8],
 }
 
-pub const NEW: [&str; 8] = [
-    "sbiboard", "--disk", "D", "--mode", "fresh", "--new", "--turns", "1",
-];
+pub const NEW: &str = "sbiboard --disk D --mode fresh --new --turns 1";
 
-pub const OLD: [&str; 7] = ["sbiboard", "--disk", "D", "--mode", "fresh", "--turns", "1"];
+pub const OLD: &str = "sbiboard --disk D --mode fresh --turns 1";
 
-pub const KEEP: [&str; 7] = ["sbiboard", "--disk", "D", "--mode", "keep", "--turns", "1"];
+pub const KEEP: &str = "sbiboard --disk D --mode keep --turns 1";
+
+/// The room of an output, where it is not to fail.
+const ROOM: usize = 2_097_152;
 
 /// A run of `sbiboard` over a new disk, without a guest and without a line, which nothing stops.
 pub const PLAIN: Run = Run {
-    program: Program::Board,
-    words: &NEW,
-    payloads: [b"", b"", b"", b""],
-    gap: 0,
+    line: NEW,
+    payload: (b'0', b""),
     broken: Broken::Nothing,
     lines: b"",
-    room: 65536,
+    room: ROOM,
     status: 0,
     told: b"",
     zeros: 0,
     faults: b"",
 };
 
-/// How a run of `sbiboard` over these files ends, and the faults that it tells.
-fn operated<R: Abort + Threads + Wait + Sync>(
-    rt: &R,
-    files: &MemoryFiles,
-    run: &Run,
-) -> (Operated<MemoryDisk, MemoryFile, Page>, FaultOutput) {
-    let streams = Streams {
-        input: run.lines,
-        out: BufWriter::new(files.alloc, Page::new(files.alloc, run.room)).expect(rt, "memory"),
-    };
-    let mut faults = FaultOutput(Vec::new(files.alloc));
-    let ended = operate_on(files.alloc, rt, files, run.words, streams, &mut faults);
-    (ended, faults)
-}
-
-/// A run that ended so has come to what is told of it.
-fn compare(rt: &impl Abort, run: &Run, status: u8, told: &[u8], faults: &[u8]) {
-    same(rt, status, run.status);
-    same(rt, zeros_behind(told, run.told), Some(run.zeros));
-    same(rt, faults, run.faults);
-}
-
-/// A run of `sbidisk` over these files, which comes to what is told of it.
-fn examined(rt: &impl Abort, files: &MemoryFiles, run: &Run) {
-    let page = Page::new(files.alloc, run.room);
-    let mut out = BufWriter::new(files.alloc, Pipe::new(page)).expect(rt, "memory");
-    let mut faults = FaultOutput(Vec::new(files.alloc));
-    let status = examine_on(files.alloc, files, run.words, &mut out, &mut faults);
-    compare(rt, run, status, &out.get_ref().get_ref().text, &faults.0);
+/// What has come of a run: its status, its output, the faults that it told, and the bytes of the disk's file.
+#[derive(Drop)]
+struct Came {
+    status: u8,
+    told: Vec<u8>,
+    faults: Vec<u8>,
+    disk: Vec<u8>,
 }
 
 /// What then stands in the file of the disk, where those bytes stood before.
 fn bytes_left(
     rt: &impl Abort,
-    alloc: Global,
-    before: Vec<u8>,
+    files: MemoryFiles,
     left: FileLeft<MemoryDisk, MemoryFile>,
 ) -> Vec<u8> {
     match left {
-        FileLeft::None => before,
-        FileLeft::AtEnd(held, _disk) => held.found(),
+        FileLeft::None => files.disk,
+        FileLeft::AtEnd(held, _disk) => held.bytes,
         FileLeft::AllAlong(kept, _moments) => {
             let sectors = kept.found();
-            Vec::from_slice(alloc, sectors.as_flattened()).expect(rt, "memory")
+            Vec::from_slice(files.alloc, sectors.as_flattened()).expect(rt, "memory")
         }
     }
 }
 
-/// The files of a run, of which the disk's has these bytes.
-fn files_of(alloc: Global, disk: Vec<u8>, run: &Run) -> MemoryFiles {
-    MemoryFiles {
-        alloc,
-        payloads: run.payloads,
-        gap: run.gap,
-        disk,
-        broken: run.broken,
+/// What comes of `sbiboard` over these files.
+fn operated<R: Abort + Threads + Wait + Sync>(
+    rt: &R,
+    files: MemoryFiles,
+    words: &[&str],
+    run: &Run,
+) -> Came {
+    let page = Page::new(files.alloc, run.room);
+    let mut faults = Page::new(files.alloc, ROOM);
+    let streams = Streams {
+        input: run.lines,
+        out: BufWriter::new(files.alloc, page).expect(rt, "memory"),
+    };
+    let ended = operate_on(files.alloc, rt, &files, words, streams, &mut faults);
+    let (page, _unwritten) = ended.out.into_parts();
+    Came {
+        status: ended.status,
+        told: page.text,
+        faults: faults.text,
+        disk: bytes_left(rt, files, ended.file_left),
     }
 }
 
-/// What a run of `sbiboard` leaves in the disk's file, which comes to what is told of it.
-fn board_left<R: Abort + Threads + Wait + Sync>(rt: &R, files: MemoryFiles, run: &Run) -> Vec<u8> {
-    let (ended, faults) = operated(rt, &files, run);
-    compare(rt, run, ended.status, &ended.out.get_ref().text, &faults.0);
-    bytes_left(rt, files.alloc, files.disk, ended.file_left)
+/// What comes of `sbidisk` over these files.
+fn examined(rt: &impl Abort, files: MemoryFiles, words: &[&str], room: usize) -> Came {
+    let page = Page::new(files.alloc, room);
+    let mut faults = Page::new(files.alloc, ROOM);
+    let mut out = BufWriter::new(files.alloc, Pipe::new(page)).expect(rt, "memory");
+    let status = examine_on(files.alloc, &files, words, &mut out, &mut faults);
+    let told = Vec::from_slice(files.alloc, &out.get_ref().get_ref().text);
+    Came {
+        status,
+        told: told.expect(rt, "memory"),
+        faults: faults.text,
+        disk: files.disk,
+    }
 }
 
-/// What a run leaves in the disk's file of these bytes, which comes to what is told of it.
-fn left<R: Abort + Threads + Wait + Sync>(
+/// What comes of that command line over the disk of these bytes, and all else as that run has it.
+fn came<R: Abort + Threads + Wait + Sync>(
     rt: &R,
     alloc: Global,
     disk: Vec<u8>,
+    line: &'static str,
     run: &Run,
-) -> Vec<u8> {
-    let files = files_of(alloc, disk, run);
-    match run.program {
-        Program::Board => board_left(rt, files, run),
-        Program::Disk => {
-            examined(rt, &files, run);
-            files.disk
-        }
+) -> Came {
+    let words = words_of(rt, alloc, line);
+    let files = MemoryFiles {
+        alloc,
+        payload: run.payload,
+        disk,
+        broken: run.broken,
+    };
+    if line.starts_with("sbidisk") {
+        examined(rt, files, &words, run.room)
+    } else {
+        operated(rt, files, &words, run)
     }
 }
 
@@ -153,7 +145,11 @@ pub fn all_left<R: Abort + Threads + Wait + Sync>(
 ) -> Vec<u8> {
     let mut disk = Vec::from_slice(alloc, disk).expect(rt, "memory");
     for run in runs {
-        disk = left(rt, alloc, disk, run);
+        let came = came(rt, alloc, disk, run.line, run);
+        same(rt, came.status, run.status);
+        same(rt, zeros_behind(&came.told, run.told), Some(run.zeros));
+        same(rt, came.faults.as_slice(), run.faults);
+        disk = came.disk;
     }
     disk
 }
@@ -168,9 +164,13 @@ pub fn all_come<R: Abort + Threads + Wait + Sync>(
     let _left = all_left(rt, alloc, disk, runs);
 }
 
-/// A run has its status. Its texts are not compared.
-pub fn has_status<R: Abort + Threads + Wait + Sync>(rt: &R, alloc: Global, run: &Run) {
-    let files = files_of(alloc, Vec::new(alloc), run);
-    let (ended, _faults) = operated(rt, &files, run);
-    same(rt, ended.status, run.status);
+static ANY: Run = PLAIN;
+
+/// The status of the run that a command line asks for, over files that nothing stops.
+pub fn status_of<R: Abort + Threads + Wait + Sync>(
+    rt: &R,
+    alloc: Global,
+    line: &'static str,
+) -> u8 {
+    came(rt, alloc, Vec::new(alloc), line, &ANY).status
 }

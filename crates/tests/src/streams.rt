@@ -3,7 +3,7 @@
 
 ghost use Rattle.store.specs.Leaves.{IsIdle};
 
-use crate::fixtures::same;
+use crate::fixtures::{same, words_of};
 use crate::memory_files::Page;
 use crate::runs::{NEW, OLD};
 use board::Payloads;
@@ -105,10 +105,10 @@ impl Write for Flushed {
     }
 }
 
-/// A session over a blank disk: its words, the room of its output, how it ends, why its console leaves, what it answers, and how
+/// A session over a blank disk: its command line, the room of its output, how it ends, why its console leaves, what it answers, and how
 /// many of the answers are each written at once and flushed.
 struct SessionEnding {
-    words: &'static [&'static str],
+    line: &'static str,
     room: usize,
     ran: Result<(), Refusal>,
     left: Option<Left>,
@@ -117,22 +117,11 @@ struct SessionEnding {
 }
 
 /// Turns for longer than a test may take.
-const THREE: [&str; 10] = [
-    "sbiboard",
-    "--disk",
-    "D",
-    "--mode",
-    "fresh",
-    "--new",
-    "--harts",
-    "3",
-    "--turns",
-    "1000000000",
-];
+const THREE: &str = "sbiboard --disk D --mode fresh --new --harts 3 --turns 1000000000";
 
 /// A session that `quit` ends, and all its harts.
 const QUIT: SessionEnding = SessionEnding {
-    words: &THREE,
+    line: THREE,
     room: 1000,
     ran: Ok(()),
     left: Some(Left::Quit),
@@ -140,11 +129,11 @@ const QUIT: SessionEnding = SessionEnding {
     seen: 1,
 };
 
-/// What the words ask for, and a blank disk, large enough for three harts.
-fn begun(rt: &impl Abort, alloc: Global, words: &'static [&'static str]) -> (Options, SimDisk)
+/// What a command line asks for, and a blank disk, large enough for three harts.
+fn begun(rt: &impl Abort, alloc: Global, line: &'static str) -> (Options, SimDisk)
     ensures { IsIdle (⟦<SimDisk as Disk>⟧.facts result.1) }
 {
-    let Ok(given) = options(alloc, words) else {
+    let Ok(given) = options(alloc, &words_of(rt, alloc, line)) else {
         rt.panic("the words")
     };
     let shape = Shape::new(3, 1, 1).expect(rt, "a shape");
@@ -161,7 +150,7 @@ fn rest_of<R: Abort + Threads + Wait + Sync, I: Read + Drop>(
     input: I,
     ending: &SessionEnding,
 ) -> I {
-    let (given, disk) = begun(rt, alloc, ending.words);
+    let (given, disk) = begun(rt, alloc, ending.line);
     let streams = Streams {
         input,
         out: BufWriter::new(alloc, Flushed::new(alloc, ending.room)).expect(rt, "memory"),
@@ -177,7 +166,7 @@ fn rest_of<R: Abort + Threads + Wait + Sync, I: Read + Drop>(
 }
 
 static FALTERS: SessionEnding = SessionEnding {
-    words: &NEW,
+    line: NEW,
     left: Some(Left::InputFailed),
     told: b"slot ok 1\nstate slot 1 reason 0 image none next 0\n",
     seen: 2,
@@ -198,7 +187,7 @@ static LINES: [(&[u8], SessionEnding, &[u8]); 3] = [
     (
         b"slot 1\nhello\nquit\n",
         SessionEnding {
-            words: &NEW,
+            line: NEW,
             told: b"slot ok 1\n?\nquit\n",
             seen: 3,
             ..QUIT
@@ -220,7 +209,7 @@ static LINES: [(&[u8], SessionEnding, &[u8]); 3] = [
     (
         b"state\n",
         SessionEnding {
-            words: &OLD,
+            line: OLD,
             ran: Err(Refusal::NotFormatted),
             left: None,
             told: b"",

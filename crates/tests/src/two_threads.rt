@@ -33,21 +33,17 @@ fn issue_both<R: Threads + Wait + Sync, D: Disk + Drop + Send>(
     join(rt, || issue(rt, store, 1), || issue(rt, store, 2))
 }
 
-fn times(receipts: &[u32], number: u32) -> usize {
-    receipts.iter().filter(|n| **n == number).count()
-}
-
-/// Whether each number of a journal of that length is the receipt of one command.
-fn are_each_once(ones: &[u32], twos: &[u32]) -> bool {
-    (1..201).all(|number| times(ones, number).wrapping_add(times(twos, number)) == 1)
-}
-
-/// Whether the journal has that command at the place of each receipt.
+/// Whether these receipts rise, and the journal has that command at the place of each.
 fn are_of(store: &Store<SimDisk>, receipts: &[u32], slot: u32) -> bool {
     let wanted = Some(Entry::Command(Command::Slot(slot)));
-    receipts
-        .iter()
-        .all(|n| store.entry(u64::from(*n)) == wanted)
+    let mut before = 0;
+    for &number in receipts {
+        if number <= before || store.entry(u64::from(number)) != wanted {
+            return false;
+        }
+        before = number;
+    }
+    true
 }
 
 /// The store of a new disk, which two threads share.
@@ -57,11 +53,11 @@ fn shared(rt: &impl Abort, alloc: Global) -> Mutex<Store<SimDisk>> {
     Mutex::new(open(alloc, disk).expect(rt, "an open"))
 }
 
+/// A hundred receipts of each thread, in a journal of two hundred: so each number is the receipt of one command.
 #[test]
 fn receipts_of_two_threads_agree_with_the_journal(rt: HostRuntime) {
     let store = shared(&rt, rt.alloc());
     let (ones, twos) = issue_both(&rt, &store);
-    assert!(&rt; are_each_once(&ones, &twos));
     let store = store.into_inner();
     assert!(&rt;
         are_of(&store, &ones, 1) && are_of(&store, &twos, 2) && store.entry(201).is_none()
