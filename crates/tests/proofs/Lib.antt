@@ -1,4 +1,3 @@
 pub mod Crossing
 pub mod Empty
 pub mod Rows
-pub mod Stairs

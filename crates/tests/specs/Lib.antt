@@ -1,4 +1,3 @@
 pub mod Begun
 pub mod Crowd
 pub mod Race
-pub mod Stairs

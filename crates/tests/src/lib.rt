@@ -12,8 +12,6 @@ mod boards;
 #[cfg(test)]
 mod caches;
 #[cfg(test)]
-mod climbs;
-#[cfg(test)]
 mod commands;
 #[cfg(test)]
 mod crews;
@@ -23,8 +21,6 @@ mod crowd;
 mod decoder;
 #[cfg(test)]
 mod dozing;
-#[cfg(test)]
-mod edges;
 #[cfg(test)]
 mod examiner;
 #[cfg(test)]
@@ -42,13 +38,13 @@ mod guest;
 #[cfg(test)]
 mod inputs;
 #[cfg(test)]
-mod interned;
-#[cfg(test)]
 mod kept;
 #[cfg(test)]
 mod kept_back;
 #[cfg(test)]
 mod kernel_files;
+#[cfg(test)]
+mod kernels;
 #[cfg(test)]
 mod last_bytes;
 #[cfg(test)]
@@ -67,8 +63,6 @@ mod mine;
 mod model;
 #[cfg(test)]
 mod packets;
-#[cfg(test)]
-mod plains;
 #[cfg(test)]
 mod programs;
 #[cfg(test)]
@@ -90,8 +84,6 @@ mod sessions;
 #[cfg(test)]
 mod sites;
 #[cfg(test)]
-mod steps;
-#[cfg(test)]
 mod stopped;
 #[cfg(test)]
 mod stored;
@@ -101,8 +93,6 @@ mod streams;
 mod suspensions;
 #[cfg(test)]
 mod tables;
-#[cfg(test)]
-mod traps;
 #[cfg(test)]
 mod trials;
 #[cfg(test)]

@@ -1,8 +1,8 @@
 # Every instruction of RV64I that a user's program can make, on edge values. For each instruction one result is kept in
-# the list `results`: the rotated sum of what it gave for each pair of values or immediates. tools/hart-programs
-# assembles it, writes the image to src/edges.rt, and the results of qemu-riscv64 to edges.expected, one a line.
+# the list `results`: the rotated sum of what it gave for each pair of values or immediates. tools/dev/hart-programs
+# assembles it, and writes the image to edges.bin, and the results of qemu-riscv64 into edge-values-as-under-qemu.run.
 #
-# The first ECALL writes the results, the second ends the program. The hart's test runs it up to the first.
+# Under qemu the first ECALL writes the results, and the second ends the program.
 
     .option norvc
     .option norelax

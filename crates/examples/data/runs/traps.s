@@ -1,6 +1,6 @@
 # A supervisor's program on a memory of two pages: what traps, and what the control and status registers read after a
-# write. qemu-user has no supervisor mode, so the results that the hart's test expects come from the ISA manual and
-# docs/HART.md: the comment of each case says them. The program ends at its ECALL. tools/hart-programs assembles it.
+# write. qemu-user has no supervisor mode, so the results in traps-and-registers-of-the-supervisor.run come from the ISA manual and
+# docs/HART.md: the comment of each case says them. The program ends at its ECALL. tools/dev/hart-programs writes its image, traps.bin.
 #
 # The handler keeps four numbers of each trap: scause, stval - s7, sepc - s6 and sstatus. Then it returns to s5, or
 # past the instruction where s5 is 0.
