@@ -28,38 +28,46 @@ fn number(words: &mut Words<'_>) -> Option<u64> {
 }
 
 fn short(words: &mut Words<'_>) -> Option<u32> {
-    words.next()?.parse().ok()
+    u32::try_from(number(words)?).ok()
 }
 
 fn size(words: &mut Words<'_>) -> Option<usize> {
-    words.next()?.parse().ok()
+    usize::try_from(number(words)?).ok()
+}
+
+/// The shape of a board, and the order of its crew.
+fn board_of(part: &str) -> Option<(Shape, [usize; 4])> {
+    let mut words = part.split_whitespace();
+    if words.next()? != "board" {
+        return None;
+    }
+    let (harts, pages) = (number(&mut words)?, number(&mut words)?);
+    let shape = Shape::new(harts, pages, number(&mut words)?).ok()?;
+    let mut order = [0; 4];
+    for place in order.iter_mut() {
+        *place = size(&mut words)?;
+    }
+    Some((shape, order))
+}
+
+/// What the parts ask.
+fn all_asked(alloc: Global, parts: &str) -> Option<Vec<Asked>> {
+    let mut asked = Vec::new(alloc);
+    for part in parts.split(';') {
+        let one = asked_of(alloc, &mut part.split_whitespace())?;
+        asked.push(one).ok()?;
+    }
+    Some(asked)
 }
 
 /// The list of a line.
 pub fn list_of<R: Threads + Sync>(alloc: Global, line: &str) -> Option<List<R>> {
-    let mut parts = line.split(';');
-    let mut words = parts.next()?.split_whitespace();
-    if words.next()? != "board" {
-        return None;
-    }
-    let shape = Shape::new(
-        number(&mut words)?,
-        number(&mut words)?,
-        number(&mut words)?,
-    )
-    .ok()?;
-    let order = [
-        size(&mut words)?,
-        size(&mut words)?,
-        size(&mut words)?,
-        size(&mut words)?,
-    ];
+    let (board, asked) = match line.split_once(';') {
+        Some((board, parts)) => (board, all_asked(alloc, parts)?),
+        None => (line, Vec::new(alloc)),
+    };
+    let (shape, order) = board_of(board)?;
     let crew = Sequential::new(order).ok()?;
-    let mut asked = Vec::new(alloc);
-    for part in parts {
-        let mut words = part.split_whitespace();
-        asked.push(asked_of(alloc, &mut words)?).ok()?;
-    }
     Some(List { shape, crew, asked })
 }
 
