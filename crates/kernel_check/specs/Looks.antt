@@ -6,6 +6,8 @@ use Rattle.script_lang.specs.Words.{number_of}
 use Rattle.elf_image.specs.Symbols.{IsFirstNamed, entry_at, symbol_of}
 use Rattle.elf_image.specs.declared.kernel_file.Elf.{Elf}
 use Rattle.elf_image.specs.declared.symbols.Symbol.{Symbol}
+use Rattle.kernel_check.specs.declared.given.LookOption.{LookOption}
+use Rattle.kernel_check.specs.declared.given.LookOption.TheVariants as options
 use Rattle.kernel_check.specs.declared.given.LookWord.{LookWord}
 use Rattle.kernel_check.specs.declared.looks.Look.{Look}
 use lib.Chars.{codes}
@@ -36,6 +38,11 @@ pub record IsExpectWord (word : List ℕ) (look : LookWord) : Type 0 where
   pub decoded : decode_of digits ≡ Ok bytes
   pub expected : option_map (λ v. v.items) look.expected ≡ Some bytes
   pub sized : look.bytes ≡ Some (length bytes)
+
+-- a word of either option
+abbrev pub IsWordOf : LookOption → List ℕ → LookWord → Type 0
+IsWordOf options.Look = IsLookWord
+IsWordOf options.Expect = IsExpectWord
 
 -- ---- places
 -- the first symbol of that name in a kernel's file

@@ -14,8 +14,17 @@ pub struct LookWord {
     pub expected: Option<Vec<u8>>,
 }
 
+/// The options whose words name bytes of memory.
+#[derive(Clone, Copy, Drop)]
+pub enum LookOption {
+    /// `--look`.
+    Look,
+    /// `--expect`, which says what must be there too.
+    Expect,
+}
+
 /// What may be wrong with a kernel.
-#[derive(Clone, Copy, PartialEq, Eq, Debug, Drop)]
+#[derive(Clone, Copy, PartialEq, Eq, Drop)]
 pub enum FailureKind {
     /// Two ends show different things, or one shows what is not expected.
     Differs,

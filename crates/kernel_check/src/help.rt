@@ -1,6 +1,6 @@
 //! The command, its options, and what `--help` says.
 
-ghost use Rattle.std.specs.Prelude.{◌≡◌, false, codes, IfOk};
+ghost use Rattle.std.specs.Prelude.{◌≡◌, false, IfOk};
 ghost use Rattle.clap.specs.Words.{App, app_of, rule_of, with_rule};
 ghost use Rattle.clap.specs.declared.builder.value_parser.ValueParser.TheVariants.{Unsigned};
 ghost use Rattle.command_line.specs.Options.{value_rule};
@@ -161,31 +161,19 @@ fn several<'a>(alloc: Global, id: &'a str, value: &'a str, help: &'a str) -> Arg
     option(alloc, id, value, help).action(ArgAction::Append)
 }
 
-/// The option with the number of pages.
-fn pages<'a>(alloc: Global) -> Arg<'a>
-    ensures rule { rule_of result ≡ value_rule (codes "pages") (Unsigned 1 256) }
+/// An option with a number of `least` to `most`.
+fn ranged<'a>(
+    alloc: Global,
+    id: &'a str,
+    value: &'a str,
+    least: u64,
+    most: u64,
+    help: &'a str,
+) -> Arg<'a>
+    ensures rule { rule_of result ≡ value_rule id.entry.now (Unsigned least most) }
     ensures local { result.global ≡ false }
 {
-    let help = "How many pages of RAM it has, 1 to 256; as many as an ELF file needs if not said";
-    option(alloc, PAGES, "N", help).value_parser(ValueParser::unsigned(1, MOST_PAGES))
-}
-
-/// The option with the number of preemptions.
-fn preemptions<'a>(alloc: Global) -> Arg<'a>
-    ensures rule { rule_of result ≡ value_rule (codes "preemptions") (Unsigned 0 1000) }
-    ensures local { result.global ≡ false }
-{
-    let help = "Follows the orders with at most K preemptions, and no others";
-    option(alloc, PREEMPTIONS, "K", help).value_parser(ValueParser::unsigned(0, MOST_PREEMPTIONS))
-}
-
-/// The option with the number of power-ons.
-fn lives<'a>(alloc: Global) -> Arg<'a>
-    ensures rule { rule_of result ≡ value_rule (codes "lives") (Unsigned 1 1000) }
-    ensures local { result.global ≡ false }
-{
-    let help = "Follows the orders with at most N power-ons, and no others; not with --preemptions";
-    option(alloc, LIVES, "N", help).value_parser(ValueParser::unsigned(1, MOST_LIVES))
+    option(alloc, id, value, help).value_parser(ValueParser::unsigned(least, most))
 }
 
 /// The option with the reset reason.
@@ -193,14 +181,8 @@ fn reason<'a>(alloc: Global) -> Arg<'a>
     ensures rule { rule_of result ≡ reason_rule }
     ensures local { result.global ≡ false }
 {
-    option(
-        alloc,
-        REASON,
-        "R",
-        "The reset reason of the first boot, 0 or 1",
-    )
-    .value_parser(ValueParser::unsigned(0, 1))
-    .default_value("0")
+    let help = "The reset reason of the first boot, 0 or 1";
+    ranged(alloc, REASON, "R", 0, 1, help).default_value("0")
 }
 
 /// The option with the bound on memory.
@@ -210,15 +192,6 @@ fn memory<'a>(alloc: Global) -> Arg<'a>
 {
     let help = "Stops at so many bytes of memory, as 500M or 8G";
     option(alloc, MEMORY, "SIZE", help).default_value("4G")
-}
-
-/// The option with the number of threads.
-fn jobs<'a>(alloc: Global) -> Arg<'a>
-    ensures rule { rule_of result ≡ value_rule (codes "jobs") (Unsigned 1 64) }
-    ensures local { result.global ≡ false }
-{
-    let help = "How many threads search, 1 to 64; as many as there are processors if not said";
-    option(alloc, JOBS, "N", help).value_parser(ValueParser::unsigned(1, MOST_JOBS))
 }
 
 /// The command with one more argument, unless memory was refused before: what adds several has one way out.
@@ -232,75 +205,53 @@ fn with_arg<'a>(
     command?.arg(arg)
 }
 
-/// The command with the options of the board.
-fn with_board<'a>(
+/// The command with the options of the board, and with those that say what is looked at.
+fn with_kernel<'a>(
     alloc: Global,
     command: Result<Command<'a>, AllocError>,
 ) -> Result<Command<'a>, AllocError>
-    ensures { (app : App) → IfOk command.entry (λ c. app_of c ≡ app) → IfOk result (λ c. app_of c ≡ with_board app) }
+    ensures { (app : App) → IfOk command.entry (λ c. app_of c ≡ app) → IfOk result (λ c. app_of c ≡ with_looks (with_board app)) }
 {
     let harts = "How many harts the board has, 1 to 8";
+    let pages = "How many pages of RAM it has, 1 to 256; as many as an ELF file needs if not said";
     let lanes = "How many saver lanes it has, 1 to 4, for the script of --show";
-    let command = with_arg(command, number(alloc, HARTS, MOST_HARTS, "1", harts));
-    let command = with_arg(command, pages(alloc));
-    let command = with_arg(command, number(alloc, LANES, MOST_LANES, "1", lanes));
-    with_arg(command, reason(alloc))
-}
-
-/// The command with the options that say what is looked at.
-fn with_looks<'a>(
-    alloc: Global,
-    command: Result<Command<'a>, AllocError>,
-) -> Result<Command<'a>, AllocError>
-    ensures { (app : App) → IfOk command.entry (λ c. app_of c ≡ app) → IfOk result (λ c. app_of c ≡ with_looks app) }
-{
     let look = "Looks at NAME[:BYTES] or ADDRESS:BYTES; at `shown` if nothing is said";
     let expect = "Expects these bytes at each end: NAME=HEX or ADDRESS=HEX";
+    let command = with_arg(command, number(alloc, HARTS, MOST_HARTS, "1", harts));
+    let command = with_arg(command, ranged(alloc, PAGES, "N", 1, MOST_PAGES, pages));
+    let command = with_arg(command, number(alloc, LANES, MOST_LANES, "1", lanes));
+    let command = with_arg(command, reason(alloc));
     let command = with_arg(command, several(alloc, LOOK, "NAME", look));
     with_arg(command, several(alloc, EXPECT, "BYTES", expect))
 }
 
-/// The command with the options that say which orders are followed.
-fn with_orders<'a>(
+/// The command with the options that say which orders are followed, how the search is bounded, and how the verdict is written.
+fn with_search<'a>(
     alloc: Global,
     command: Result<Command<'a>, AllocError>,
 ) -> Result<Command<'a>, AllocError>
-    ensures { (app : App) → IfOk command.entry (λ c. app_of c ≡ app) → IfOk result (λ c. app_of c ≡ with_orders app) }
+    ensures { (app : App) → IfOk command.entry (λ c. app_of c ≡ app)
+        → IfOk result (λ c. app_of c ≡ with_writing (with_bounds (with_orders app))) }
 {
     let without =
         "Leaves out power cuts, or refused sleeps and resets [possible values: cuts, refusals]";
-    let command = with_arg(command, several(alloc, WITHOUT, "WHAT", without));
-    let command = with_arg(command, preemptions(alloc));
-    with_arg(command, lives(alloc))
-}
-
-/// The command with the options that bound the search.
-fn with_bounds<'a>(
-    alloc: Global,
-    command: Result<Command<'a>, AllocError>,
-) -> Result<Command<'a>, AllocError>
-    ensures { (app : App) → IfOk command.entry (λ c. app_of c ≡ app) → IfOk result (λ c. app_of c ≡ with_bounds app) }
-{
+    let preemptions = "Follows the orders with at most K preemptions, and no others";
+    let lives =
+        "Follows the orders with at most N power-ons, and no others; not with --preemptions";
     let boards = "Stops at N boards";
-    let command = with_arg(
-        command,
-        number(alloc, BOARDS, MOST_BOARDS, "10000000", boards),
-    );
-    let command = with_arg(command, memory(alloc));
-    with_arg(command, jobs(alloc))
-}
-
-/// The command with the options that say how the verdict is written.
-fn with_writing<'a>(
-    alloc: Global,
-    command: Result<Command<'a>, AllocError>,
-) -> Result<Command<'a>, AllocError>
-    ensures { (app : App) → IfOk command.entry (λ c. app_of c ≡ app) → IfOk result (λ c. app_of c ≡ with_writing app) }
-{
+    let jobs = "How many threads search, 1 to 64; as many as there are processors if not said";
     let json = "Writes the verdict as lines of JSON";
     let tap = "Writes the verdict in the Test Anything Protocol";
     let show =
         "Writes its order as a script that sbibench runs [possible values: differs, stuck, traps, fails]";
+    let command = with_arg(command, several(alloc, WITHOUT, "WHAT", without));
+    let few = ranged(alloc, PREEMPTIONS, "K", 0, MOST_PREEMPTIONS, preemptions);
+    let command = with_arg(command, few);
+    let command = with_arg(command, ranged(alloc, LIVES, "N", 1, MOST_LIVES, lives));
+    let most = number(alloc, BOARDS, MOST_BOARDS, "10000000", boards);
+    let command = with_arg(command, most);
+    let command = with_arg(command, memory(alloc));
+    let command = with_arg(command, ranged(alloc, JOBS, "N", 1, MOST_JOBS, jobs));
     let command = with_arg(command, flag(alloc, JSON, json));
     let command = with_arg(command, flag(alloc, TAP, tap));
     with_arg(command, option(alloc, SHOW, "FAILURE", show))
@@ -312,9 +263,5 @@ pub fn command<'a>(alloc: Global) -> Result<Command<'a>, AllocError>
 {
     let command = Ok(program(alloc, "sbicheck", USAGE, ABOUT, STATUS));
     let command = with_arg(command, kernel(alloc));
-    let command = with_board(alloc, command);
-    let command = with_looks(alloc, command);
-    let command = with_orders(alloc, command);
-    let command = with_bounds(alloc, command);
-    with_writing(alloc, command)
+    with_search(alloc, with_kernel(alloc, command))
 }

@@ -3,18 +3,18 @@
 ghost use Rattle.std.specs.Prelude.{◌≡◌, ◌++◌, List, true, Some, codes, map, string_bytes, IfErr, IfOk, IfSome};
 ghost use Rattle.clap.specs.Words.{HasKind, fault_of, first_value, found_of};
 ghost use Rattle.command_line.specs.Parses.{AreParsed};
-ghost use Rattle.kernel_check.specs.Looks.{IsExpectWord, IsLookWord};
+ghost use Rattle.kernel_check.specs.Looks.{IsWordOf};
 ghost use Rattle.kernel_check.specs.Options.{AreForms, AreLooked, AreNamedBy, AreOptions, IsAsked, IsBoundBy, IsBounded, IsGiven, IsShown, is_among, memory_of, number_in, reason_of, values_of};
 ghost use Rattle.kernel_check.specs.Usage.{sbicheck};
 ghost use Rattle.kernel_check.specs.declared.given.LookWord.{LookWord};
 
-use crate::given::{Asked, CheckOptions, FailureKind, LookWord};
+use crate::given::{Asked, CheckOptions, FailureKind, LookOption, LookWord};
 use crate::help::{
     BOARDS, CUTS, EXPECT, HARTS, JOBS, JSON, KERNEL, LANES, LIVES, LOOK, MEMORY, MOST_BOARDS,
     MOST_HARTS, MOST_JOBS, MOST_LANES, MOST_LIVES, MOST_PAGES, MOST_PREEMPTIONS, PAGES,
     PREEMPTIONS, REASON, REFUSALS, SHOW, TAP, WITHOUT, command,
 };
-use crate::words::{expect_named, failure_named, look_named, size_named};
+use crate::words::{failure_named, size_named, word_named};
 use board_model::Reason;
 use board_space::Bound;
 use clap::{ArgMatches, Error};
@@ -72,33 +72,19 @@ fn left_out(words: &[&str]) -> Option<(bool, bool)>
     Some((cuts, refusals))
 }
 
-/// Adds the looks of some words. Whether each of them is in its form.
-fn add_looks(alloc: Global, words: &[&str], looks: &mut Vec<LookWord>) -> Result<bool, AllocError>
-    ensures { IfOk result (λ fine. fine ≡ true
-        → (more : List LookWord) × (looks.new.items ≡ looks.old.items ++ more)
-        × AreForms IsLookWord (map (λ w. w.now) words.now) more) }
-{
-    for word in words {
-        match look_named(alloc, word)? {
-            Some(look) => looks.push(look)?,
-            None => return Ok(false),
-        }
-    }
-    Ok(true)
-}
-
-/// Adds what some words expect. Whether each of them is in its form.
-fn add_expected(
+/// Adds what some words of an option name. Whether each of them is in its form.
+fn add_words(
     alloc: Global,
+    option: LookOption,
     words: &[&str],
     looks: &mut Vec<LookWord>,
 ) -> Result<bool, AllocError>
     ensures { IfOk result (λ fine. fine ≡ true
         → (more : List LookWord) × (looks.new.items ≡ looks.old.items ++ more)
-        × AreForms IsExpectWord (map (λ w. w.now) words.now) more) }
+        × AreForms (IsWordOf option) (map (λ w. w.now) words.now) more) }
 {
     for word in words {
-        match expect_named(alloc, word)? {
+        match word_named(alloc, option, word)? {
             Some(look) => looks.push(look)?,
             None => return Ok(false),
         }
@@ -112,12 +98,12 @@ fn looks(alloc: Global, matches: &ArgMatches<'_>) -> Result<Option<Vec<LookWord>
 {
     let mut looks = Vec::new(alloc);
     if let Some(words) = matches.get_strs(LOOK)
-        && !add_looks(alloc, words, &mut looks)?
+        && !add_words(alloc, LookOption::Look, words, &mut looks)?
     {
         return Ok(None);
     }
     if let Some(words) = matches.get_strs(EXPECT)
-        && !add_expected(alloc, words, &mut looks)?
+        && !add_words(alloc, LookOption::Expect, words, &mut looks)?
     {
         return Ok(None);
     }

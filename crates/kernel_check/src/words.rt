@@ -1,10 +1,10 @@
 //! The words of single options.
 
 ghost use Rattle.std.specs.Prelude.{◌≡◌, IfOk, IfSome};
-ghost use Rattle.kernel_check.specs.Looks.{IsExpectWord, IsLookWord, is_address};
+ghost use Rattle.kernel_check.specs.Looks.{IsExpectWord, IsLookWord, IsWordOf, is_address};
 ghost use Rattle.kernel_check.specs.Sizes.{failure_named, size_of};
 
-use crate::given::{FailureKind, LookWord};
+use crate::given::{FailureKind, LookOption, LookWord};
 use crate::help::{DIFFERS, FAILS, STUCK, TRAPS};
 use board_model::RAM_BASE;
 use script_lang::number;
@@ -30,7 +30,7 @@ fn is_name(name: &str) -> bool {
 }
 
 /// `NAME`, `NAME:BYTES` or `ADDRESS:BYTES`. None where the word is neither.
-pub fn look_named(alloc: Global, word: &str) -> Result<Option<LookWord>, AllocError>
+fn look_named(alloc: Global, word: &str) -> Result<Option<LookWord>, AllocError>
     ensures { IfOk result (λ found. IfSome found (IsLookWord word.now)) }
 {
     let (name, bytes) = match word.split_once(':') {
@@ -51,7 +51,7 @@ pub fn look_named(alloc: Global, word: &str) -> Result<Option<LookWord>, AllocEr
 }
 
 /// `NAME=HEX` or `ADDRESS=HEX`: 1 to 4,096 bytes in hexadecimal digits, the first byte first. None where the word is neither.
-pub fn expect_named(alloc: Global, word: &str) -> Result<Option<LookWord>, AllocError>
+fn expect_named(alloc: Global, word: &str) -> Result<Option<LookWord>, AllocError>
     ensures { IfOk result (λ found. IfSome found (IsExpectWord word.now)) }
 {
     let Some((name, digits)) = word.split_once('=') else {
@@ -73,6 +73,20 @@ pub fn expect_named(alloc: Global, word: &str) -> Result<Option<LookWord>, Alloc
         bytes: Some(bytes.len() as u32),
         expected: Some(bytes),
     }))
+}
+
+/// What a word of that option names. None where it is out of the option's form.
+pub fn word_named(
+    alloc: Global,
+    option: LookOption,
+    word: &str,
+) -> Result<Option<LookWord>, AllocError>
+    ensures { IfOk result (λ found. IfSome found (IsWordOf option word.now)) }
+{
+    match option {
+        LookOption::Look => look_named(alloc, word),
+        LookOption::Expect => expect_named(alloc, word),
+    }
 }
 
 /// A size in bytes: a number, with K, M or G after it for 2^10, 2^20 or 2^30.

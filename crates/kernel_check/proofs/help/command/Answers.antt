@@ -8,6 +8,5 @@ use Rattle.kernel_check.proofs.help.command.Goals as goal
 pub returns : goal.returns
 returns c =
     let kernel = ap (λ (r : Rule). with_writing (with_bounds (with_orders (with_looks (with_board (with_rule (named_app (codes "sbicheck")) r)))))) c.kernel.ensures.rule in
-    IfOk-weaker c.with_writing.result _ _ (λ r h. h ∙ kernel)
-    (c.with_writing.ensures _ (c.with_bounds-command.ensures _ (c.with_orders-command.ensures _ (c.with_looks-command.ensures _ (c.with_board-command.ensures _
-    (c.with_arg-command.ensures _ c.program.ensures))))))
+    IfOk-weaker c.with_search.result _ _ (λ r h. h ∙ kernel)
+    (c.with_search.ensures _ (c.with_kernel.ensures _ (c.with_arg-command.ensures _ c.program.ensures)))

@@ -1,8 +1,6 @@
-use Rattle.std.proofs.Common.{◌≡◌, ◌∙◌, Bool, [], ◌∷◌, ap, ap₂, Option, codes}
+use Rattle.std.proofs.Common.{◌∙◌, Bool, [], ◌∷◌, ap, codes}
 use Rattle.clap.specs.Words.{Rule, rule_of}
 use Rattle.clap.specs.declared.builder.arg.Arg.{Arg}
-use Rattle.clap.specs.declared.builder.value_parser.ValueParser.{ValueParser}
-use Rattle.command_line.specs.Options.{value_rule}
 use Rattle.kernel_check.proofs.help.reason.Goals as goal
 
 abbrev is_global : Arg → Bool
@@ -10,9 +8,7 @@ is_global a = a.global
 
 pub returns-clause-rule : goal.returns-clause-rule
 returns-clause-rule c =
-    let p1 : rule_of c.value_parser.result ≡ value_rule (codes "reason") c.value_parser.ensures.given.0 =
-    ap rule_of c.value_parser.ensures.others ∙ ap₂ (λ (r : Rule) (p : Option ValueParser). record r { parser = p }) c.option.ensures.rule c.value_parser.ensures.given.1 in
-    ap rule_of c.default_value.ensures ∙ ap (λ (r : Rule). record r { defaults = codes "0" ∷ [] }) (p1 ∙ ap (value_rule (codes "reason")) (c.value_parser.ensures.given.2 ∙ c.unsigned.ensures))
+    ap rule_of c.default_value.ensures ∙ ap (λ (r : Rule). record r { defaults = codes "0" ∷ [] }) c.ranged.ensures.rule
 
 pub returns-clause-local : goal.returns-clause-local
-returns-clause-local c = ap is_global c.default_value.ensures ∙ ap is_global c.value_parser.ensures.others ∙ c.option.ensures.local
+returns-clause-local c = ap is_global c.default_value.ensures ∙ c.ranged.ensures.local

@@ -1,9 +1,9 @@
-use Rattle.std.proofs.Common.{◌∙◌, Bool, ap, ap₂, Option, codes}
+use Rattle.std.proofs.Common.{◌∙◌, Bool, ap, ap₂, Option}
 use Rattle.clap.specs.Words.{Rule, rule_of}
 use Rattle.clap.specs.declared.builder.arg.Arg.{Arg}
 use Rattle.clap.specs.declared.builder.value_parser.ValueParser.{ValueParser}
 use Rattle.command_line.specs.Options.{value_rule}
-use Rattle.kernel_check.proofs.help.pages.Goals as goal
+use Rattle.kernel_check.proofs.help.ranged.Goals as goal
 
 abbrev is_global : Arg → Bool
 is_global a = a.global
@@ -11,7 +11,7 @@ is_global a = a.global
 pub returns-clause-rule : goal.returns-clause-rule
 returns-clause-rule c =
     ap rule_of c.value_parser.ensures.others ∙ ap₂ (λ (r : Rule) (p : Option ValueParser). record r { parser = p }) c.option.ensures.rule c.value_parser.ensures.given.1
-    ∙ ap (value_rule (codes "pages")) (c.value_parser.ensures.given.2 ∙ c.unsigned.ensures)
+    ∙ ap (value_rule c.args.id.now) (c.value_parser.ensures.given.2 ∙ c.unsigned.ensures)
 
 pub returns-clause-local : goal.returns-clause-local
 returns-clause-local c = ap is_global c.value_parser.ensures.others ∙ c.option.ensures.local

@@ -1,9 +1,9 @@
 use Rattle.std.proofs.Common.{arith}
-use Rattle.kernel_check.specs.Looks.{IsExpectWord}
+use Rattle.kernel_check.specs.Looks.{IsWordOf}
 use Rattle.kernel_check.proofs.Naming.{forms_on}
-use Rattle.kernel_check.proofs.parsed.add_expected.Goals as goal
+use Rattle.kernel_check.proofs.parsed.add_words.Goals as goal
 
 pub loop-word-preserved : goal.loop-word-preserved
 loop-word-preserved c =
-    forms_on IsExpectWord c.args.words.now c.loop-word.word-index _ c.args.looks.now.items c.loop-word.looks.items c.push.new.self.items
+    forms_on (IsWordOf c.args.option) c.args.words.now c.loop-word.word-index _ c.args.looks.now.items c.loop-word.looks.items c.push.new.self.items
     c.in-Some.look (omega arith) c.loop-word.invariant c.in_ok-push-in-Some.ensures.items (rw c.in-Some.is at c.in_ok-look.ensures)

@@ -1,9 +1,9 @@
 use Rattle.std.proofs.Common.{◌≡◌, ◌++◌, List, map, take}
-use Rattle.kernel_check.specs.Looks.{IsLookWord}
+use Rattle.kernel_check.specs.Looks.{IsWordOf}
 use Rattle.kernel_check.specs.Options.{AreForms}
 use Rattle.kernel_check.specs.declared.given.LookWord.{LookWord}
-use Rattle.kernel_check.proofs.parsed.add_looks.Given as goal
+use Rattle.kernel_check.proofs.parsed.add_words.Given as goal
 
 abbrev pub invariant-loop-word : goal.invariant-loop-word
 invariant-loop-word l = (more : List LookWord) × (l.looks.items ≡ l.initial.looks.items ++ more)
-    × AreForms IsLookWord (map (λ w. w.now) (take l.word-index l.words)) more
+    × AreForms (IsWordOf l.option) (map (λ w. w.now) (take l.word-index l.words)) more

@@ -1,9 +1,0 @@
-use Rattle.std.proofs.Common.{◌≡◌, ◌++◌, List, map, take}
-use Rattle.kernel_check.specs.Looks.{IsExpectWord}
-use Rattle.kernel_check.specs.Options.{AreForms}
-use Rattle.kernel_check.specs.declared.given.LookWord.{LookWord}
-use Rattle.kernel_check.proofs.parsed.add_expected.Given as goal
-
-abbrev pub invariant-loop-word : goal.invariant-loop-word
-invariant-loop-word l = (more : List LookWord) × (l.looks.items ≡ l.initial.looks.items ++ more)
-    × AreForms IsExpectWord (map (λ w. w.now) (take l.word-index l.words)) more
