@@ -15,9 +15,11 @@ use crate::judged::{Judged, judge};
 use crate::kernel::{Kernel, kernel_of};
 use crate::looks::{Look, look_at};
 use crate::own::own_order;
-use crate::tells::{tell_judged, tell_kernel, tell_own, tell_script, tell_search, tell_stop};
+use crate::tells::{
+    tell_judged, tell_kernel, tell_own, tell_script, tell_search, tell_stop, written,
+};
 use crate::walks::Setting;
-use board_model::{Refusal, Shape, unwritten};
+use board_model::{Refusal, Shape};
 use board_space::{Bound, Explored, Failures, Question, explore_board};
 use model_board::Board;
 use state_space::{Limits, Refused};
@@ -198,7 +200,7 @@ fn is_given_up(verdict: Verdict) -> bool {
 
 /// What was told so far is written.
 fn flush<W: Write>(out: &mut W) -> Result<(), Refusal> {
-    out.flush().map_err(|error| unwritten(error))
+    written(out.flush())
 }
 
 /// Follows a kernel's orders of a bound, and tells of the search, unless a script is asked for.
@@ -297,21 +299,14 @@ fn tell_shown<W: Write>(
     kind: FailureKind,
     out: &mut W,
 ) -> Result<(), CheckFault> {
-    let is_told = tell_script(
-        task.alloc,
-        out,
-        task.options,
-        task.kernel,
-        task.shape,
-        task.looks,
-        judged,
-        kind,
-    )?;
-    if is_told {
-        Ok(())
-    } else {
-        Err(CheckFault::NotFound(kind))
-    }
+    let Some(failure) = judged.failure(kind) else {
+        return Err(CheckFault::NotFound(kind));
+    };
+    let payload = task.kernel.payload.as_slice();
+    let reason = task.options.asked.reason;
+    Ok(tell_script(
+        task.alloc, out, task.shape, payload, reason, failure, task.looks,
+    )?)
 }
 
 /// Tells what was found of a kernel, or the script of a failure where one is asked for.

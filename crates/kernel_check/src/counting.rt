@@ -3,7 +3,7 @@
 ghost use Rattle.std.specs.Prelude.{◌≡◌};
 
 use crate::places::data_text;
-use crate::walks::Setting;
+use crate::walks::{Setting, way_to};
 use board_model::{RAM_BASE, Refusal};
 use board_space::Explored;
 use hart::Hart;
@@ -26,6 +26,9 @@ const REGISTERS: [&str; 31] = [
 /// What was read of a board last, and what was greater each time.
 #[derive(Drop)]
 struct Readings {
+    /// The words that some hart writes, by their numbers.
+    words: Vec<u64>,
+    /// The values of these words, and of the registers of each hart.
     values: Vec<u64>,
     greater: Vec<bool>,
     looks: usize,
@@ -33,8 +36,9 @@ struct Readings {
 
 impl Readings {
     /// Nothing was read yet.
-    fn none(alloc: Global) -> Readings {
+    fn none(alloc: Global, words: Vec<u64>) -> Readings {
         Readings {
+            words,
             values: Vec::new(alloc),
             greater: Vec::new(alloc),
             looks: 0,
@@ -52,12 +56,21 @@ fn word_at(ram: &[u8], number: u64) -> u64 {
     value
 }
 
-/// Adds the values of the words that some hart writes.
-fn add_words(values: &mut Vec<u64>, map: &TouchMap, board: &Board) -> Result<(), AllocError> {
+/// The words that some hart writes, by their numbers.
+fn written_words(alloc: Global, map: &TouchMap) -> Result<Vec<u64>, AllocError> {
+    let mut words = Vec::new(alloc);
     for word in 0..map.words() {
         if map.writers(word) != 0 {
-            values.push(word_at(board.machine().ram().bytes(), word))?;
+            words.push(word)?;
         }
+    }
+    Ok(words)
+}
+
+/// Adds the values of those words.
+fn add_words(values: &mut Vec<u64>, words: &[u64], board: &Board) -> Result<(), AllocError> {
+    for word in words {
+        values.push(word_at(board.machine().ram().bytes(), *word))?;
     }
     Ok(())
 }
@@ -80,22 +93,17 @@ fn add_harts(values: &mut Vec<u64>, board: &Board) -> Result<(), AllocError> {
     Ok(())
 }
 
-/// The values of the words that some hart writes, and those of the registers of each hart.
-fn values_of(alloc: Global, map: &TouchMap, board: &Board) -> Result<Vec<u64>, AllocError> {
+/// The values of those words, and those of the registers of each hart.
+fn values_of(alloc: Global, words: &[u64], board: &Board) -> Result<Vec<u64>, AllocError> {
     let mut values = Vec::new(alloc);
-    add_words(&mut values, map, board)?;
+    add_words(&mut values, words, board)?;
     add_harts(&mut values, board)?;
     Ok(values)
 }
 
 /// Looks at a board once more.
-fn look(
-    alloc: Global,
-    map: &TouchMap,
-    board: &Board,
-    readings: &mut Readings,
-) -> Result<(), AllocError> {
-    let values = values_of(alloc, map, board)?;
+fn look(alloc: Global, board: &Board, readings: &mut Readings) -> Result<(), AllocError> {
+    let values = values_of(alloc, readings.words.as_slice(), board)?;
     let mut greater = Vec::new(alloc);
     for (place, value) in values.iter().enumerate() {
         let before = readings.values.get(place).copied();
@@ -135,65 +143,23 @@ fn register_name(alloc: Global, number: usize) -> Result<String, AllocError> {
     format!(in alloc; "{register} of hart {hart}")
 }
 
-/// Whether what stands at that place was greater each time, and there is room for its name.
-fn is_named(names: &[String], greater: &[bool], place: usize) -> bool {
-    greater.get(place).copied().unwrap_or(false) && names.len() < MOST_NAMES
-}
-
-/// Adds the names of words that were greater each time. How many words there are.
-fn add_word_names(
-    setting: Setting<'_>,
-    map: &TouchMap,
-    greater: &[bool],
-    names: &mut Vec<String>,
-) -> Result<usize, AllocError> {
-    let mut place = 0usize;
-    for word in 0..map.words() {
-        if map.writers(word) == 0 {
-            continue;
-        }
-        if is_named(names.as_slice(), greater, place) {
-            names.push(word_name(setting, word)?)?;
-        }
-        place = place.saturating_add(1);
+/// The name of what has that place among the values.
+fn name_of(setting: Setting<'_>, words: &[u64], place: usize) -> Result<String, AllocError> {
+    match words.get(place) {
+        Some(word) => word_name(setting, *word),
+        None => register_name(setting.alloc, place.saturating_sub(words.len())),
     }
-    Ok(place)
 }
 
-/// Adds those of registers, of which the first one stands after so many words.
-fn add_register_names(
-    alloc: Global,
-    greater: &[bool],
-    words: usize,
-    names: &mut Vec<String>,
-) -> Result<(), AllocError> {
-    for place in words..greater.len() {
-        if is_named(names.as_slice(), greater, place) {
-            names.push(register_name(alloc, place - words)?)?;
-        }
-    }
-    Ok(())
-}
-
-/// The names of what was greater each time.
-fn names_of(
-    setting: Setting<'_>,
-    map: &TouchMap,
-    greater: &[bool],
-) -> Result<Vec<String>, AllocError> {
+/// The names of what was greater each time, the first few.
+fn names_of(setting: Setting<'_>, readings: &Readings) -> Result<Vec<String>, AllocError> {
     let mut names = Vec::new(setting.alloc);
-    let words = add_word_names(setting, map, greater, &mut names)?;
-    add_register_names(setting.alloc, greater, words, &mut names)?;
-    Ok(names)
-}
-
-/// The way to the last board that was found.
-fn last_way(setting: Setting<'_>, explored: &Explored) -> Result<Vec<u8>, Refusal> {
-    match explored.way(explored.count().saturating_sub(1)) {
-        Ok(Some(way)) => Ok(way),
-        Ok(None) => Ok(Vec::new(setting.alloc)),
-        Err(_) => Err(Refusal::Memory),
+    for (place, is_greater) in readings.greater.iter().enumerate() {
+        if *is_greater && names.len() < MOST_NAMES {
+            names.push(name_of(setting, readings.words.as_slice(), place)?)?;
+        }
     }
+    Ok(names)
 }
 
 /// Looks at the boards on a way, from time to time.
@@ -211,7 +177,7 @@ fn look_along(
     for (made, event) in way.iter().enumerate() {
         step(explored, board, *event);
         if next <= made && board.status() == Status::On {
-            look(alloc, explored.map(), board, readings)?;
+            look(alloc, board, readings)?;
             next = made.saturating_add(apart);
         }
     }
@@ -227,14 +193,16 @@ fn readings_along(
 ) -> Result<Readings, AllocError>
     requires { board.old.size ≡ explored.now.asked.size }
 {
-    let mut readings = Readings::none(alloc);
+    let words = written_words(alloc, explored.map())?;
+    let mut readings = Readings::none(alloc, words);
     look_along(alloc, explored, board, way, &mut readings)?;
     Ok(readings)
 }
 
 /// What is read of the boards on the way to the last one that was found.
 fn readings_of(setting: Setting<'_>, explored: &Explored) -> Result<Readings, Refusal> {
-    let way = last_way(setting, explored)?;
+    let last = explored.count().saturating_sub(1);
+    let way = way_to(setting.alloc, explored, last)?;
     let Ok(mut board) = explored.first_board() else {
         return Err(Refusal::Memory);
     };
@@ -250,5 +218,5 @@ pub fn counting(setting: Setting<'_>, explored: &Explored) -> Result<Vec<String>
     if readings.looks < LOOKS - 1 {
         return Ok(Vec::new(setting.alloc));
     }
-    Ok(names_of(setting, explored.map(), readings.greater.as_slice())?)
+    Ok(names_of(setting, &readings)?)
 }

@@ -45,9 +45,9 @@ impl Found {
         }
     }
 
-    /// Counts one more.
-    fn add(&mut self, row: usize) {
-        self.count = self.count.saturating_add(1);
+    /// Counts `count` more, of which that is the first row.
+    fn add(&mut self, row: usize, count: usize) {
+        self.count = self.count.saturating_add(count);
         if self.first.is_none() {
             self.first = Some(row);
         }
@@ -97,12 +97,12 @@ fn add_end(
         return Ok(());
     }
     if is_waited_for_ever(board) {
-        ends.waits.add(row);
+        ends.waits.add(row, 1);
         return Ok(());
     }
     let shown = end_shown(setting.alloc, looks, board)?;
     if let EndShown::Shutdown(Reason::SystemFailure) = shown {
-        ends.fails.add(row);
+        ends.fails.add(row, 1);
         return Ok(());
     }
     add_kind(&mut ends.kinds, looks, own, shown, row)
@@ -135,29 +135,21 @@ pub fn ends_of(
     Ok(ends)
 }
 
-/// The first end that differs: from what is expected, else from what the kernel's own order shows.
-pub fn first_difference(kinds: &[EndKind]) -> Option<usize> {
-    if let Some(kind) = kinds.iter().find(|kind| !kind.is_expected) {
-        return Some(kind.row);
-    }
-    if kinds.len() < 2 {
-        return None;
-    }
-    match kinds.iter().find(|kind| !kind.is_own) {
-        Some(kind) => Some(kind.row),
-        None => None,
-    }
-}
-
-/// How many ends differ so: those that show what is not expected, else those that show other things than the kernel's own order.
-pub fn differing(kinds: &[EndKind]) -> usize {
+/// The ends that differ: those that show what is not expected, else those that show other things than the kernel's own order, where not
+/// all show the same.
+pub fn differing(kinds: &[EndKind]) -> Found {
     let any = kinds.iter().any(|kind| !kind.is_expected);
-    let mut count = 0usize;
+    let several = 1 < kinds.len();
+    let mut found = Found::none();
     for kind in kinds {
-        let differs = if any { !kind.is_expected } else { !kind.is_own };
+        let differs = if any {
+            !kind.is_expected
+        } else {
+            several && !kind.is_own
+        };
         if differs {
-            count = count.saturating_add(kind.count);
+            found.add(kind.row, kind.count);
         }
     }
-    count
+    found
 }

@@ -36,7 +36,7 @@ pub struct OwnOrder {
 }
 
 /// Why a search was not closed.
-#[derive(Clone, Copy, PartialEq, Eq, Debug, Drop)]
+#[derive(Clone, Copy, Drop)]
 pub enum Stop {
     /// It came to so many boards.
     Boards,
@@ -96,7 +96,7 @@ pub struct EndKind {
 }
 
 /// What a hart is about, in the words of the SBI (chapter HSM).
-#[derive(Clone, Copy, PartialEq, Eq, Debug, Drop)]
+#[derive(Clone, Copy, Drop)]
 pub enum HartState {
     Stopped,
     StartPending,
@@ -150,7 +150,7 @@ pub enum RunEnd {
 }
 
 /// What a hart asks of the store.
-#[derive(Clone, Copy, PartialEq, Eq, Debug, Drop)]
+#[derive(Clone, Copy, Drop)]
 pub enum StoreCall {
     /// A sleep to the disk.
     Sleep,
@@ -191,7 +191,7 @@ pub struct Failure {
 }
 
 /// What is said of a kernel in the end.
-#[derive(Clone, Copy, PartialEq, Eq, Debug, Drop)]
+#[derive(Clone, Copy, Drop)]
 pub enum Verdict {
     /// Every order was followed, and nothing was found.
     Holds,

@@ -1,12 +1,13 @@
 //! The verdict as lines of JSON, an object each (docs/CHECKING.md, "Statuses, and lines of JSON").
 
+use crate::expected::parted;
 use crate::facts::{
     EndKind, EndShown, Failure, HartFacts, OrderStep, OwnEnd, OwnOrder, RunEnd, SearchFacts,
     SharedWord, Stop, StoreCall, TrapFacts, Verdict,
 };
 use crate::given::Asked;
 use crate::looks::Look;
-use crate::texts::{Hex, failure_word, state_word};
+use crate::texts::{Hex, call_word, failure_word, state_word};
 use board_model::Shape;
 use board_space::Bound;
 use serde_json::{Map, ToValue, Value};
@@ -69,6 +70,36 @@ impl Object {
     }
 }
 
+/// What is told as a value of JSON.
+trait ToJson {
+    fn to_json(&self, alloc: Global) -> Result<Value, AllocError>;
+}
+
+/// Null where there is none.
+impl<T: ToJson> ToJson for Option<T> {
+    fn to_json(&self, alloc: Global) -> Result<Value, AllocError> {
+        match self {
+            None => Ok(Value::Null),
+            Some(told) => told.to_json(alloc),
+        }
+    }
+}
+
+impl ToJson for String {
+    fn to_json(&self, alloc: Global) -> Result<Value, AllocError> {
+        self.as_str().to_value(alloc)
+    }
+}
+
+/// The values of a list.
+fn list_value<T: ToJson>(alloc: Global, list: &[T]) -> Result<Value, AllocError> {
+    let mut values = Vec::new(alloc);
+    for item in list {
+        values.push(item.to_json(alloc)?)?;
+    }
+    Ok(Value::Array(values))
+}
+
 /// A line of that kind, with no other member.
 fn line(alloc: Global, kind: &str) -> Object {
     Object::new(alloc).with("line", kind)
@@ -79,20 +110,6 @@ fn hex_value(alloc: Global, number: u64) -> Result<Value, AllocError> {
     Ok(Value::from(format!(in alloc; "{number:#x}")?))
 }
 
-/// With the numbers of a board.
-fn with_board(line: Object, shape: &Shape) -> Object {
-    line.with("harts", shape.harts())
-        .with("pages", shape.pages())
-        .with("lanes", shape.lanes())
-}
-
-/// With what is done of each order.
-fn with_asked(line: Object, asked: Asked) -> Object {
-    line.with("reason", asked.reason.number())
-        .with("cuts", asked.cuts)
-        .with("refusals", asked.refusals)
-}
-
 /// What is checked: the line "kernel".
 pub fn kernel_value(
     alloc: Global,
@@ -101,10 +118,16 @@ pub fn kernel_value(
     shape: &Shape,
     asked: Asked,
 ) -> Result<Value, AllocError> {
-    let line = line(alloc, "kernel")
+    line(alloc, "kernel")
         .with("name", name)
-        .with("bytes", bytes);
-    with_asked(with_board(line, shape), asked).value()
+        .with("bytes", bytes)
+        .with("harts", shape.harts())
+        .with("pages", shape.pages())
+        .with("lanes", shape.lanes())
+        .with("reason", asked.reason.number())
+        .with("cuts", asked.cuts)
+        .with("refusals", asked.refusals)
+        .value()
 }
 
 /// A look by its name, and what it shows.
@@ -122,9 +145,9 @@ fn looks_value(alloc: Global, looks: &[Look], bytes: &[u8]) -> Result<Value, All
     let mut shown = Vec::new(alloc);
     let mut rest = bytes;
     for look in looks {
-        let part = rest.get(..look.bytes).unwrap_or(rest);
+        let (part, others) = parted(rest, look.bytes);
         shown.push(look_value(alloc, look.name.as_str(), part)?)?;
-        rest = rest.get(look.bytes..).unwrap_or(&[]);
+        rest = others;
     }
     Ok(Value::Array(shown))
 }
@@ -143,15 +166,6 @@ fn shutdown_shown(shown: &EndShown) -> Value {
         EndShown::On(_) => Value::Null,
         EndShown::Shutdown(reason) => Value::from(reason.number()),
     }
-}
-
-/// The harts of a board.
-fn harts_value(alloc: Global, harts: &[HartFacts]) -> Result<Value, AllocError> {
-    let mut values = Vec::new(alloc);
-    for hart in harts {
-        values.push(hart_value(alloc, hart)?)?;
-    }
-    Ok(Value::Array(values))
 }
 
 /// What the kernel's own order shows at its end; null where it has none, or was shut down.
@@ -174,7 +188,7 @@ fn own_shutdown(own: &OwnOrder) -> Value {
 fn own_harts(alloc: Global, own: &OwnOrder) -> Result<Value, AllocError> {
     match &own.end {
         OwnEnd::Ends(_) => Ok(Value::Null),
-        OwnEnd::Runs(harts) => harts_value(alloc, harts.as_slice()),
+        OwnEnd::Runs(harts) => list_value(alloc, harts.as_slice()),
     }
 }
 
@@ -190,25 +204,18 @@ pub fn own_value(alloc: Global, own: &OwnOrder, looks: &[Look]) -> Result<Value,
         .value()
 }
 
-/// The word for what stopped a search; null where nothing did.
-fn stop_value(alloc: Global, stop: Option<Stop>) -> Result<Value, AllocError> {
-    let word = match stop {
-        None => return Ok(Value::Null),
-        Some(Stop::Boards) => "boards",
-        Some(Stop::Memory) => "memory",
-        Some(Stop::Map) => "map",
-        Some(Stop::Switches) => "preemptions",
-        Some(Stop::Lives) => "lives",
-        Some(Stop::Untold) => "untold",
-    };
-    Ok(Value::from(word.to_string(alloc)?))
-}
-
-/// A text, or null.
-fn name_value(alloc: Global, name: &Option<String>) -> Result<Value, AllocError> {
-    match name {
-        None => Ok(Value::Null),
-        Some(name) => Ok(Value::from(name.as_str().to_string(alloc)?)),
+/// The word for what stopped a search.
+impl ToJson for Stop {
+    fn to_json(&self, alloc: Global) -> Result<Value, AllocError> {
+        let word = match self {
+            Stop::Boards => "boards",
+            Stop::Memory => "memory",
+            Stop::Map => "map",
+            Stop::Switches => "preemptions",
+            Stop::Lives => "lives",
+            Stop::Untold => "untold",
+        };
+        word.to_value(alloc)
     }
 }
 
@@ -235,49 +242,25 @@ fn with_bound(line: Object, bound: Bound) -> Object {
 }
 
 /// A word that harts share.
-fn word_value(alloc: Global, word: &SharedWord) -> Result<Value, AllocError> {
-    Object::new(alloc)
-        .with_made("address", hex_value(alloc, word.address))
-        .with_made("name", name_value(alloc, &word.name))
-        .value()
-}
-
-/// The words that harts share.
-fn shared_value(alloc: Global, shared: &[SharedWord]) -> Result<Value, AllocError> {
-    let mut values = Vec::new(alloc);
-    for word in shared {
-        values.push(word_value(alloc, word)?)?;
+impl ToJson for SharedWord {
+    fn to_json(&self, alloc: Global) -> Result<Value, AllocError> {
+        Object::new(alloc)
+            .with_made("address", hex_value(alloc, self.address))
+            .with_made("name", self.name.to_json(alloc))
+            .value()
     }
-    Ok(Value::Array(values))
-}
-
-/// The names of what counts on.
-fn names_value(alloc: Global, names: &[String]) -> Result<Value, AllocError> {
-    let mut values = Vec::new(alloc);
-    for name in names {
-        values.push(Value::from(name.as_str().to_string(alloc)?))?;
-    }
-    Ok(Value::Array(values))
-}
-
-/// With what counts on where a search was given up, and with the words that harts share.
-fn with_words(alloc: Global, line: Object, search: &SearchFacts) -> Object {
-    line.with_made("counting", names_value(alloc, search.counting.as_slice()))
-        .with_made("shared", shared_value(alloc, search.shared.as_slice()))
-}
-
-/// With how many boards a search came to, and how many of them are images and ends.
-fn with_counts(line: Object, search: &SearchFacts) -> Object {
-    line.with("boards", search.boards)
-        .with("images", search.images)
-        .with("ends", search.ends)
 }
 
 /// How far a search went: a line "search".
 pub fn search_value(alloc: Global, search: &SearchFacts) -> Result<Value, AllocError> {
-    let line = line(alloc, "search").with_made("stopped", stop_value(alloc, search.stop));
-    let line = with_counts(with_bound(line, search.bound), search);
-    with_words(alloc, line, search).value()
+    let line = line(alloc, "search").with_made("stopped", search.stop.to_json(alloc));
+    with_bound(line, search.bound)
+        .with("boards", search.boards)
+        .with("images", search.images)
+        .with("ends", search.ends)
+        .with_made("counting", list_value(alloc, search.counting.as_slice()))
+        .with_made("shared", list_value(alloc, search.shared.as_slice()))
+        .value()
 }
 
 /// Ends that show the same: a line "end".
@@ -302,7 +285,7 @@ fn run_end_value(alloc: Global, end: &RunEnd) -> Result<Value, AllocError> {
         RunEnd::Reboots => "reboot",
         RunEnd::Traps => "traps",
     };
-    Ok(Value::from(word.to_string(alloc)?))
+    word.to_value(alloc)
 }
 
 /// A step of that kind, with no other member.
@@ -317,14 +300,6 @@ fn turns_value(alloc: Global, hart: u32, turns: u64, end: &RunEnd) -> Result<Val
         .with("turns", turns)
         .with_made("to", run_end_value(alloc, end))
         .value()
-}
-
-/// The word for what a hart asks of the store.
-fn call_word(call: StoreCall) -> &'static str {
-    match call {
-        StoreCall::Sleep => "sleep",
-        StoreCall::Reset => "reset",
-    }
 }
 
 /// What a hart asks of the store and is refused.
@@ -342,47 +317,41 @@ fn refused_value(
 }
 
 /// A step of an order.
-fn step_value(alloc: Global, step: &OrderStep) -> Result<Value, AllocError> {
-    match step {
-        OrderStep::PowerOn(false) => begun(alloc, "boot").value(),
-        OrderStep::PowerOn(true) => begun(alloc, "resume").value(),
-        OrderStep::Turns(hart, turns, end) => turns_value(alloc, *hart, *turns, end),
-        OrderStep::Refused(hart, call, down) => refused_value(alloc, *hart, *call, *down),
-        OrderStep::Wake => begun(alloc, "wake").value(),
-        OrderStep::Cut => begun(alloc, "cut").value(),
+impl ToJson for OrderStep {
+    fn to_json(&self, alloc: Global) -> Result<Value, AllocError> {
+        match self {
+            OrderStep::PowerOn(false) => begun(alloc, "boot").value(),
+            OrderStep::PowerOn(true) => begun(alloc, "resume").value(),
+            OrderStep::Turns(hart, turns, end) => turns_value(alloc, *hart, *turns, end),
+            OrderStep::Refused(hart, call, down) => refused_value(alloc, *hart, *call, *down),
+            OrderStep::Wake => begun(alloc, "wake").value(),
+            OrderStep::Cut => begun(alloc, "cut").value(),
+        }
     }
 }
 
 /// A trap that has no handler.
-fn trap_value(alloc: Global, trap: &Option<TrapFacts>) -> Result<Value, AllocError> {
-    let Some(trap) = trap else {
-        return Ok(Value::Null);
-    };
-    Object::new(alloc)
-        .with_made("scause", hex_value(alloc, trap.cause))
-        .with("at", trap.place.as_str())
-        .with_made("stval", hex_value(alloc, trap.value))
-        .value()
+impl ToJson for TrapFacts {
+    fn to_json(&self, alloc: Global) -> Result<Value, AllocError> {
+        Object::new(alloc)
+            .with_made("scause", hex_value(alloc, self.cause))
+            .with("at", self.place.as_str())
+            .with_made("stval", hex_value(alloc, self.value))
+            .value()
+    }
 }
 
 /// A hart where a failure shows.
-fn hart_value(alloc: Global, hart: &HartFacts) -> Result<Value, AllocError> {
-    Object::new(alloc)
-        .with("hart", hart.hart)
-        .with("state", state_word(hart.state))
-        .with("at", hart.place.as_str())
-        .with("pending", hart.is_pending)
-        .with_made("trap", trap_value(alloc, &hart.trap))
-        .value()
-}
-
-/// The steps of an order.
-fn order_value(alloc: Global, order: &[OrderStep]) -> Result<Value, AllocError> {
-    let mut values = Vec::new(alloc);
-    for step in order {
-        values.push(step_value(alloc, step)?)?;
+impl ToJson for HartFacts {
+    fn to_json(&self, alloc: Global) -> Result<Value, AllocError> {
+        Object::new(alloc)
+            .with("hart", self.hart)
+            .with("state", state_word(self.state))
+            .with("at", self.place.as_str())
+            .with("pending", self.is_pending)
+            .with_made("trap", self.trap.to_json(alloc))
+            .value()
     }
-    Ok(Value::Array(values))
 }
 
 /// A failure: a line "failure".
@@ -390,21 +359,25 @@ pub fn failure_value(alloc: Global, failure: &Failure) -> Result<Value, AllocErr
     line(alloc, "failure")
         .with("failure", failure_word(failure.kind))
         .with("ends", failure.ends)
-        .with_made("order", order_value(alloc, failure.order.as_slice()))
-        .with_made("harts", harts_value(alloc, failure.harts.as_slice()))
+        .with_made("order", list_value(alloc, failure.order.as_slice()))
+        .with_made("harts", list_value(alloc, failure.harts.as_slice()))
         .value()
 }
 
-/// The verdict: the line "verdict".
-pub fn verdict_value(alloc: Global, verdict: Verdict, bound: Bound) -> Result<Value, AllocError> {
-    let word = match verdict {
+/// The word of a verdict.
+fn verdict_word(verdict: Verdict) -> &'static str {
+    match verdict {
         Verdict::Holds => "ok",
         Verdict::Within(_) | Verdict::Lives(_) => "within",
         Verdict::Found => "found",
         Verdict::Open(_) | Verdict::Blank => "open",
-    };
-    let line = with_bound(line(alloc, "verdict"), bound);
-    line.with("verdict", word)
+    }
+}
+
+/// The verdict: the line "verdict".
+pub fn verdict_value(alloc: Global, verdict: Verdict, bound: Bound) -> Result<Value, AllocError> {
+    with_bound(line(alloc, "verdict"), bound)
+        .with("verdict", verdict_word(verdict))
         .with("status", verdict.status())
         .value()
 }

@@ -9,7 +9,7 @@ ghost use Rattle.kernel_check.specs.Verdicts.{verdict_of};
 
 use crate::comes::comes;
 use crate::counting::counting;
-use crate::ends::{Ends, differing, ends_of, first_difference};
+use crate::ends::{Ends, differing, ends_of};
 use crate::facts::{EndKind, EndShown, Failure, OwnOrder, SearchFacts, SharedWord, Stop, Verdict};
 use crate::given::FailureKind;
 use crate::looks::Look;
@@ -113,6 +113,18 @@ pub struct Judged {
     pub verdict: Verdict,
 }
 
+impl Judged {
+    /// The failure of that kind, where one was found.
+    pub fn failure(&self, kind: FailureKind) -> Option<&Failure> {
+        for failure in &self.failures {
+            if failure.kind == kind {
+                return Some(failure);
+            }
+        }
+        None
+    }
+}
+
 /// A kind of failures, how many ends show it, and the row of the board that shows it first.
 type Place = (FailureKind, usize, Option<usize>);
 
@@ -126,12 +138,12 @@ fn failing_rows(
         return Err(Refusal::Memory);
     };
     let kinds = ends.kinds.as_slice();
-    let differs = first_difference(kinds);
+    let differs = differing(kinds);
     let stuck = first_of(ends.waits.first, dead);
     Ok([
         (FailureKind::Traps, ends.traps, first_trap),
         (FailureKind::Fails, ends.fails.count, ends.fails.first),
-        (FailureKind::Differs, differing(kinds), differs),
+        (FailureKind::Differs, differs.count, differs.first),
         (FailureKind::Stuck, ends.waits.count, stuck),
     ])
 }

@@ -14,7 +14,7 @@ use elf_image::{Elf, ElfFault, is_elf, parse};
 use std::alloc::{AllocError, Global};
 
 /// Why a file is no kernel for a board.
-#[derive(Clone, Copy, PartialEq, Eq, Debug, Drop)]
+#[derive(Clone, Copy, Drop)]
 pub enum KernelFault {
     /// It is an ELF file, but none for this board.
     Elf(ElfFault),

@@ -27,7 +27,7 @@ pub struct Look {
 }
 
 /// Why a word names no bytes of a kernel's memory.
-#[derive(Clone, Copy, PartialEq, Eq, Debug, Drop)]
+#[derive(Clone, Copy, Drop)]
 pub enum LookFault {
     /// The kernel has no symbol of that name.
     NoSymbol,

@@ -1,6 +1,6 @@
 //! An order as a script that `sbibench` runs.
 
-use crate::facts::{OrderStep, StoreCall};
+use crate::facts::{Failure, OrderStep, StoreCall};
 use crate::looks::Look;
 use board_model::{BootMode, Bytes, CallWords, HartId, RAM_BASE, Reason, Shape, Slot};
 use script_lang::{Arming, Line, Look as LineLook};
@@ -137,23 +137,22 @@ fn add_begin(
     Ok(())
 }
 
-/// The lines of a script: the order, and what is looked at in the end. A board that is off then is powered on, which shows the
+/// The lines of a script: the order of a failure, and what is looked at in the end. A board that is off then is powered on, which shows the
 /// reset reason.
 pub fn script_of(
     alloc: Global,
     shape: &Shape,
     payload: &[u8],
     reason: Reason,
-    order: &[OrderStep],
+    failure: &Failure,
     looks: &[Look],
-    is_on: bool,
 ) -> Result<Vec<Line>, AllocError> {
     let mut lines = Vec::new(alloc);
     add_begin(alloc, &mut lines, payload, reason)?;
-    for step in order {
+    for step in &failure.order {
         add_step(&mut lines, shape, step)?;
     }
-    if is_on {
+    if failure.is_on {
         for look in looks {
             add_look(&mut lines, look)?;
         }

@@ -1,6 +1,6 @@
 //! The verdict as the Test Anything Protocol has it: a test of each kind of failures, and one of the orders that were followed.
 
-use crate::facts::{Failure, Verdict};
+use crate::facts::Verdict;
 use crate::given::FailureKind;
 use crate::judged::Judged;
 use crate::texts::failure_word;
@@ -14,11 +14,6 @@ static KINDS: [FailureKind; 4] = [
     FailureKind::Stuck,
 ];
 
-/// Whether a failure of that kind was found.
-fn is_found(failures: &[Failure], kind: FailureKind) -> bool {
-    failures.iter().any(|failure| failure.kind == kind)
-}
-
 /// How the line of a test begins.
 fn word_of(is_well: bool) -> &'static str {
     if is_well { "ok" } else { "not ok" }
@@ -31,7 +26,7 @@ fn write_kind<W: Write>(
     number: usize,
     kind: FailureKind,
 ) -> io::Result<()> {
-    let is_found = is_found(judged.failures.as_slice(), kind);
+    let is_found = judged.failure(kind).is_some();
     let word = word_of(!is_found);
     let name = failure_word(kind);
     let skip = if !is_found && judged.search.stop.is_some() {
@@ -54,7 +49,7 @@ fn write_kinds<W: Write>(out: &mut W, judged: &Judged) -> io::Result<()> {
 pub fn write_tap<W: Write>(out: &mut W, judged: &Judged) -> io::Result<()> {
     writeln!(out, "TAP version 13")?;
     write_kinds(out, judged)?;
-    let word = word_of(judged.verdict == Verdict::Holds);
+    let word = word_of(matches!(judged.verdict, Verdict::Holds));
     writeln!(out, "{word} 5 - every order, and something is looked at")?;
     writeln!(out, "1..5")
 }

@@ -1,20 +1,24 @@
 //! What is told of a kernel, in words or as lines of JSON.
 
-use crate::facts::{OwnOrder, SearchFacts, Verdict};
-use crate::given::{CheckOptions, FailureKind};
+use crate::facts::{Failure, OwnOrder, SearchFacts, Verdict};
+use crate::given::{Asked, CheckOptions};
 use crate::json::{end_value, failure_value, kernel_value, own_value, search_value, verdict_value};
 use crate::judged::Judged;
-use crate::kernel::Kernel;
 use crate::looks::Look;
 use crate::script::script_of;
 use crate::taps::write_tap;
 use crate::texts::{write_failure, write_kernel, write_own, write_search, write_unseen};
 use crate::verdict_texts::{write_stop, write_verdict};
-use board_model::{Refusal, Shape, unwritten};
+use board_model::{Reason, Refusal, Shape, unwritten};
 use script_lang::write_script;
 use serde_json::Value;
 use std::alloc::{AllocError, Global};
-use std::io::Write;
+use std::io::{self, Write};
+
+/// What a write comes to.
+pub fn written(done: io::Result<()>) -> Result<(), Refusal> {
+    done.map_err(|error| unwritten(error))
+}
 
 /// Writes a line of JSON.
 fn write_value<W: Write>(
@@ -23,7 +27,7 @@ fn write_value<W: Write>(
     value: Result<Value, AllocError>,
 ) -> Result<(), Refusal> {
     let text = value?.to_string(alloc)?;
-    writeln!(out, "{text}").map_err(|error| unwritten(error))
+    written(writeln!(out, "{text}"))
 }
 
 /// Writes what is checked.
@@ -39,7 +43,7 @@ pub fn tell_kernel<W: Write>(
         let value = kernel_value(alloc, name, bytes, shape, options.asked);
         return write_value(alloc, out, value);
     }
-    write_kernel(out, name, bytes, shape).map_err(|error| unwritten(error))
+    written(write_kernel(out, name, bytes, shape))
 }
 
 /// Writes the kernel's own order.
@@ -53,7 +57,7 @@ pub fn tell_own<W: Write>(
     if options.json {
         return write_value(alloc, out, own_value(alloc, own, looks));
     }
-    write_own(out, own, looks).map_err(|error| unwritten(error))
+    written(write_own(out, own, looks))
 }
 
 /// Writes how far a search went.
@@ -66,7 +70,7 @@ pub fn tell_search<W: Write>(
     if options.json {
         return write_value(alloc, out, search_value(alloc, search));
     }
-    write_search(out, search).map_err(|error| unwritten(error))
+    written(write_search(out, search))
 }
 
 /// Writes in words why the search of every order was given up, unless a script is asked for.
@@ -76,9 +80,7 @@ pub fn tell_stop<W: Write>(
     search: &SearchFacts,
 ) -> Result<(), Refusal> {
     match search.stop {
-        Some(stop) if !options.json && options.tells_all() => {
-            write_stop(out, stop).map_err(|error| unwritten(error))
-        }
+        Some(stop) if !options.json && options.tells_all() => written(write_stop(out, stop)),
         _ => Ok(()),
     }
 }
@@ -104,24 +106,23 @@ fn tell_values<W: Write>(
 }
 
 /// Writes what was found in words.
-fn tell_words<W: Write>(
+fn write_words<W: Write>(
     out: &mut W,
-    options: &CheckOptions,
+    asked: Asked,
     looks: &[Look],
     judged: &Judged,
-) -> Result<(), Refusal> {
+) -> io::Result<()> {
+    let kinds = judged.kinds.as_slice();
     for failure in &judged.failures {
-        let kinds = judged.kinds.as_slice();
-        write_failure(out, failure, kinds, looks).map_err(|error| unwritten(error))?;
+        write_failure(out, failure, kinds, looks)?;
     }
     if matches!(
         judged.verdict,
         Verdict::Holds | Verdict::Within(_) | Verdict::Lives(_)
     ) {
-        write_unseen(out, judged.kinds.as_slice(), looks).map_err(|error| unwritten(error))?;
+        write_unseen(out, kinds, looks)?;
     }
-    let search = &judged.search;
-    write_verdict(out, judged.verdict, search, options.asked).map_err(|error| unwritten(error))
+    write_verdict(out, judged.verdict, &judged.search, asked)
 }
 
 /// Writes what was found, and the verdict.
@@ -133,34 +134,24 @@ pub fn tell_judged<W: Write>(
     judged: &Judged,
 ) -> Result<(), Refusal> {
     if options.tap {
-        write_tap(out, judged).map_err(|error| unwritten(error))
+        written(write_tap(out, judged))
     } else if options.json {
         tell_values(alloc, out, looks, judged)
     } else {
-        tell_words(out, options, looks, judged)
+        written(write_words(out, options.asked, looks, judged))
     }
 }
 
-/// Writes the order of a failure as a script. Whether there is one.
+/// Writes the order of a failure as a script.
 pub fn tell_script<W: Write>(
     alloc: Global,
     out: &mut W,
-    options: &CheckOptions,
-    kernel: &Kernel<'_>,
     shape: &Shape,
+    payload: &[u8],
+    reason: Reason,
+    failure: &Failure,
     looks: &[Look],
-    judged: &Judged,
-    kind: FailureKind,
-) -> Result<bool, Refusal> {
-    for failure in &judged.failures {
-        if failure.kind == kind {
-            let payload = kernel.payload.as_slice();
-            let reason = options.asked.reason;
-            let order = failure.order.as_slice();
-            let lines = script_of(alloc, shape, payload, reason, order, looks, failure.is_on)?;
-            write_script(out, shape, lines.as_slice())?;
-            return Ok(true);
-        }
-    }
-    Ok(false)
+) -> Result<(), Refusal> {
+    let lines = script_of(alloc, shape, payload, reason, failure, looks)?;
+    write_script(out, shape, lines.as_slice())
 }

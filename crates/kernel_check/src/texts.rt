@@ -1,8 +1,9 @@
 //! The verdict in words.
 
+use crate::expected::parted;
 use crate::facts::{
     EndKind, EndShown, Failure, HartFacts, HartState, OrderStep, OwnEnd, OwnOrder, RunEnd,
-    SearchFacts, StoreCall, TrapFacts,
+    SearchFacts, SharedWord, StoreCall, TrapFacts,
 };
 use crate::given::FailureKind;
 use crate::looks::Look;
@@ -18,11 +19,23 @@ pub struct Count(pub u64, pub &'static str);
 impl fmt::Display for Count {
     fn fmt<W: fmt::Write>(&self, f: &mut fmt::Formatter<W>) -> fmt::Result {
         let Count(number, noun) = self;
-        if *number == 1 {
-            write!(f, "{number} {noun}")
-        } else {
-            write!(f, "{number} {noun}s")
+        let end = if *number == 1 { "" } else { "s" };
+        write!(f, "{number} {noun}{end}")
+    }
+}
+
+/// A list, with a comma between two.
+#[derive(Drop)]
+struct Listed<'a, T>(&'a [T]);
+
+impl<T: fmt::Display> fmt::Display for Listed<'_, T> {
+    fn fmt<W: fmt::Write>(&self, f: &mut fmt::Formatter<W>) -> fmt::Result {
+        let mut mark = "";
+        for item in self.0 {
+            write!(f, "{mark}{item}")?;
+            mark = ", ";
         }
+        Ok(())
     }
 }
 
@@ -43,27 +56,37 @@ impl fmt::Display for Hex<'_> {
 #[derive(Drop)]
 struct ShownText<'a>(&'a EndShown, &'a [Look]);
 
+/// Writes the bytes of looks, by their names.
+fn write_looks<W: fmt::Write>(
+    f: &mut fmt::Formatter<W>,
+    looks: &[Look],
+    bytes: &[u8],
+) -> fmt::Result {
+    let mut rest = bytes;
+    let mut mark = "";
+    for look in looks {
+        let (part, others) = parted(rest, look.bytes);
+        let name = &look.name;
+        let part = Hex(part);
+        write!(f, "{mark}{name} {part}")?;
+        rest = others;
+        mark = ", ";
+    }
+    Ok(())
+}
+
 impl fmt::Display for ShownText<'_> {
     fn fmt<W: fmt::Write>(&self, f: &mut fmt::Formatter<W>) -> fmt::Result {
-        let mut rest = match self.0 {
+        match self.0 {
             EndShown::Shutdown(reason) => {
                 let number = reason.number();
-                return write!(f, "shutdown, reason {number}");
+                write!(f, "shutdown, reason {number}")
             }
-            EndShown::On(bytes) => bytes.as_slice(),
-        };
-        let mut mark = "";
-        for look in self.1 {
-            let name = &look.name;
-            let bytes = Hex(rest.get(..look.bytes).unwrap_or(rest));
-            write!(f, "{mark}{name} {bytes}")?;
-            rest = rest.get(look.bytes..).unwrap_or(&[]);
-            mark = ", ";
+            EndShown::On(_) if self.1.is_empty() => {
+                f.write_str("nothing, since nothing is looked at")
+            }
+            EndShown::On(bytes) => write_looks(f, self.1, bytes.as_slice()),
         }
-        if self.1.is_empty() {
-            f.write_str("nothing, since nothing is looked at")?;
-        }
-        Ok(())
     }
 }
 
@@ -84,6 +107,14 @@ pub fn state_word(state: HartState) -> &'static str {
         HartState::StartPending => "START_PENDING",
         HartState::Started => "STARTED",
         HartState::Suspended => "SUSPENDED",
+    }
+}
+
+/// The word for what a hart asks of the store.
+pub fn call_word(call: StoreCall) -> &'static str {
+    match call {
+        StoreCall::Sleep => "sleep",
+        StoreCall::Reset => "reset",
     }
 }
 
@@ -154,31 +185,34 @@ pub fn write_own<W: Write>(out: &mut W, own: &OwnOrder, looks: &[Look]) -> io::R
 /// How many names of shared words are told.
 const MOST_NAMES: usize = 4;
 
+impl fmt::Display for SharedWord {
+    fn fmt<W: fmt::Write>(&self, f: &mut fmt::Formatter<W>) -> fmt::Result {
+        match &self.name {
+            Some(name) => f.write_str(name.as_str()),
+            None => {
+                let address = self.address;
+                write!(f, "{address:#x}")
+            }
+        }
+    }
+}
+
 /// The names of shared words, the first few.
 #[derive(Drop)]
-struct SharedText<'a>(&'a SearchFacts);
+struct SharedText<'a>(&'a [SharedWord]);
 
 impl fmt::Display for SharedText<'_> {
     fn fmt<W: fmt::Write>(&self, f: &mut fmt::Formatter<W>) -> fmt::Result {
-        let mut mark = " (";
-        for (place, word) in self.0.shared.iter().enumerate() {
-            if place == MOST_NAMES {
-                return f.write_str(", ..)");
-            }
-            match &word.name {
-                Some(name) => write!(f, "{mark}{name}")?,
-                None => {
-                    let address = word.address;
-                    write!(f, "{mark}{address:#x}")?;
-                }
-            }
-            mark = ", ";
+        if self.0.is_empty() {
+            return Ok(());
         }
-        if self.0.shared.is_empty() {
-            Ok(())
+        let words = Listed(self.0.get(..MOST_NAMES).unwrap_or(self.0));
+        let end = if MOST_NAMES < self.0.len() {
+            ", .."
         } else {
-            f.write_str(")")
-        }
+            ""
+        };
+        write!(f, " ({words}{end})")
     }
 }
 
@@ -188,11 +222,12 @@ pub struct BoundText(pub Bound);
 
 impl fmt::Display for BoundText {
     fn fmt<W: fmt::Write>(&self, f: &mut fmt::Formatter<W>) -> fmt::Result {
-        let most = match self.0 {
+        let (most, noun) = match self.0 {
             Bound::Unbounded => return Ok(()),
-            Bound::Preemptions(most) => Count(u64::from(most), "preemption"),
-            Bound::PowerOns(most) => Count(u64::from(most), "power-on"),
+            Bound::Preemptions(most) => (most, "preemption"),
+            Bound::PowerOns(most) => (most, "power-on"),
         };
+        let most = Count(u64::from(most), noun);
         write!(f, "at most {most}")
     }
 }
@@ -205,7 +240,7 @@ pub fn write_search<W: Write>(out: &mut W, search: &SearchFacts) -> io::Result<(
     }
     let boards = Count(search.boards as u64, "board");
     let shared = Count(search.shared.len() as u64, "shared word");
-    let names = SharedText(search);
+    let names = SharedText(search.shared.as_slice());
     let images = Count(search.images as u64, "image");
     let ends = Count(search.ends as u64, "end");
     writeln!(out, "{boards}, {shared}{names}, {images}, {ends}")?;
@@ -222,16 +257,16 @@ fn write_counting<W: Write>(out: &mut W, search: &SearchFacts) -> io::Result<()>
     } else {
         ""
     };
-    write!(out, "  endless: {no_end}these count on, by the look of it:")?;
-    let mut mark = " ";
-    for name in &search.counting {
-        write!(out, "{mark}{name}")?;
-        mark = ", ";
-    }
-    if search.bound == Bound::Unbounded {
-        write!(out, "; --lives N bounds what counts sleeps or boots")?;
-    }
-    writeln!(out, "")
+    let advice = if search.bound == Bound::Unbounded {
+        "; --lives N bounds what counts sleeps or boots"
+    } else {
+        ""
+    };
+    let names = Listed(search.counting.as_slice());
+    writeln!(
+        out,
+        "  endless: {no_end}these count on, by the look of it: {names}{advice}"
+    )
 }
 
 /// Writes what some ends show.
@@ -286,42 +321,55 @@ struct RunEndText<'a>(&'a RunEnd);
 
 impl fmt::Display for RunEndText<'_> {
     fn fmt<W: fmt::Write>(&self, f: &mut fmt::Formatter<W>) -> fmt::Result {
-        match self.0 {
-            RunEnd::At(place) => write!(f, "to {place}"),
-            RunEnd::Stops => f.write_str("and stops"),
-            RunEnd::Suspends => f.write_str("and suspends itself"),
-            RunEnd::Sleeps => f.write_str("and the board sleeps"),
-            RunEnd::ShutsDown(reason) => {
-                let number = reason.number();
-                write!(f, "and shuts down, reason {number}")
-            }
-            RunEnd::Reboots => f.write_str("and reboots"),
-            RunEnd::Traps => f.write_str("and traps"),
-        }
+        let words = match self.0 {
+            RunEnd::At(place) => return write!(f, "to {place}"),
+            RunEnd::ShutsDown(Reason::NoReason) => "and shuts down, reason 0",
+            RunEnd::ShutsDown(Reason::SystemFailure) => "and shuts down, reason 1",
+            RunEnd::Stops => "and stops",
+            RunEnd::Suspends => "and suspends itself",
+            RunEnd::Sleeps => "and the board sleeps",
+            RunEnd::Reboots => "and reboots",
+            RunEnd::Traps => "and traps",
+        };
+        f.write_str(words)
     }
+}
+
+/// Writes that what a hart asks of the store is refused.
+fn write_refused<W: fmt::Write>(
+    f: &mut fmt::Formatter<W>,
+    hart: u32,
+    call: StoreCall,
+    down: bool,
+) -> fmt::Result {
+    let what = call_word(call);
+    let later = if down { ", as all that follow" } else { "" };
+    write!(f, "the {what} of hart {hart} is refused{later}")
+}
+
+/// Writes how many turns a hart makes in a row, and how they end.
+fn write_turns<W: fmt::Write>(
+    f: &mut fmt::Formatter<W>,
+    hart: u32,
+    turns: u64,
+    end: &RunEnd,
+) -> fmt::Result {
+    let turns = Count(turns, "turn");
+    let end = RunEndText(end);
+    write!(f, "hart {hart} makes {turns}, {end}")
 }
 
 impl fmt::Display for StepText<'_> {
     fn fmt<W: fmt::Write>(&self, f: &mut fmt::Formatter<W>) -> fmt::Result {
-        match self.0 {
-            OrderStep::PowerOn(false) => f.write_str("the kernel boots"),
-            OrderStep::PowerOn(true) => f.write_str("the board goes on with its image"),
-            OrderStep::Turns(hart, turns, end) => {
-                let turns = Count(*turns, "turn");
-                let end = RunEndText(end);
-                write!(f, "hart {hart} makes {turns}, {end}")
-            }
-            OrderStep::Refused(hart, call, down) => {
-                let what = match call {
-                    StoreCall::Sleep => "sleep",
-                    StoreCall::Reset => "reset",
-                };
-                let later = if *down { ", as all that follow" } else { "" };
-                write!(f, "the {what} of hart {hart} is refused{later}")
-            }
-            OrderStep::Wake => f.write_str("the board is woken"),
-            OrderStep::Cut => f.write_str("power fails"),
-        }
+        let words = match self.0 {
+            OrderStep::Turns(hart, turns, end) => return write_turns(f, *hart, *turns, end),
+            OrderStep::Refused(hart, call, down) => return write_refused(f, *hart, *call, *down),
+            OrderStep::PowerOn(false) => "the kernel boots",
+            OrderStep::PowerOn(true) => "the board goes on with its image",
+            OrderStep::Wake => "the board is woken",
+            OrderStep::Cut => "power fails",
+        };
+        f.write_str(words)
     }
 }
 
@@ -368,10 +416,12 @@ fn write_hart<W: Write>(out: &mut W, hart: &HartFacts) -> io::Result<()> {
     let number = hart.hart;
     let state = state_word(hart.state);
     let place = &hart.place;
-    write!(out, "  hart {number}: {state} at {place}")?;
-    if hart.is_pending {
-        write!(out, ", an interrupt is pending")?;
-    }
+    let pending = if hart.is_pending {
+        ", an interrupt is pending"
+    } else {
+        ""
+    };
+    write!(out, "  hart {number}: {state} at {place}{pending}")?;
     if let Some(trap) = &hart.trap {
         write_trap(out, trap)?;
     }
@@ -397,6 +447,17 @@ fn failure_words(kind: FailureKind) -> &'static str {
     }
 }
 
+/// Writes what a failure is, and how many ends show it.
+fn write_failing<W: Write>(out: &mut W, failure: &Failure) -> io::Result<()> {
+    let word = failure_word(failure.kind);
+    let words = failure_words(failure.kind);
+    if failure.ends == 0 || failure.kind == FailureKind::Differs {
+        return writeln!(out, "{word}: {words}");
+    }
+    let ends = Count(failure.ends as u64, "end");
+    writeln!(out, "{word}: {words} ({ends})")
+}
+
 /// Writes a failure: what it is, the order that leads there, and the harts there.
 pub fn write_failure<W: Write>(
     out: &mut W,
@@ -404,14 +465,7 @@ pub fn write_failure<W: Write>(
     kinds: &[EndKind],
     looks: &[Look],
 ) -> io::Result<()> {
-    let word = failure_word(failure.kind);
-    let words = failure_words(failure.kind);
-    write!(out, "{word}: {words}")?;
-    if 0 < failure.ends && failure.kind != FailureKind::Differs {
-        let ends = Count(failure.ends as u64, "end");
-        write!(out, " ({ends})")?;
-    }
-    writeln!(out, "")?;
+    write_failing(out, failure)?;
     if failure.kind == FailureKind::Differs {
         write_ends(out, kinds, looks)?;
     }

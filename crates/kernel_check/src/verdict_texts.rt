@@ -51,6 +51,29 @@ pub fn write_stop<W: Write>(out: &mut W, stop: Stop) -> io::Result<()> {
     writeln!(out, "the search of every order stopped at {stop}")
 }
 
+/// Writes that nothing is wrong with so many power-ons.
+fn write_lives<W: Write>(out: &mut W, most: u32, orders: &OrdersText) -> io::Result<()> {
+    let most = Count(u64::from(most), "power-on");
+    writeln!(
+        out,
+        "ok up to {most}: {orders}, it ends with this, or the next power-on is due"
+    )
+}
+
+/// Writes that a failure was found, and whether there may be others.
+fn write_found<W: Write>(out: &mut W, stop: Option<Stop>, orders: &OrdersText) -> io::Result<()> {
+    match stop {
+        None => writeln!(out, "found: {orders}, there is no failure of another kind"),
+        Some(stop) => {
+            let stop = stop_words(stop);
+            writeln!(
+                out,
+                "found: there may be failures of other kinds, since the search stopped at {stop}"
+            )
+        }
+    }
+}
+
 /// Writes that nothing was found, and why not every order was followed.
 fn write_open<W: Write>(out: &mut W, stop: Stop, bound: Bound) -> io::Result<()> {
     let orders = match stop {
@@ -77,32 +100,15 @@ pub fn write_verdict<W: Write>(
     asked: Asked,
 ) -> io::Result<()> {
     let orders = OrdersText(asked, search.bound);
-    match (verdict, search.stop) {
-        (Verdict::Holds, _) => writeln!(out, "ok: {orders}, it ends with this"),
-        (Verdict::Within(most), _) => writeln!(out, "ok up to {most}: {orders}, it ends with this"),
-        (Verdict::Lives(most), _) => {
-            let most = Count(u64::from(most), "power-on");
-            writeln!(
-                out,
-                "ok up to {most}: {orders}, it ends with this, or the next power-on is due"
-            )
-        }
-        (Verdict::Found, None) => {
-            writeln!(out, "found: {orders}, there is no failure of another kind")
-        }
-        (Verdict::Found, Some(stop)) => {
-            let stop = stop_words(stop);
-            writeln!(
-                out,
-                "found: there may be failures of other kinds, since the search stopped at {stop}"
-            )
-        }
-        (Verdict::Open(stop), _) => write_open(out, stop, search.bound),
-        (Verdict::Blank, _) => {
-            writeln!(
-                out,
-                "open: nothing was found, but nothing is looked at that the kernel writes: name some bytes with --look or --expect"
-            )
-        }
+    match verdict {
+        Verdict::Holds => writeln!(out, "ok: {orders}, it ends with this"),
+        Verdict::Within(most) => writeln!(out, "ok up to {most}: {orders}, it ends with this"),
+        Verdict::Lives(most) => write_lives(out, most, &orders),
+        Verdict::Found => write_found(out, search.stop, &orders),
+        Verdict::Open(stop) => write_open(out, stop, search.bound),
+        Verdict::Blank => writeln!(
+            out,
+            "open: nothing was found, but nothing is looked at that the kernel writes: name some bytes with --look or --expect"
+        ),
     }
 }

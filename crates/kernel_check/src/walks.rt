@@ -321,7 +321,7 @@ fn add_event(
 }
 
 /// The way to a row; an empty one where there is no such row.
-fn way_to(alloc: Global, explored: &Explored, row: usize) -> Result<Vec<u8>, Refusal> {
+pub fn way_to(alloc: Global, explored: &Explored, row: usize) -> Result<Vec<u8>, Refusal> {
     match explored.way(row) {
         Ok(Some(way)) => Ok(way),
         Ok(None) => Ok(Vec::new(alloc)),
