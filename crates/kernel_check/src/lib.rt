@@ -21,6 +21,7 @@ mod places;
 mod program;
 mod script;
 mod standing;
+mod step_texts;
 mod taps;
 mod tells;
 mod texts;
