@@ -1,12 +1,12 @@
 //! Running back: where the way back ends.
 
-ghost use Rattle.std.specs.Prelude.{◌≡◌, ◌⊎◌, ◌<◌, All, replicate, take, IfOk, IfSome, IfNone, OnOk};
+ghost use Rattle.std.specs.Prelude.{◌≡◌, ◌<◌, All, replicate, take, IfOk, IfSome, IfNone, OnOk};
 ghost use Rattle.board_model.specs.Shapes.{Size};
 ghost use Rattle.debug_session.specs.Notes.{AreInRange};
 ghost use Rattle.debug_session.specs.Pasts.{moments, singles};
 ghost use Rattle.bench_report.specs.Bench.{Bench, bench_with};
-ghost use Rattle.debug_session.specs.Ats.{IsAt, IsPlace};
-ghost use Rattle.debug_session.specs.Backs.{BackTo, FoundIn, FoundOf, IfEnded, IsEnd, IsRowPast, IsSeen, MayMove, StaysBack, halt_back, later_place, later_turn};
+ghost use Rattle.debug_session.specs.Ats.{IsPlace};
+ghost use Rattle.debug_session.specs.Backs.{FoundIn, FoundOf, IfEnded, IsEnd, IsRowPast, IsSeen, MayMove, halt_back, later_place, later_turn};
 ghost use Rattle.debug_session.specs.Firsts.{one_turn};
 ghost use Rattle.debug_session.specs.Steps.{MakesNone};
 ghost use Rattle.bench_report.specs.Lives.{IsSound, Shows};
@@ -35,7 +35,7 @@ pub(crate) struct TurnPlace {
 
 /// What looking for a place came to.
 #[derive(Clone, Copy, Drop)]
-enum Way {
+pub(crate) enum Way {
     /// That place was found, or there is none.
     Ended(Option<TurnPlace>),
     /// The debugger asked that it end.
@@ -206,28 +206,9 @@ fn last_halt_along<C: Crew>(
     Ok(Way::Ended(found))
 }
 
-/// Runs the history again: the last turn before which its hart stood at a breakpoint, or that touched a watchpoint.
-fn last_halt<C: Crew>(
-    setting: &Setting<'_, C>,
-    stops: &Stops,
-    timeline: &Timeline,
-    interrupt: &AtomicBool,
-) -> Result<Way, AllocError>
-    requires ranges { AreInRange setting.now.shape.now timeline.now.history }
-    ensures place { IfOk result (λ way. IfEnded way (λ found. IfSome found (λ place. IsPlace place.stop.hart place.line
-        place.turns timeline.now.history))) }
-    ensures found { IfOk result (λ way. IfEnded way (λ found. (last : Bench) × FoundOf setting.now.shape.now stops.now found
-        timeline.now.history (moments timeline.now.history) (bench_with timeline.now.begins) last)) }
-{
-    let mut bench = LiveBench::blank(setting.alloc, setting.shape, timeline.begins())?;
-    let way = last_halt_along(setting, stops, timeline, interrupt, &mut bench);
-    bench.release();
-    way
-}
-
 /// Where the way back ends: before the last turn of which the hart stood at a breakpoint, or that touched a
 /// watchpoint; where there is none, before the first turn.
-fn place_back<C: Crew>(
+pub(crate) fn place_back<C: Crew>(
     setting: &Setting<'_, C>,
     stops: &Stops,
     timeline: &Timeline,
@@ -240,48 +221,14 @@ fn place_back<C: Crew>(
         place timeline.now.history (bench_with timeline.now.begins)))) }
     ensures none { IfOk result (λ way. IfEnded way (λ found. IfNone found (All MakesNone timeline.now.history))) }
 {
-    let Way::Ended(found) = last_halt(setting, stops, timeline, interrupt)? else {
+    let mut bench = LiveBench::blank(setting.alloc, setting.shape, timeline.begins())?;
+    let way = last_halt_along(setting, stops, timeline, interrupt, &mut bench);
+    bench.release();
+    let Way::Ended(found) = way? else {
         return Ok(Way::Interrupted);
     };
     match found {
         Some(place) => Ok(Way::Ended(Some(place))),
         None => Ok(Way::Ended(first_turn(setting, timeline.lines()))),
-    }
-}
-
-/// Goes back to before the last turn of which the hart stood at a breakpoint, or that touched a watchpoint; where
-/// there is none, to before the first turn. Interrupted it leaves the timeline as it was.
-#[tactic(auto, using(crate::proofs::Histories::place_hart))]
-pub(crate) fn go_back<C: Crew>(
-    setting: &Setting<'_, C>,
-    stops: &Stops,
-    timeline: &mut Timeline,
-    hart: HartId,
-    interrupt: &AtomicBool,
-) -> Result<Stop, AllocError>
-    requires at { IsAt setting.now.shape.now timeline.old }
-    requires hart { hart < setting.now.shape.now.harts }
-    ensures at { OnOk result (IsAt setting.now.shape.now timeline.new) }
-    ensures back { IfOk result (λ stop. BackTo setting.now.shape.now stops.now stop timeline.old timeline.new
-        ⊎ StaysBack stop hart timeline.old timeline.new) }
-    ensures there { IfOk result (λ stop. stop.hart < setting.now.shape.now.harts) }
-    ensures begins { timeline.new.begins ≡ timeline.old.begins }
-{
-    let Way::Ended(found) = place_back(setting, stops, timeline, interrupt)? else {
-        return Ok(Stop {
-            hart,
-            halt: HaltReason::Interrupted,
-        });
-    };
-    match found {
-        Some(place) => {
-            let TurnPlace { line, turns, stop } = place;
-            timeline.go_back(setting, stop.hart, line, turns)?;
-            Ok(stop)
-        }
-        None => Ok(Stop {
-            hart,
-            halt: HaltReason::Begin,
-        }),
     }
 }

@@ -1,16 +1,12 @@
 //! Where a history stands: how many turns and lives it has, and where one of its turns is.
 
-ghost use Rattle.std.specs.Prelude.{◌≡◌, ◌≤◌, ◌<◌, ◌+◌, ◌-◌, ℕ, take, min, IfNone, IfOk, IfErr, IfSome, OnOk};
-ghost use Rattle.debug_session.specs.Ats.{IsAt, IsPlace};
+ghost use Rattle.std.specs.Prelude.{◌≡◌, ◌≤◌, ◌<◌, ◌+◌, ◌-◌, ℕ, take, min, IfNone, IfOk, IfErr, IfSome};
+ghost use Rattle.debug_session.specs.Ats.{IsPlace};
 ghost use Rattle.script_lang.specs.declared.line.Line.TheVariants as lines;
-ghost use Rattle.debug_session.specs.Turns.{WentTo, begins_life, lives_begun, turns_made, turns_of, turns_told};
+ghost use Rattle.debug_session.specs.Turns.{begins_life, lives_begun, turns_made, turns_of, turns_told};
 
-use crate::timeline::Timeline;
-use bench_report::Setting;
 use board_model::HartId;
-use crew::Crew;
 use script_lang::Line;
-use std::alloc::AllocError;
 
 /// How many turns a line makes.
 fn turns_of(line: &Line) -> u32
@@ -94,7 +90,7 @@ fn turn_in(line: &Line, left: u64) -> Result<(HartId, u32), u64>
 }
 
 /// The turn that came after `turns` others: its hart, its line, and how many turns of the line stand before it.
-fn turn_behind(lines: &[Line], turns: u64) -> Option<(HartId, usize, u32)>
+pub(crate) fn turn_behind(lines: &[Line], turns: u64) -> Option<(HartId, usize, u32)>
     ensures place { IfSome result (λ p. IsPlace p.0 p.1 p.2 lines.now) }
     ensures behind { IfSome result (λ p. turns_made (take p.1 lines.now) + p.2 ≡ turns) }
     ensures none { IfNone result (turns_made lines.now ≤ turns) }
@@ -111,23 +107,4 @@ fn turn_behind(lines: &[Line], turns: u64) -> Option<(HartId, usize, u32)>
         }
     }
     None
-}
-
-/// Goes back to before the turn that came after `turns` others, and forgets it and whatever came after: whether there was
-/// one. Nothing changes where there was none.
-pub(crate) fn go_to<C: Crew>(
-    setting: &Setting<'_, C>,
-    timeline: &mut Timeline,
-    turns: u64,
-) -> Result<bool, AllocError>
-    requires at { IsAt setting.now.shape.now timeline.old }
-    ensures at { OnOk result (IsAt setting.now.shape.now timeline.new) }
-    ensures went { IfOk result (λ found. WentTo turns found timeline.old timeline.new) }
-    ensures begins { timeline.new.begins ≡ timeline.old.begins }
-{
-    let Some(found) = turn_behind(timeline.lines(), turns) else {
-        return Ok(false);
-    };
-    timeline.go_back(setting, found.0, found.1, found.2)?;
-    Ok(true)
 }

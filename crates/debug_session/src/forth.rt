@@ -5,7 +5,7 @@ ghost use Rattle.bench_report.specs.declared.rows.TurnRow.{TurnRow};
 ghost use Rattle.debug_session.specs.Ats.{IsAt};
 ghost use Rattle.debug_session.specs.Steps.{Went};
 ghost use Rattle.debug_session.specs.Withins.{MadeOne};
-ghost use Rattle.debug_session.specs.Firsts.{ReadsAs, Stretched, ToHalt, halt_after, halt_seen, halts_all, is_of_turn, seen_in, touched_since, TellsTouched};
+ghost use Rattle.debug_session.specs.Firsts.{Stretched, ToHalt, halt_after, halt_seen, halts_all, is_of_turn, seen_in, touched_since, TellsTouched};
 ghost use Rattle.debug_session.specs.Lives.{machine_of, pc_in, stands_in};
 
 use crate::halts::{HaltReason, Stop};
@@ -119,46 +119,13 @@ fn stretch<C: Crew>(
 {
     let (row, rests) = timeline.turns_to(setting, hart, most, points)?;
     let halt = halt_behind(timeline, points, hart, row, rests);
-    if halt == Some(HaltReason::Ended) || halt == Some(HaltReason::Off) {
+    if matches!(halt, Some(HaltReason::Ended | HaltReason::Off)) {
         told.push(row.last().answer(hart))?;
     }
     Ok(RoundPart {
         halt,
         made: row.made(),
         rests,
-    })
-}
-
-/// One turn of a hart, which reads that, where bytes are watched.
-fn loading_turn<C: Crew>(
-    setting: &Setting<'_, C>,
-    stops: &Stops,
-    before: &Vec<SeenBytes>,
-    timeline: &mut Timeline,
-    hart: HartId,
-    load: &Option<Load>,
-    told: &mut Vec<Answer>,
-) -> Result<RoundPart, AllocError>
-    requires at { IsAt setting.now.shape.now timeline.old }
-    requires hart { hart < setting.now.shape.now.harts }
-    requires reads { ReadsAs (machine_of timeline.old.bench) hart (seen_in before.now.items) load.now }
-    requires tells { TellsTouched (machine_of timeline.old.bench) stops.now.watches.items (seen_in before.now.items) }
-    ensures at { OnOk result (IsAt setting.now.shape.now timeline.new) }
-    ensures went { IfOk result (λ part. Went (λ h. h ≡ hart) part.made setting.now.shape.now timeline.old timeline.new) }
-    ensures first { IfOk result (λ part. ToHalt setting.now.shape.now stops.now hart part.halt timeline.old timeline.new) }
-    ensures one { IfOk result (λ part. part.made ≤ 1) }
-    ensures made { IfOk result (λ part. MadeOne setting.now.shape.now hart stops.now.points.items part timeline.old timeline.new) }
-    ensures tells { IfOk result (λ part. (part.made ≡ 0 → ⊥) → part.halt ≡ None
-        → TellsTouched (machine_of timeline.new.bench) stops.now.watches.items (seen_in before.now.items)) }
-    ensures begins { timeline.new.begins ≡ timeline.old.begins }
-{
-    let part = stretch(setting, stops.points(), timeline, hart, 1, told)?;
-    let touched = touched_behind(timeline, part.made, *load, before);
-    let halt = halt_seen(part.halt, touched);
-    Ok(RoundPart {
-        halt,
-        made: part.made,
-        rests: part.rests,
     })
 }
 
@@ -184,7 +151,14 @@ pub(crate) fn watched_turn<C: Crew>(
     ensures begins { timeline.new.begins ≡ timeline.old.begins }
 {
     let load = timeline.load_among(hart, before);
-    loading_turn(setting, stops, before, timeline, hart, &load, told)
+    let part = stretch(setting, stops.points(), timeline, hart, 1, told)?;
+    let touched = touched_behind(timeline, part.made, load, before);
+    let halt = halt_seen(part.halt, touched);
+    Ok(RoundPart {
+        halt,
+        made: part.made,
+        rests: part.rests,
+    })
 }
 
 /// A hart's part of a round where bytes are watched, turn by turn.

@@ -4,7 +4,7 @@ use crate::stops::Watchpoint;
 use board_model::HartId;
 
 /// Why nothing runs.
-#[derive(Clone, Copy, PartialEq, Eq, Drop)]
+#[derive(Clone, Copy, Drop)]
 pub enum HaltReason {
     /// The step was made, or nothing was asked yet.
     Stepped,

@@ -18,14 +18,17 @@ ghost use Rattle.script_lang.specs.Lines.{IsLineInRange};
 ghost use Rattle.script_lang.specs.Scripts.{script_of};
 ghost use Rattle.script_lang.specs.Spellings.{IsWritable};
 
+use crate::back::{TurnPlace, Way, place_back};
+use crate::counts::turn_behind;
+use crate::forth::watched_turn;
 use crate::halts::{HaltReason, Stop};
 use crate::orders::ScriptOrder;
 use crate::rounds::Round;
 use crate::starts::begun;
-use crate::steps::{self, StepRange};
+use crate::steps::{StepRange, halt_step};
 use crate::stops::{Stops, Watchpoint};
 use crate::timeline::Timeline;
-use crate::{back, counts, forth, looks, script};
+use crate::{counts, forth, looks, script, steps};
 use bench_report::{LiveBench, Power, Setting};
 use board::Payloads;
 use board_model::HartId;
@@ -246,7 +249,19 @@ impl<'a, C: Crew> Session<'a, C> {
         ensures rest { KeepsRest self.old self.new }
         ensures begins { OnOk result (begins_of self.new ≡ begins_of self.old) }
     {
-        steps::step(&self.setting, &self.stops, &mut self.timeline, hart, told)
+        let before = self
+            .stops
+            .watched(self.setting.alloc, self.timeline.bench())?;
+        let part = watched_turn(
+            &self.setting,
+            &self.stops,
+            &before,
+            &mut self.timeline,
+            hart,
+            told,
+        )?;
+        let halt = halt_step(part.halt, part.made);
+        Ok(Stop { hart, halt })
     }
 
     /// Steps a hart while its pc lies from the first address on and before the second, to the first halt: `Stepped` where a
@@ -375,6 +390,7 @@ impl<'a, C: Crew> Session<'a, C> {
     /// Goes back to before the last turn of which the hart stood at a breakpoint, or that touched a watchpoint;
     /// where there is none, to before the first turn; and forgets whatever came after. Where no turn was made nothing
     /// changes, nor where the interrupt asks that it end, which is looked at before each line of the history.
+    #[tactic(auto, using(crate::proofs::Histories::place_hart))]
     pub fn go_back(&mut self, hart: HartId, interrupt: &AtomicBool) -> Result<Stop, AllocError>
         requires at { IsAt (size_of self.old) (timeline_of self.old) }
         requires hart { hart < (size_of self.old).harts }
@@ -385,13 +401,25 @@ impl<'a, C: Crew> Session<'a, C> {
         ensures rest { KeepsRest self.old self.new }
         ensures begins { OnOk result (begins_of self.new ≡ begins_of self.old) }
     {
-        back::go_back(
-            &self.setting,
-            &self.stops,
-            &mut self.timeline,
-            hart,
-            interrupt,
-        )
+        let Way::Ended(found) = place_back(&self.setting, &self.stops, &self.timeline, interrupt)?
+        else {
+            return Ok(Stop {
+                hart,
+                halt: HaltReason::Interrupted,
+            });
+        };
+        match found {
+            Some(place) => {
+                let TurnPlace { line, turns, stop } = place;
+                self.timeline
+                    .go_back(&self.setting, stop.hart, line, turns)?;
+                Ok(stop)
+            }
+            None => Ok(Stop {
+                hart,
+                halt: HaltReason::Begin,
+            }),
+        }
     }
 
     /// Goes back to before the turn that came after `turns` others of any harts, and forgets it and whatever came after: whether
@@ -403,6 +431,11 @@ impl<'a, C: Crew> Session<'a, C> {
         ensures rest { KeepsRest self.old self.new }
         ensures begins { begins_of self.new ≡ begins_of self.old }
     {
-        counts::go_to(&self.setting, &mut self.timeline, turns)
+        let Some(found) = turn_behind(self.timeline.lines(), turns) else {
+            return Ok(false);
+        };
+        self.timeline
+            .go_back(&self.setting, found.0, found.1, found.2)?;
+        Ok(true)
     }
 }

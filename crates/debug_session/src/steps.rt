@@ -3,7 +3,7 @@
 ghost use Rattle.std.specs.Prelude.{◌≡◌, ◌≤◌, ◌<◌, ℕ, None, Some, IfOk, OnOk};
 ghost use Rattle.debug_session.specs.Ats.{IsAt};
 ghost use Rattle.debug_session.specs.declared.timeline.Timeline.{Timeline};
-ghost use Rattle.debug_session.specs.Steps.{IsStep, Went, halt_step};
+ghost use Rattle.debug_session.specs.Steps.{Went, halt_step};
 ghost use Rattle.debug_session.specs.Withins.{StayedWithin, StepsWithin, WithinTo, halt_within, is_in};
 ghost use Rattle.debug_session.specs.Firsts.{ToHalt, seen_in, TellsTouched};
 ghost use Rattle.debug_session.specs.Lives.{machine_of, pc_in};
@@ -28,30 +28,8 @@ pub(crate) struct StepRange {
     pub(crate) most: u64,
 }
 
-/// Steps a hart once: what the line `turn` would have said is told where the turn ends everything.
-pub(crate) fn step<C: Crew>(
-    setting: &Setting<'_, C>,
-    stops: &Stops,
-    timeline: &mut Timeline,
-    hart: HartId,
-    told: &mut Vec<Answer>,
-) -> Result<Stop, AllocError>
-    requires at { IsAt setting.now.shape.now timeline.old }
-    requires hart { hart < setting.now.shape.now.harts }
-    ensures at { OnOk result (IsAt setting.now.shape.now timeline.new) }
-    ensures step { IfOk result (λ stop. IsStep setting.now.shape.now hart stop.halt timeline.old timeline.new) }
-    ensures first { IfOk result (λ stop. ToHalt setting.now.shape.now stops.now stop.hart (Some stop.halt) timeline.old timeline.new) }
-    ensures there { IfOk result (λ stop. stop.hart ≡ hart) }
-    ensures begins { timeline.new.begins ≡ timeline.old.begins }
-{
-    let before = stops.watched(setting.alloc, timeline.bench())?;
-    let part = watched_turn(setting, stops, &before, timeline, hart, told)?;
-    let halt = halt_step(part.halt, part.made);
-    Ok(Stop { hart, halt })
-}
-
 /// Why a step ends so: of no turn, since the hart has nothing to do.
-fn halt_step(halt: Option<HaltReason>, made: u32) -> HaltReason
+pub(crate) fn halt_step(halt: Option<HaltReason>, made: u32) -> HaltReason
     ensures { result ≡ halt_step halt made }
 {
     match halt {
