@@ -28,6 +28,8 @@ use Rattle.debug_session.specs.declared.timeline.Timeline.{Timeline}
 use Rattle.gdb_protocol.specs.Fields.{behind_prefix}
 use Rattle.sbigdb.specs.declared.asked.VCont.{VCont}
 use Rattle.sbigdb.specs.declared.asked.VCont.TheVariants as asked
+use Rattle.sbigdb.specs.declared.acts.Course.{Course}
+use Rattle.sbigdb.specs.declared.acts.Course.TheVariants as courses
 use Rattle.gdb_protocol.specs.declared.requests.Move.{Move}
 use Rattle.gdb_protocol.specs.declared.requests.Move.TheVariants as moves
 use Rattle.gdb_protocol.specs.declared.requests.GdbRequest.{GdbRequest}
@@ -69,6 +71,14 @@ abbrev pub WentFarBack : {C : Type 0} → ℕ → Stop → Session C → Session
 WentFarBack h stop old new =
     BackTo (size_of old) (stops_of old) stop (timeline_of old) (timeline_of new)
     ⊎ StaysBack stop h (timeline_of old) (timeline_of new)
+
+-- any of these, of hart h or from it on
+abbrev pub Took : {C : Type 0} → Course → ℕ → Stop → Session C → Session C → Type 0
+Took courses.Step h stop old new = SteppedOnce h stop old new
+Took (courses.StepWithin first end) h stop old new = WentAlone h first end stop old new
+Took (courses.Go harts) h stop old new = WentOn harts stop old new
+Took courses.StepBack h stop old new = WentBack h stop old new
+Took courses.GoBack h stop old new = WentFarBack h stop old new
 
 -- ---- what is told of it
 

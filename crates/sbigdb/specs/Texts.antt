@@ -6,15 +6,16 @@ use Rattle.std.specs.List.{flat_map, range_with_len}
 use Rattle.board_model.specs.Shapes.{Size}
 use Rattle.debug_session.specs.Texts.{state_text}
 use Rattle.debug_session.specs.Turns.{lives_begun, turns_told}
+use Rattle.script_lang.specs.Spellings.{board_text}
 use Rattle.script_lang.specs.declared.line.Line.{Line}
 use Rattle.debug_session.specs.Lives.{machine_of, pc_in}
 use Rattle.bench_report.specs.declared.live.LiveBench.{LiveBench}
 use Rattle.gdb_protocol.specs.Replies.{pairs_of}
 use lib.Chars.{codes}
 
+-- the board line of a script, with its line feed
 abbrev pub board_line : Size → List ℕ
-board_line size =
-    codes "board " ++ (decimal size.harts ++ (codes " " ++ (decimal size.pages ++ (codes " " ++ (decimal size.lanes ++ codes "\n")))))
+board_line size = board_text size ++ codes "\n"
 
 -- where a hart stands, by its pc; none is there where no board is on that has it
 abbrev pub stands_text : ℕ → Option ℕ → List ℕ

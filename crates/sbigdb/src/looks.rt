@@ -1,8 +1,8 @@
 //! Requests that move nothing.
 
-ghost use Rattle.std.specs.Prelude.{◌≡◌, map, IfOk, OnOk};
+ghost use Rattle.std.specs.Prelude.{◌≡◌, ◌<◌, map, IfOk, OnOk};
 ghost use Rattle.debug_session.specs.Sessions.{bench_of, points_of, size_of, timeline_of, watches_of, KeepsPlan};
-ghost use Rattle.sbigdb.specs.Kept.{IsKept, IsTalk, StaysOpen, named_or, points_after, watch_of, watches_after};
+ghost use Rattle.sbigdb.specs.Kept.{IsKept, IsTalk, named_or, points_after, watch_of, watches_after};
 ghost use Rattle.sbigdb.specs.Stops.{stop_text};
 ghost use Rattle.sbigdb.specs.Replies.{hart_named, hart_shown, IsReply};
 ghost use Rattle.sbigdb.specs.Talks.{hart_or};
@@ -10,6 +10,7 @@ ghost use Rattle.sbigdb.specs.Talks.{hart_or};
 use crate::answers::PacketPayloads;
 use crate::replies::{hart_of, text_of};
 use crate::talk::Talk;
+use board_model::HartId;
 use crew::Crew;
 use debug_session::{WatchKind, Watchpoint};
 use gdb_protocol::{GdbLook, Watching, behind, parts};
@@ -75,7 +76,7 @@ impl<'a, C: Crew> Talk<'a, C> {
     {
         match asked {
             GdbLook::Show(thread) => {
-                self.show(thread);
+                self.hart = self.thread_or(thread, self.hart);
                 Ok(())
             }
             GdbLook::Run(thread) => {
@@ -87,7 +88,7 @@ impl<'a, C: Crew> Talk<'a, C> {
                 Ok(())
             }
             GdbLook::IsAlive(thread) => {
-                self.select(thread);
+                self.selected = self.thread_or(thread, self.selected);
                 Ok(())
             }
             GdbLook::SetPoint(address) => self.session.set_point(address),
@@ -128,15 +129,15 @@ impl<'a, C: Crew> Talk<'a, C> {
         }
     }
 
-    /// Shows the hart of a thread from now on, where there is one.
-    fn show(&mut self, thread: u64)
-        ensures same { self.new.session ≡ self.old.session }
-        ensures talk { StaysOpen self.old self.new }
-        ensures shown { self.new.hart ≡ hart_or (hart_named (size_of self.old.session) thread) self.old.hart }
-        ensures selected { self.new.selected ≡ self.old.selected }
+    /// The hart of a thread, where there is one; else this one.
+    fn thread_or(&self, thread: u64, hart: HartId) -> HartId
+        requires { hart < (size_of self.now.session).harts }
+        ensures is { result ≡ hart_or (hart_named (size_of self.now.session) thread) hart }
+        ensures there { result < (size_of self.now.session).harts }
     {
-        if let Some(hart) = hart_of(self.session.setting().shape, thread) {
-            self.hart = hart;
+        match hart_of(self.session.setting().shape, thread) {
+            Some(named) => named,
+            None => hart,
         }
     }
 
@@ -151,18 +152,6 @@ impl<'a, C: Crew> Talk<'a, C> {
     {
         if let Some(hart) = hart_of(self.session.setting().shape, thread) {
             self.runner = Some(hart);
-        }
-    }
-
-    /// The hart of a thread is selected from now on, where there is one.
-    fn select(&mut self, thread: u64)
-        ensures same { self.new.session ≡ self.old.session }
-        ensures talk { StaysOpen self.old self.new }
-        ensures hart { self.new.hart ≡ self.old.hart }
-        ensures selected { self.new.selected ≡ hart_or (hart_named (size_of self.old.session) thread) self.old.selected }
-    {
-        if let Some(hart) = hart_of(self.session.setting().shape, thread) {
-            self.selected = hart;
         }
     }
 

@@ -14,14 +14,14 @@ ghost use Rattle.script_lang.specs.Lines.{IsLineInRange};
 
 use crate::answers::PacketPayloads;
 use crate::talk::Talk;
-use crate::texts::{answer_text, board_text, harts_text, report_text, tell, when_text};
+use crate::texts::{answer_text, harts_text, report_text, tell, when_text};
 use board_model::{HartId, Refusal, Shape, command_lines};
 use crew::Crew;
 use debug_session::Session;
 use gdb_protocol::behind;
 use hex::FromHexError;
 use report_lines::Answer;
-use script_lang::{Line, number, parse_script};
+use script_lang::{Line, board_line, number, parse_script};
 use std::alloc::{AllocError, Global};
 use std::sync::atomic::AtomicBool;
 
@@ -74,8 +74,9 @@ fn line_of(alloc: Global, shape: &Shape, text: &[u8]) -> Result<Option<Line>, Al
     ensures line { IfOk result (λ line. line ≡ line_in shape.now text.now) }
     ensures range { IfOk result (λ line. IfSome line (IsLineInRange shape.now)) }
 {
-    let head = board_text(alloc, shape)?;
+    let head = board_line(alloc, shape)?;
     let mut script = Vec::from_slice(alloc, head.as_bytes())?;
+    script.push(b'\n')?;
     script.extend_from_slice(text)?;
     match parse_script(alloc, &script) {
         Ok(read) => {

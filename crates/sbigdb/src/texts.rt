@@ -3,10 +3,10 @@
 ghost use Rattle.std.specs.Prelude.{◌≡◌, ◌++◌, ◌<◌, ℕ, List, map, string_bytes, IfOk, OnOk};
 ghost use Rattle.debug_session.specs.Sessions.{bench_of, history_of, size_of};
 ghost use Rattle.report_lines.specs.Texts.{found_line, answer_text, report_text};
-ghost use Rattle.sbigdb.specs.Texts.{HandOver, board_line, console_packet, hart_line, hart_lines, thread_line, thread_lines, threads_object, when_text};
+ghost use Rattle.sbigdb.specs.Texts.{HandOver, console_packet, hart_line, hart_lines, thread_line, thread_lines, threads_object, when_text};
 
 use crate::answers::PacketPayloads;
-use board_model::{Durable, HartId, Shape, StateText};
+use board_model::{Durable, HartId, StateText};
 use crew::Crew;
 use debug_session::{Session, pc};
 use gdb_protocol::put_hex;
@@ -77,16 +77,6 @@ pub fn report_text(alloc: Global, answers: &[Answer]) -> Result<String, AllocErr
         add_answer(answer, &mut text)?;
     }
     Ok(text)
-}
-
-/// The board line of a script.
-pub fn board_text(alloc: Global, shape: &Shape) -> Result<String, AllocError>
-    ensures { IfOk result (λ text. string_bytes text ≡ board_line shape.now) }
-{
-    let harts = shape.harts();
-    let pages = shape.pages();
-    let lanes = shape.lanes();
-    format!(in alloc; "board {harts} {pages} {lanes}\n")
 }
 
 /// Adds where the hart of that number stands.
