@@ -1,5 +1,6 @@
 -- The first line in which what is told of two answers is another.
-use Rattle.std.proofs.Common.{◌≡◌, ◌≢◌, ◌∙◌, ℕ, List, [], ◌∷◌, ◌++◌, Option, None, Some, MatchOption, get_or, refl, sym, ap, subst, arith, append_assoc}
+use borrow.Author.Count.{below_more}
+use Rattle.std.proofs.Common.{◌≡◌, ◌≢◌, ◌∙◌, ◌+◌, ◌<◌, ℕ, zero, suc, List, [], ◌∷◌, ◌++◌, Option, None, Some, MatchOption, get_or, refl, sym, ap, subst, arith}
 use Rattle.board_model.specs.Texts.{state_text}
 use Rattle.board_model.specs.declared.console_command.ConsoleCommand.TheVariants as commands
 use Rattle.board_model.specs.declared.durable.Durable.{Durable}
@@ -8,7 +9,7 @@ use Rattle.report_lines.specs.Texts.{line_text}
 use Rattle.report_lines.specs.declared.printed.Answer.{Answer}
 use Rattle.report_lines.specs.declared.printed.Printed.{Printed}
 use Rattle.report_lines.specs.declared.printed.Printed.TheVariants as printed
-use Rattle.bench_schedules.specs.Told.{IsFirstApart, told_lines, told_states, told_text}
+use Rattle.bench_schedules.specs.Told.{IsFirstApart, line_at, told_at, told_lines, told_states, told_text}
 use Rattle.bench_schedules.specs.declared.told.ToldApart.{ToldApart}
 use Rattle.bench_schedules.specs.declared.told.ToldLine.{ToldLine}
 use Rattle.bench_schedules.specs.declared.told.ToldLine.TheVariants as told
@@ -45,93 +46,59 @@ first_behind a b xs ys x y same is = record {
   apart = is.apart;
 }
 
-pub first_more : (xs ys us vs : List (List ℕ)) (x y : List ℕ) → IsFirstApart xs ys x y → IsFirstApart (xs ++ us) (ys ++ vs) x y
-first_more xs ys us vs x y is = record {
-  before = is.before;
-  own_more = is.own_more ++ us;
-  more = is.more ++ vs;
-  here = ap (λ z. z ++ us) is.here ∙ append_assoc is.before (x ∷ is.own_more) us;
-  there = ap (λ z. z ++ vs) is.there ∙ append_assoc is.before (y ∷ is.more) vs;
-  apart = is.apart;
-}
+-- ---- the lines that are told, one after another
+pub at_last : (d : Durable) (line : Printed) (k : ℕ) → (k ≡ 0 → ⊥) → (k ≡ 1 → ⊥) → told.Line line ≡ line_at (Some d) line k
+at_last d line zero first second = absurd (first refl)
+at_last d line (suc zero) first second = absurd (second refl)
+at_last d line (suc (suc k)) first second = refl
 
--- ---- the lines that are told
-pub apart_here : (own other own_line line : ToldLine) (us vs : List (List ℕ)) → (own_line ≡ own) × (line ≡ other) × (told_text own ≢ told_text other)
-    → IsFirstApart (told_text own ∷ us) (told_text other ∷ vs) (told_text own_line) (told_text line)
-apart_here own other own_line line us vs e = record {
-  before = [];
-  own_more = us;
-  more = vs;
-  here = ap (λ l. told_text l ∷ us) (sym e.0);
-  there = ap (λ l. told_text l ∷ vs) (sym e.1);
-  apart = λ same. e.2 (ap told_text (sym e.0) ∙ same ∙ ap told_text e.1);
-}
+-- the lines at the first n places are alike
+abbrev pub AreAlike : Answer → Answer → ℕ → Type 0
+AreAlike own other n = (k : ℕ) → k < n → told_text (told_at own k) ≡ told_text (told_at other k)
 
+abbrev Alike : Option Durable → Option Durable → Printed → Printed → ℕ → Type 0
+Alike f g l m n = (k : ℕ) → k < n → told_text (line_at f l k) ≡ told_text (line_at g m k)
+
+pub all_alike : (f g : Option Durable) (l m : Printed) → Alike f g l m 3 → told_states f ++ line_text l ∷ [] ≡ told_states g ++ line_text m ∷ []
+all_alike None None l m same = ap (λ t. t ∷ []) (same 0 (omega arith))
+all_alike None (Some e) l m same = absurd (line_no_found l e (same 0 (omega arith)))
+all_alike (Some d) None l m same = absurd (found_no_line d m (same 0 (omega arith)))
+all_alike (Some d) (Some e) l m same =
+    ap (λ t. t ∷ told_text (told.Image d.image) ∷ line_text l ∷ []) (same 0 (omega arith)) ∙ ap (λ t. told_text (told.Found e) ∷ t ∷ line_text l ∷ []) (same 1 (omega arith))
+    ∙ ap (λ t. told_text (told.Found e) ∷ told_text (told.Image e.image) ∷ t ∷ []) (same 2 (omega arith))
+
+-- the lines at that place are the first that are not
+first_of : (f g : Option Durable) (l m : Printed) (p : ℕ) → p < 3 → Alike f g l m p → told_text (line_at f l p) ≢ told_text (line_at g m p)
+    → IsFirstApart (told_states f ++ line_text l ∷ []) (told_states g ++ line_text m ∷ []) (told_text (line_at f l p)) (told_text (line_at g m p))
+first_of None None l m zero few same apart = first_here (line_text l) (line_text m) [] [] apart
+first_of None None l m (suc p) few same apart = absurd (apart (same 0 (omega arith)))
+first_of None (Some e) l m zero few same apart = first_here (line_text l) (told_text (told.Found e)) [] (told_text (told.Image e.image) ∷ line_text m ∷ []) apart
+first_of None (Some e) l m (suc p) few same apart = absurd (line_no_found l e (same 0 (omega arith)))
+first_of (Some d) None l m zero few same apart = first_here (told_text (told.Found d)) (line_text m) (told_text (told.Image d.image) ∷ line_text l ∷ []) [] apart
+first_of (Some d) None l m (suc p) few same apart = absurd (found_no_line d m (same 0 (omega arith)))
+first_of (Some d) (Some e) l m zero few same apart =
+    first_here (told_text (told.Found d)) (told_text (told.Found e)) (told_text (told.Image d.image) ∷ line_text l ∷ []) (told_text (told.Image e.image) ∷ line_text m ∷ []) apart
+first_of (Some d) (Some e) l m (suc zero) few same apart =
+    first_behind (told_text (told.Found d)) (told_text (told.Found e)) _ _ _ _ (same 0 (omega arith))
+    (first_here (told_text (told.Image d.image)) (told_text (told.Image e.image)) (line_text l ∷ []) (line_text m ∷ []) apart)
+first_of (Some d) (Some e) l m (suc (suc zero)) few same apart =
+    first_behind (told_text (told.Found d)) (told_text (told.Found e)) _ _ _ _ (same 0 (omega arith))
+    (first_behind (told_text (told.Image d.image)) (told_text (told.Image e.image)) _ _ _ _ (same 1 (omega arith)) (first_here (line_text l) (line_text m) [] [] apart))
+first_of (Some d) (Some e) l m (suc (suc (suc p))) few same apart = absurd (let never : ⊥ = omega (arith, few) in never)
+
+pub first_at : (own other : Answer) (p : ℕ) (x y : ToldLine) (pair : ToldApart) → p < 3 → AreAlike own other p → x ≡ told_at own p → y ≡ told_at other p
+    → (pair.own ≡ x) × (pair.other ≡ y) × (told_text x ≢ told_text y) → IsFirstApart (told_lines own) (told_lines other) (told_text pair.own) (told_text pair.other)
+first_at own other p x y pair few same own_is other_is is =
+    let P : ToldLine → Type 0 = λ t. IsFirstApart (told_lines own) (told_lines other) (told_text t) (told_text pair.other) in
+    let Q : ToldLine → Type 0 = λ t. IsFirstApart (told_lines own) (told_lines other) (told_text (told_at own p)) (told_text t) in
+    let apart : told_text (told_at own p) ≢ told_text (told_at other p) = λ e. is.2 (ap told_text own_is ∙ e ∙ ap told_text (sym other_is)) in
+    subst P (sym (is.0 ∙ own_is)) (subst Q (sym (is.1 ∙ other_is)) (first_of own.found other.found own.line other.line p few same apart))
+
+-- where no pair is told, the lines are alike
 pub no_pair : (found : Option ToldApart) (N : Type 0) (S : ToldApart → Type 0) → ((pair : ToldApart) → found ≡ Some pair → ⊥) → MatchOption found N S → N
 no_pair None N S never m = m
 no_pair (Some pair) N S never m = absurd (never pair refl)
 
-pub states_next : (own other : Durable) (found : Option ToldApart) → told_text (told.Found own) ≡ told_text (told.Found other)
-    → MatchOption found (told_text (told.Image own.image) ≡ told_text (told.Image other.image))
-    (λ pair. (pair.own ≡ told.Image own.image) × (pair.other ≡ told.Image other.image) × (told_text (told.Image own.image) ≢ told_text (told.Image other.image)))
-    → MatchOption found ((told_text (told.Found own) ≡ told_text (told.Found other)) × (told_text (told.Image own.image) ≡ told_text (told.Image other.image)))
-    (λ pair. IsFirstApart (told_text (told.Found own) ∷ told_text (told.Image own.image) ∷ [])
-    (told_text (told.Found other) ∷ told_text (told.Image other.image) ∷ []) (told_text pair.own) (told_text pair.other))
-states_next own other None same m = (same, m)
-states_next own other (Some pair) same m =
-    first_behind (told_text (told.Found own)) (told_text (told.Found other)) (told_text (told.Image own.image) ∷ []) (told_text (told.Image other.image) ∷ [])
-    (told_text pair.own) (told_text pair.other) same (apart_here (told.Image own.image) (told.Image other.image) pair.own pair.other [] [] m)
-
--- the last line, after lines that are alike
-pub lines_next : (xs ys : List (List ℕ)) (own other : Printed) (found : Option ToldApart) → xs ≡ ys
-    → MatchOption found (told_text (told.Line own) ≡ told_text (told.Line other))
-    (λ pair. (pair.own ≡ told.Line own) × (pair.other ≡ told.Line other) × (told_text (told.Line own) ≢ told_text (told.Line other)))
-    → MatchOption found (xs ++ line_text own ∷ [] ≡ ys ++ line_text other ∷ [])
-    (λ pair. IsFirstApart (xs ++ line_text own ∷ []) (ys ++ line_text other ∷ []) (told_text pair.own) (told_text pair.other))
-lines_next xs ys own other None same m = ap (λ z. z ++ line_text own ∷ []) same ∙ ap (λ z. ys ++ z ∷ []) m
-lines_next xs ys own other (Some pair) same m =
-    let is = apart_here (told.Line own) (told.Line other) pair.own pair.other [] [] m in record {
-      before = xs ++ is.before;
-      own_more = is.own_more;
-      more = is.more;
-      here = ap (λ z. xs ++ z) is.here ∙ sym (append_assoc xs is.before (told_text pair.own ∷ is.own_more));
-      there = ap (λ z. ys ++ z) is.there ∙ sym (append_assoc ys is.before (told_text pair.other ∷ is.more)) ∙ ap (λ z. (z ++ is.before) ++ told_text pair.other ∷ is.more) (sym same);
-      apart = is.apart;
-    }
-
-pub found_next : (own other : Answer) (found : Option ToldApart) → told_states own.found ≡ told_states other.found
-    → MatchOption found (told_text (told.Line own.line) ≡ told_text (told.Line other.line))
-    (λ pair. (pair.own ≡ told.Line own.line) × (pair.other ≡ told.Line other.line) × (told_text (told.Line own.line) ≢ told_text (told.Line other.line)))
-    → MatchOption found (told_lines own ≡ told_lines other) (λ pair. IsFirstApart (told_lines own) (told_lines other) (told_text pair.own) (told_text pair.other))
-found_next own other found same m = lines_next (told_states own.found) (told_states other.found) own.line other.line found same m
-
-pub same_states : (own other : Answer) (d e : Durable) → own.found ≡ Some d → other.found ≡ Some e
-    → (told_text (told.Found d) ≡ told_text (told.Found e)) × (told_text (told.Image d.image) ≡ told_text (told.Image e.image)) → told_states own.found ≡ told_states other.found
-same_states own other d e first second same =
-    ap told_states first ∙ ap (λ t. t ∷ told_text (told.Image d.image) ∷ []) same.0 ∙ ap (λ t. told_text (told.Found e) ∷ t ∷ []) same.1 ∙ sym (ap told_states second)
-
-pub states_first : (own other : Answer) (d e : Durable) (pair : ToldApart) → own.found ≡ Some d → other.found ≡ Some e
-    → IsFirstApart (told_text (told.Found d) ∷ told_text (told.Image d.image) ∷ []) (told_text (told.Found e) ∷ told_text (told.Image e.image) ∷ []) (told_text pair.own) (told_text pair.other)
-    → IsFirstApart (told_lines own) (told_lines other) (told_text pair.own) (told_text pair.other)
-states_first own other d e pair first second is =
-    let P : Option Durable → Type 0 = λ f. IsFirstApart (told_states f ++ line_text own.line ∷ []) (told_lines other) (told_text pair.own) (told_text pair.other) in
-    let Q : Option Durable → Type 0 = λ f. IsFirstApart (told_states (Some d) ++ line_text own.line ∷ []) (told_states f ++ line_text other.line ∷ []) (told_text pair.own) (told_text pair.other) in
-    subst P (sym first) (subst Q (sym second)
-    (first_more (told_states (Some d)) (told_states (Some e)) (line_text own.line ∷ []) (line_text other.line ∷ []) (told_text pair.own) (told_text pair.other) is))
-
--- one run found something, and the other did not open
-pub own_found : (own other : Answer) (d : Durable) → own.found ≡ Some d → other.found ≡ None
-    → IsFirstApart (told_lines own) (told_lines other) (told_text (told.Found d)) (told_text (told.Line other.line))
-own_found own other d first second =
-    let P : Option Durable → Type 0 = λ f. IsFirstApart (told_states f ++ line_text own.line ∷ []) (told_lines other) (told_text (told.Found d)) (told_text (told.Line other.line)) in
-    let Q : Option Durable → Type 0 = λ f. IsFirstApart (told_states (Some d) ++ line_text own.line ∷ []) (told_states f ++ line_text other.line ∷ []) (told_text (told.Found d)) (told_text (told.Line other.line)) in
-    subst P (sym first) (subst Q (sym second)
-    (first_here (told_text (told.Found d)) (line_text other.line) (told_text (told.Image d.image) ∷ line_text own.line ∷ []) [] (found_no_line d other.line)))
-
-pub other_found : (own other : Answer) (e : Durable) → own.found ≡ None → other.found ≡ Some e
-    → IsFirstApart (told_lines own) (told_lines other) (told_text (told.Line own.line)) (told_text (told.Found e))
-other_found own other e first second =
-    let P : Option Durable → Type 0 = λ f. IsFirstApart (told_states f ++ line_text own.line ∷ []) (told_lines other) (told_text (told.Line own.line)) (told_text (told.Found e)) in
-    let Q : Option Durable → Type 0 = λ f. IsFirstApart (line_text own.line ∷ []) (told_states f ++ line_text other.line ∷ []) (told_text (told.Line own.line)) (told_text (told.Found e)) in
-    subst P (sym first) (subst Q (sym second)
-    (first_here (line_text own.line) (told_text (told.Found e)) [] (told_text (told.Image e.image) ∷ line_text other.line ∷ []) (line_no_found own.line e)))
+pub one_more : (own other : Answer) (p : ℕ) (x y : ToldLine) → AreAlike own other p → x ≡ told_at own p → y ≡ told_at other p → told_text x ≡ told_text y → AreAlike own other (p + 1)
+one_more own other p x y same own_is other_is is =
+    below_more (λ k. told_text (told_at own k) ≡ told_text (told_at other k)) p same (ap told_text (sym own_is) ∙ is ∙ ap told_text other_is)

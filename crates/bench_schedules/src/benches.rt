@@ -3,10 +3,9 @@
 
 ghost use Rattle.std.specs.Prelude.{◌≡◌, ◌⊎◌, ◌+◌, ◌-◌, ◌≤◌, ◌∷◌, [], ℕ, List, slice_index_or, length, All, IfErr, IfOk, OnOk, Ok, Err};
 ghost use Rattle.std.specs.Io.KnownBytes.{Appends};
-ghost use Rattle.board_model.specs.Shapes.{IsSize};
 ghost use Rattle.board_model.specs.declared.refusal.Refusal.{Refusal as Refused};
 ghost use Rattle.board_model.specs.declared.refusal.Refusal.TheVariants.{Memory, Output};
-ghost use Rattle.script_lang.specs.Lines.{FitsLine, IsLineInRange};
+ghost use Rattle.script_lang.specs.Lines.{IsLineInRange};
 ghost use Rattle.script_lang.specs.Scripts.{script_of, Script as Said};
 ghost use Rattle.script_lang.specs.Views.{view};
 ghost use Rattle.bench_schedules.specs.Drawable.{AreDrawable};
@@ -223,16 +222,9 @@ fn write_own_tight<W: Write>(
 ) -> io::Result<()>
     ensures ok { OnOk result ((told : List ℕ) × Appends (W.contents out.old) (W.contents out.new) (tight_text (own_tight part told))) }
 {
-    if writes_tight(part) {
-        return write_all_tight(numbers, tight, out);
+    if !writes_tight(part) {
+        return Ok(());
     }
-    Ok(())
-}
-
-/// Writes a line for each stretch that names few turns.
-fn write_all_tight<W: Write>(numbers: &[u64], tight: &[usize], out: &mut W) -> io::Result<()>
-    ensures ok { OnOk result ((told : List ℕ) × Appends (W.contents out.old) (W.contents out.new) (tight_text told)) }
-{
     for place in tight {
         write_one_tight(numbers, *place, out)?;
     }
@@ -265,28 +257,7 @@ fn compare_own<R: Threads + Sync, P: Progress, C: Crew + Sync, W: Write>(
     Ok(Compared { runs, differ })
 }
 
-/// Runs the script as it stands, and then schedules of it, as `compare_own` does.
-fn compare_all<R: Threads + Sync, P: Progress, C: Crew + Sync, W: Write>(
-    jobs: &Jobs<'_, R, P>,
-    runner: &DrawnRunner<'_, C>,
-    plan: SchedulePlan,
-    out: &mut W,
-) -> io::Result<Compared>
-    requires size { IsSize runner.now.setting.shape.now }
-    requires few { length runner.now.lines.now ≤ 65535 }
-    requires ranges { All (IsLineInRange runner.now.setting.shape.now) runner.now.lines.now }
-    requires fits { All FitsLine runner.now.lines.now }
-    requires most { plan.count ≤ 1000000 }
-    ensures wrote { IfOk result (λ count. (count.runs ≡ own_count plan.part plan.count) × WroteSchedules (record { size = runner.now.setting.shape.now; lines = runner.now.lines.now })
-        runner.now.payloads.now
-        (λ place. slice_index_or runner.now.numbers.now (1 + place_of_other place runner.now.lines.now) 0)
-        plan.part plan.count (W.contents out.old) (W.contents out.new) count.differ) }
-{
-    let own = run_own(&runner.setting, runner.payloads, runner.lines)?;
-    compare_own(jobs, runner, &own, plan, out)
-}
-
-/// Compares schedules of a script that was read with its own run.
+/// Runs a script that was read as it stands, and then schedules of it, as `compare_own` does.
 fn compare_script<'a, R: Threads + Sync, P: Progress, W: Write>(
     jobs: &Jobs<'_, R, P>,
     alloc: Global,
@@ -318,33 +289,12 @@ fn compare_script<'a, R: Threads + Sync, P: Progress, W: Write>(
         numbers,
         seed: plan.seed,
     };
-    compare_all(jobs, &runner, plan, out)
+    let own = run_own(&runner.setting, payloads, lines)?;
+    compare_own(jobs, &runner, &own, plan, out)
 }
 
-/// Writes schedule k of these lines. They are run first: their own run tells in which part of each stretch the order of turns matters,
-/// and the schedule is drawn from that.
-fn show_lines<C: Crew, W: Write>(
-    setting: &Setting<'_, C>,
-    lines: &[Line],
-    payloads: &Payloads,
-    seed: u64,
-    k: u64,
-    out: &mut W,
-) -> Result<(), Refusal>
-    requires few { length lines.now ≤ 65535 }
-    requires ranges { All (IsLineInRange setting.now.shape.now) lines.now }
-    ensures shown { OnOk result (Shown (record { size = setting.now.shape.now; lines = lines.now }) (W.contents out.old) (W.contents out.new)) }
-    ensures refused { IfErr result (λ e. (e ≡ Memory) ⊎ (e ≡ Output)) }
-{
-    scripts_read_as_written();
-    shape_in_range(setting.shape);
-    fits(lines);
-    let own = run_own(setting, payloads, lines)?;
-    let drawn = drawn_schedule(setting.alloc, lines, &own, seed, k)?;
-    write_script(out, setting.shape, &drawn)
-}
-
-/// Writes schedule k of a script that was read.
+/// Writes schedule k of a script that was read. It is run first: its own run tells in which part of each stretch the order of turns
+/// matters, and the schedule is drawn from that.
 fn show_script<R: Threads + Sync, W: Write>(
     alloc: Global,
     script: &Script,
@@ -358,13 +308,19 @@ fn show_script<R: Threads + Sync, W: Write>(
     ensures shown { OnOk result (Shown (view script.now) (W.contents out.old) (W.contents out.new)) }
     ensures refused { IfErr result (λ e. (e ≡ Memory) ⊎ (e ≡ Output)) }
 {
+    scripts_read_as_written();
+    shape_in_range(&script.shape);
+    let lines = script.lines.as_slice();
+    fits(lines);
     let crew = lane_by_lane::<R>();
     let setting = Setting {
         alloc,
         crew: &crew,
         shape: &script.shape,
     };
-    show_lines(&setting, script.lines.as_slice(), payloads, seed, k, out)
+    let own = run_own(&setting, payloads, lines)?;
+    let drawn = drawn_schedule(alloc, lines, &own, seed, k)?;
+    write_script(out, &script.shape, &drawn)
 }
 
 /// The schedule bench (docs/SCRIPT.md, "Schedules"). It runs a script as it stands, with these payloads in the slots, and

@@ -34,7 +34,7 @@ pub use drawn_orders::{generator, schedule};
 pub use laws::{orders_keep_lines, rows_may_change};
 pub use led_orders::{Slice, led};
 pub use line_runs::{end_run, run_line};
-pub use numbers::{line_numbers, number_at, number_of_other};
+pub use numbers::{line_numbers, number_at, number_of_other, text_lines};
 pub use own_runs::{OwnRun, run_own};
 pub use runs::{Difference, run_until};
 pub use shrinks::shrink;

@@ -16,11 +16,11 @@ fn is_passed(line: &[u8]) -> bool
     line.is_empty() || line[0] == b'#'
 }
 
-/// The lines of a script. After a line feed at its end there is one more, which is empty.
-fn parts(alloc: Global, script: &[u8]) -> Result<Vec<&[u8]>, AllocError>
-    ensures { IfOk result (λ v. map (λ w. w.now) v.items ≡ slice_split (λ b. b == 10) script.now) }
+/// The lines of a text. After a line feed at its end there is one more, which is empty.
+pub fn text_lines(alloc: Global, text: &[u8]) -> Result<Vec<&[u8]>, AllocError>
+    ensures { IfOk result (λ v. map (λ w. w.now) v.items ≡ slice_split (λ b. b == 10) text.now) }
 {
-    script.split(|b| *b == b'\n').collect(alloc)
+    text.split(|b| *b == b'\n').collect(alloc)
 }
 
 /// The numbers of the lines that are not passed over, where the first of these lines has number 1.
@@ -40,8 +40,8 @@ fn numbers_in(alloc: Global, lines: &[&[u8]]) -> Result<Vec<u64>, AllocError>
 pub fn line_numbers(alloc: Global, script: &[u8]) -> Result<Vec<u64>, AllocError>
     ensures { IfOk result (λ v. v.items ≡ numbers_of script.now) }
 {
-    let parts = parts(alloc, script)?;
-    numbers_in(alloc, &parts)
+    let lines = text_lines(alloc, script)?;
+    numbers_in(alloc, &lines)
 }
 
 /// The place of the k-th line that is no `turn`, from 0 on.

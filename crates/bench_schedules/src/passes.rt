@@ -1,9 +1,9 @@
-//! The passes of a search, each of which keeps fewer turns.
+//! The passes of a search, each of which keeps fewer turns. Which slices they keep is craft: the schedule that the last ones lead is
+//! run again.
 
-ghost use Rattle.std.specs.Prelude.{OnOk};
-ghost use Rattle.bench_schedules.specs.Shrunk.{IsFound, IsSearchable};
+ghost use Rattle.bench_schedules.specs.Shrunk.{IsSearchable};
 
-use crate::search::{FoundSchedule, MOST_RUNS, Search, try_slices};
+use crate::search::{KeptSlices, MOST_RUNS, Search, try_slices};
 use crate::slices::{exchanged, lessened, turns_at, weight};
 use crew::Crew;
 use std::alloc::AllocError;
@@ -14,16 +14,12 @@ const HALVES: u64 = 64;
 /// Tries the schedule whose slices from one place up to another have at most `turns` turns. Answers whether it is kept.
 fn try_lessened<C: Crew>(
     search: &Search<'_, C>,
-    kept: &mut FoundSchedule,
+    kept: &mut KeptSlices,
     from: usize,
     to: usize,
     turns: u64,
 ) -> Result<bool, AllocError>
-    requires searchable { IsSearchable search.now.setting.shape.now search.now.lines.now search.now.own.now }
-    requires found { IsFound search.now.setting.shape.now search.now.payloads.now search.now.lines.now search.now.own.now
-        search.now.place kept.old.lines.items }
-    ensures found { OnOk result (IsFound search.now.setting.shape.now search.now.payloads.now search.now.lines.now
-        search.now.own.now search.now.place kept.new.lines.items) }
+    requires { IsSearchable search.now.setting.shape.now search.now.lines.now search.now.own.now }
 {
     let slices = lessened(search.setting.alloc, &kept.slices, from, to, turns)?;
     try_slices(search, kept, slices)
@@ -33,14 +29,10 @@ fn try_lessened<C: Crew>(
 /// joins another of its hart. Answers whether it is kept.
 fn try_exchanged<C: Crew>(
     search: &Search<'_, C>,
-    kept: &mut FoundSchedule,
+    kept: &mut KeptSlices,
     place: usize,
 ) -> Result<bool, AllocError>
-    requires searchable { IsSearchable search.now.setting.shape.now search.now.lines.now search.now.own.now }
-    requires found { IsFound search.now.setting.shape.now search.now.payloads.now search.now.lines.now search.now.own.now
-        search.now.place kept.old.lines.items }
-    ensures found { OnOk result (IsFound search.now.setting.shape.now search.now.payloads.now search.now.lines.now
-        search.now.own.now search.now.place kept.new.lines.items) }
+    requires { IsSearchable search.now.setting.shape.now search.now.lines.now search.now.own.now }
 {
     let slices = exchanged(search.setting.alloc, &kept.slices, place)?;
     if kept.slices.len() <= slices.len() {
@@ -50,22 +42,17 @@ fn try_exchanged<C: Crew>(
 }
 
 /// Cuts slices off at the end, by bisection.
-fn cut<C: Crew>(search: &Search<'_, C>, kept: &mut FoundSchedule) -> Result<(), AllocError>
-    requires searchable { IsSearchable search.now.setting.shape.now search.now.lines.now search.now.own.now }
-    requires found { IsFound search.now.setting.shape.now search.now.payloads.now search.now.lines.now search.now.own.now
-        search.now.place kept.old.lines.items }
-    ensures found { OnOk result (IsFound search.now.setting.shape.now search.now.payloads.now search.now.lines.now
-        search.now.own.now search.now.place kept.new.lines.items) }
+fn cut<C: Crew>(search: &Search<'_, C>, kept: &mut KeptSlices) -> Result<(), AllocError>
+    requires { IsSearchable search.now.setting.shape.now search.now.lines.now search.now.own.now }
 {
     let mut low = 0;
-    'halves: for _ in 0..HALVES {
+    for _ in 0..HALVES {
         let high = kept.slices.len();
-        if high <= low {
-            return Ok(());
-        }
-        let middle = low + (high - low) / 2;
-        if !try_lessened(search, kept, middle, high, 0)? {
-            low = middle + 1;
+        if low < high {
+            let middle = low + (high - low) / 2;
+            if !try_lessened(search, kept, middle, high, 0)? {
+                low = middle + 1;
+            }
         }
     }
     Ok(())
@@ -74,35 +61,26 @@ fn cut<C: Crew>(search: &Search<'_, C>, kept: &mut FoundSchedule) -> Result<(), 
 /// Drops `size` slices together, where that can be, from the first on.
 fn drop_by<C: Crew>(
     search: &Search<'_, C>,
-    kept: &mut FoundSchedule,
+    kept: &mut KeptSlices,
     size: usize,
 ) -> Result<(), AllocError>
-    requires searchable { IsSearchable search.now.setting.shape.now search.now.lines.now search.now.own.now }
-    requires found { IsFound search.now.setting.shape.now search.now.payloads.now search.now.lines.now search.now.own.now
-        search.now.place kept.old.lines.items }
-    ensures found { OnOk result (IsFound search.now.setting.shape.now search.now.payloads.now search.now.lines.now
-        search.now.own.now search.now.place kept.new.lines.items) }
+    requires { IsSearchable search.now.setting.shape.now search.now.lines.now search.now.own.now }
 {
     let mut place = 0usize;
-    'tries: for _ in 0..MOST_RUNS {
-        if kept.slices.len() <= place {
-            return Ok(());
-        }
-        let behind = place.saturating_add(size);
-        if !try_lessened(search, kept, place, behind, 0)? {
-            place = behind;
+    for _ in 0..MOST_RUNS {
+        if place < kept.slices.len() {
+            let after = place.saturating_add(size);
+            if !try_lessened(search, kept, place, after, 0)? {
+                place = after;
+            }
         }
     }
     Ok(())
 }
 
 /// Drops slices by halves of all of them, then by fourths, and so on, to one at a time.
-fn drop_slices<C: Crew>(search: &Search<'_, C>, kept: &mut FoundSchedule) -> Result<(), AllocError>
-    requires searchable { IsSearchable search.now.setting.shape.now search.now.lines.now search.now.own.now }
-    requires found { IsFound search.now.setting.shape.now search.now.payloads.now search.now.lines.now search.now.own.now
-        search.now.place kept.old.lines.items }
-    ensures found { OnOk result (IsFound search.now.setting.shape.now search.now.payloads.now search.now.lines.now
-        search.now.own.now search.now.place kept.new.lines.items) }
+fn drop_slices<C: Crew>(search: &Search<'_, C>, kept: &mut KeptSlices) -> Result<(), AllocError>
+    requires { IsSearchable search.now.setting.shape.now search.now.lines.now search.now.own.now }
 {
     let mut size = kept.slices.len() / 2;
     'halves: for _ in 0..HALVES {
@@ -116,19 +94,12 @@ fn drop_slices<C: Crew>(search: &Search<'_, C>, kept: &mut FoundSchedule) -> Res
 }
 
 /// Joins slices of a hart by exchanging neighbours, where that can be, from the first on.
-fn join_slices<C: Crew>(search: &Search<'_, C>, kept: &mut FoundSchedule) -> Result<(), AllocError>
-    requires searchable { IsSearchable search.now.setting.shape.now search.now.lines.now search.now.own.now }
-    requires found { IsFound search.now.setting.shape.now search.now.payloads.now search.now.lines.now search.now.own.now
-        search.now.place kept.old.lines.items }
-    ensures found { OnOk result (IsFound search.now.setting.shape.now search.now.payloads.now search.now.lines.now
-        search.now.own.now search.now.place kept.new.lines.items) }
+fn join_slices<C: Crew>(search: &Search<'_, C>, kept: &mut KeptSlices) -> Result<(), AllocError>
+    requires { IsSearchable search.now.setting.shape.now search.now.lines.now search.now.own.now }
 {
     let mut place = 0usize;
-    'tries: for _ in 0..MOST_RUNS {
-        if kept.slices.len() <= place {
-            return Ok(());
-        }
-        if !try_exchanged(search, kept, place)? {
+    for _ in 0..MOST_RUNS {
+        if place < kept.slices.len() && !try_exchanged(search, kept, place)? {
             place = place.saturating_add(1);
         }
     }
@@ -138,36 +109,27 @@ fn join_slices<C: Crew>(search: &Search<'_, C>, kept: &mut FoundSchedule) -> Res
 /// Finds the fewest turns of the slice at that place, by bisection.
 fn lessen_at<C: Crew>(
     search: &Search<'_, C>,
-    kept: &mut FoundSchedule,
+    kept: &mut KeptSlices,
     place: usize,
 ) -> Result<(), AllocError>
-    requires searchable { IsSearchable search.now.setting.shape.now search.now.lines.now search.now.own.now }
-    requires found { IsFound search.now.setting.shape.now search.now.payloads.now search.now.lines.now search.now.own.now
-        search.now.place kept.old.lines.items }
-    ensures found { OnOk result (IsFound search.now.setting.shape.now search.now.payloads.now search.now.lines.now
-        search.now.own.now search.now.place kept.new.lines.items) }
+    requires { IsSearchable search.now.setting.shape.now search.now.lines.now search.now.own.now }
 {
     let mut low = 0;
-    'halves: for _ in 0..HALVES {
+    for _ in 0..HALVES {
         let high = turns_at(&kept.slices, place);
-        if high <= low {
-            return Ok(());
-        }
-        let middle = low + (high - low) / 2;
-        if !try_lessened(search, kept, place, place.saturating_add(1), middle)? {
-            low = middle + 1;
+        if low < high {
+            let middle = low + (high - low) / 2;
+            if !try_lessened(search, kept, place, place.saturating_add(1), middle)? {
+                low = middle + 1;
+            }
         }
     }
     Ok(())
 }
 
 /// Finds the fewest turns of each slice, from the last on.
-fn lessen<C: Crew>(search: &Search<'_, C>, kept: &mut FoundSchedule) -> Result<(), AllocError>
-    requires searchable { IsSearchable search.now.setting.shape.now search.now.lines.now search.now.own.now }
-    requires found { IsFound search.now.setting.shape.now search.now.payloads.now search.now.lines.now search.now.own.now
-        search.now.place kept.old.lines.items }
-    ensures found { OnOk result (IsFound search.now.setting.shape.now search.now.payloads.now search.now.lines.now
-        search.now.own.now search.now.place kept.new.lines.items) }
+fn lessen<C: Crew>(search: &Search<'_, C>, kept: &mut KeptSlices) -> Result<(), AllocError>
+    requires { IsSearchable search.now.setting.shape.now search.now.lines.now search.now.own.now }
 {
     let count = kept.slices.len();
     for n in 0..count {
@@ -177,15 +139,8 @@ fn lessen<C: Crew>(search: &Search<'_, C>, kept: &mut FoundSchedule) -> Result<(
 }
 
 /// All passes, again until none helps.
-pub fn search_all<C: Crew>(
-    search: &Search<'_, C>,
-    kept: &mut FoundSchedule,
-) -> Result<(), AllocError>
-    requires searchable { IsSearchable search.now.setting.shape.now search.now.lines.now search.now.own.now }
-    requires found { IsFound search.now.setting.shape.now search.now.payloads.now search.now.lines.now search.now.own.now
-        search.now.place kept.old.lines.items }
-    ensures found { OnOk result (IsFound search.now.setting.shape.now search.now.payloads.now search.now.lines.now
-        search.now.own.now search.now.place kept.new.lines.items) }
+pub fn search_all<C: Crew>(search: &Search<'_, C>, kept: &mut KeptSlices) -> Result<(), AllocError>
+    requires { IsSearchable search.now.setting.shape.now search.now.lines.now search.now.own.now }
 {
     'rounds: for _ in 0..MOST_RUNS {
         let before = weight(&kept.slices);

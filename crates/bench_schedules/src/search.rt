@@ -1,7 +1,7 @@
 //! The runs of a search: which candidates are kept.
 //! A law runs nothing, and tells the prover a fact: `orders_keep_lines`.
 
-ghost use Rattle.std.specs.Prelude.{◌≡◌, true, IfOk, IfSome, OnOk};
+ghost use Rattle.std.specs.Prelude.{◌≡◌, true, IfOk, IfSome};
 ghost use Rattle.bench_schedules.specs.Orders.{IsOrderFor};
 ghost use Rattle.bench_schedules.specs.Shrunk.{IsFound, IsSearchable};
 
@@ -36,13 +36,12 @@ pub struct Search<'a, C> {
     pub place: usize,
 }
 
-/// The schedule that was found last.
+/// The slices that were kept last.
 #[derive(Drop)]
-pub struct FoundSchedule {
-    /// The slices that lead its stretches.
+pub struct KeptSlices {
     pub slices: Vec<Slice>,
-    /// Its lines.
-    pub lines: Vec<Line>,
+    /// Whether they were tried: before the first are kept, they are those of the schedule that was drawn.
+    pub tried: bool,
     /// How many runs were made.
     pub runs: u64,
 }
@@ -66,7 +65,7 @@ fn differs_there<C: Crew>(search: &Search<'_, C>, lines: &[Line]) -> Result<bool
 }
 
 /// The lines of the schedule that these slices lead, where its run still first differs there.
-fn led_there<C: Crew>(
+pub fn led_there<C: Crew>(
     search: &Search<'_, C>,
     slices: &[Slice],
 ) -> Result<Option<Vec<Line>>, AllocError>
@@ -81,27 +80,23 @@ fn led_there<C: Crew>(
     Ok(Some(lines))
 }
 
-/// Tries the schedule that these slices lead, and keeps it where its run still first differs there. Answers whether it is
+/// Tries the schedule that these slices lead, and keeps them where its run still first differs there. Answers whether they are
 /// kept. After the last run nothing more is tried.
 pub fn try_slices<C: Crew>(
     search: &Search<'_, C>,
-    kept: &mut FoundSchedule,
+    kept: &mut KeptSlices,
     slices: Vec<Slice>,
 ) -> Result<bool, AllocError>
-    requires searchable { IsSearchable search.now.setting.shape.now search.now.lines.now search.now.own.now }
-    requires found { IsFound search.now.setting.shape.now search.now.payloads.now search.now.lines.now search.now.own.now
-        search.now.place kept.old.lines.items }
-    ensures found { OnOk result (IsFound search.now.setting.shape.now search.now.payloads.now search.now.lines.now
-        search.now.own.now search.now.place kept.new.lines.items) }
+    requires { IsSearchable search.now.setting.shape.now search.now.lines.now search.now.own.now }
 {
     if MOST_RUNS <= kept.runs {
         return Ok(false);
     }
     kept.runs = kept.runs.saturating_add(1);
-    let Some(lines) = led_there(search, &slices)? else {
+    if led_there(search, &slices)?.is_none() {
         return Ok(false);
-    };
+    }
     kept.slices = slices;
-    kept.lines = lines;
+    kept.tried = true;
     Ok(true)
 }

@@ -15,7 +15,7 @@ use crate::laws::orders_keep_lines;
 use crate::own_runs::{drawn_schedule, run_own};
 use crate::passes::search_all;
 use crate::runs::{Difference, run_until};
-use crate::search::{FoundSchedule, Search};
+use crate::search::{KeptSlices, Search, led_there};
 use crate::slices::slices_of;
 use bench_report::{Setting, lane_by_lane};
 use board::Payloads;
@@ -36,13 +36,19 @@ fn searched<C: Crew>(search: &Search<'_, C>, drawn: Vec<Line>) -> Result<Vec<Lin
         search.now.own.now search.now.place lines.items) }
 {
     let slices = slices_of(search.setting.alloc, &drawn)?;
-    let mut kept = FoundSchedule {
+    let mut kept = KeptSlices {
         slices,
-        lines: drawn,
+        tried: false,
         runs: 0,
     };
     search_all(search, &mut kept)?;
-    Ok(kept.lines)
+    if !kept.tried {
+        return Ok(drawn);
+    }
+    match led_there(search, &kept.slices)? {
+        Some(lines) => Ok(lines),
+        None => Ok(drawn),
+    }
 }
 
 /// Runs a drawn schedule.
@@ -112,30 +118,6 @@ fn shortened<'a, C: Crew>(
     shortened_from(setting, payloads, lines, own, drawn, differs)
 }
 
-/// Writes schedule k of these lines, shrunk.
-fn shrink_lines<C: Crew, W: Write>(
-    setting: Setting<'_, C>,
-    lines: &[Line],
-    payloads: &Payloads,
-    seed: u64,
-    k: u64,
-    out: &mut W,
-) -> Result<(), Refusal>
-    requires few { length lines.now ≤ 65535 }
-    requires ranges { All (IsLineInRange setting.shape.now) lines.now }
-    ensures shrunk { OnOk result (Shrunk (record { size = setting.entry.shape.now; lines = lines.now }) payloads.now (W.contents out.old) (W.contents out.new)) }
-    ensures refused { IfErr result (λ e. (e ≡ Memory) ⊎ (e ≡ Output)) }
-{
-    scripts_read_as_written();
-    let shape = setting.shape;
-    shape_in_range(shape);
-    fits(lines);
-    let own = run_own(&setting, payloads, lines)?;
-    let drawn = drawn_schedule(setting.alloc, lines, &own, seed, k)?;
-    let new = shortened(setting, payloads, lines, &own.answers, drawn)?;
-    write_script(out, shape, &new)
-}
-
 /// Writes schedule k of a script that was read, shrunk.
 fn shrink_script<R: Threads + Sync, W: Write>(
     alloc: Global,
@@ -150,13 +132,20 @@ fn shrink_script<R: Threads + Sync, W: Write>(
     ensures shrunk { OnOk result (Shrunk (view script.now) payloads.now (W.contents out.old) (W.contents out.new)) }
     ensures refused { IfErr result (λ e. (e ≡ Memory) ⊎ (e ≡ Output)) }
 {
+    scripts_read_as_written();
+    shape_in_range(&script.shape);
+    let lines = script.lines.as_slice();
+    fits(lines);
     let crew = lane_by_lane::<R>();
     let setting = Setting {
         alloc,
         crew: &crew,
         shape: &script.shape,
     };
-    shrink_lines(setting, script.lines.as_slice(), payloads, seed, k, out)
+    let own = run_own(&setting, payloads, lines)?;
+    let drawn = drawn_schedule(alloc, lines, &own, seed, k)?;
+    let new = shortened(setting, payloads, lines, &own.answers, drawn)?;
+    write_script(out, &script.shape, &new)
 }
 
 /// Writes schedule k of a script as a script, as [`crate::show`] does, but shrunk: with few of the turns that were

@@ -1,8 +1,7 @@
 //! What is told of two answers: the first line in which they are another.
 
-ghost use Rattle.std.specs.Prelude.{◌≡◌, ◌≢◌, ◌∷◌, [], Some, None, IfOk, MatchOption};
-ghost use Rattle.bench_schedules.specs.Told.{IsFirstApart, told_lines, told_text};
-ghost use Rattle.bench_schedules.specs.declared.told.ToldLine.TheVariants as told;
+ghost use Rattle.std.specs.Prelude.{◌≡◌, ◌≢◌, Some, IfOk, MatchOption};
+ghost use Rattle.bench_schedules.specs.Told.{IsFirstApart, told_at, told_lines, told_text};
 
 use board_model::{Durable, ImageHead, ImageText, StateText};
 use report_lines::{Answer, Printed};
@@ -65,81 +64,19 @@ fn lines_apart(
     Ok(Some(ToldApart { own, other }))
 }
 
-/// The first line in which what is told of two states is another: the line `found`, or what that leaves out.
-fn states_apart(
-    alloc: Global,
-    own: &Durable,
-    other: &Durable,
-) -> Result<Option<ToldApart>, AllocError>
-    ensures { IfOk result (λ found. MatchOption found ((told_text (told.Found own.now) ≡ told_text (told.Found other.now))
-        × (told_text (told.Image own.now.image) ≡ told_text (told.Image other.now.image)))
-        (λ pair. IsFirstApart (told_text (told.Found own.now) ∷ told_text (told.Image own.now.image) ∷ [])
-        (told_text (told.Found other.now) ∷ told_text (told.Image other.now.image) ∷ []) (told_text pair.own) (told_text pair.other))) }
+/// The line that is told of an answer at that place: the line `found` and what that leaves out, where the answer found something, and
+/// then its own line, which is told at each place after it too.
+#[tactic(auto, using(crate::proofs::Aparts::at_last))]
+fn told_at(answer: &Answer, place: usize) -> ToldLine
+    ensures { result ≡ told_at answer.now place }
 {
-    if let Some(pair) = lines_apart(alloc, ToldLine::Found(*own), ToldLine::Found(*other))? {
-        return Ok(Some(pair));
-    }
-    lines_apart(
-        alloc,
-        ToldLine::Image(own.image),
-        ToldLine::Image(other.image),
-    )
-}
-
-/// `first_apart`, where both runs found something: these states.
-fn both_apart(
-    alloc: Global,
-    states: (Durable, Durable),
-    own: &Answer,
-    other: &Answer,
-) -> Result<Option<ToldApart>, AllocError>
-    requires own { own.now.found ≡ Some states.0 }
-    requires other { other.now.found ≡ Some states.1 }
-    ensures { IfOk result (λ found. MatchOption found (told_lines own.now ≡ told_lines other.now)
-        (λ pair. IsFirstApart (told_lines own.now) (told_lines other.now) (told_text pair.own) (told_text pair.other))) }
-{
-    if let Some(pair) = states_apart(alloc, &states.0, &states.1)? {
-        return Ok(Some(pair));
-    }
-    lines_apart(alloc, ToldLine::Line(own.line), ToldLine::Line(other.line))
-}
-
-/// `first_apart`, where the own run found this state.
-fn found_apart(
-    alloc: Global,
-    state: Durable,
-    own: &Answer,
-    other: &Answer,
-) -> Result<Option<ToldApart>, AllocError>
-    requires { own.now.found ≡ Some state }
-    ensures { IfOk result (λ found. MatchOption found (told_lines own.now ≡ told_lines other.now)
-        (λ pair. IsFirstApart (told_lines own.now) (told_lines other.now) (told_text pair.own) (told_text pair.other))) }
-{
-    match other.found {
-        Some(found) => both_apart(alloc, (state, found), own, other),
-        None => Ok(Some(ToldApart {
-            own: ToldLine::Found(state),
-            other: ToldLine::Line(other.line),
-        })),
-    }
-}
-
-/// `first_apart`, where the own run found nothing.
-fn unfound_apart(
-    alloc: Global,
-    own: &Answer,
-    other: &Answer,
-) -> Result<Option<ToldApart>, AllocError>
-    requires { own.now.found ≡ None }
-    ensures { IfOk result (λ found. MatchOption found (told_lines own.now ≡ told_lines other.now)
-        (λ pair. IsFirstApart (told_lines own.now) (told_lines other.now) (told_text pair.own) (told_text pair.other))) }
-{
-    match other.found {
-        None => lines_apart(alloc, ToldLine::Line(own.line), ToldLine::Line(other.line)),
-        Some(found) => Ok(Some(ToldApart {
-            own: ToldLine::Line(own.line),
-            other: ToldLine::Found(found),
-        })),
+    match answer.found {
+        Some(durable) => match place {
+            0 => ToldLine::Found(durable),
+            1 => ToldLine::Image(durable.image),
+            _ => ToldLine::Line(answer.line),
+        },
+        None => ToldLine::Line(answer.line),
     }
 }
 
@@ -152,8 +89,10 @@ pub fn first_apart(
     ensures { IfOk result (λ found. MatchOption found (told_lines own.now ≡ told_lines other.now)
         (λ pair. IsFirstApart (told_lines own.now) (told_lines other.now) (told_text pair.own) (told_text pair.other))) }
 {
-    match own.found {
-        None => unfound_apart(alloc, own, other),
-        Some(state) => found_apart(alloc, state, own, other),
+    for place in 0..3 {
+        if let Some(pair) = lines_apart(alloc, told_at(own, place), told_at(other, place))? {
+            return Ok(Some(pair));
+        }
     }
+    Ok(None)
 }

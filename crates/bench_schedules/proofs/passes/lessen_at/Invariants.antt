@@ -1,5 +1,0 @@
-use Rattle.bench_schedules.specs.Shrunk.{IsFound}
-use Rattle.bench_schedules.proofs.passes.lessen_at.Given as goal
-
-abbrev pub invariant-halves : goal.invariant-halves
-invariant-halves g l = IsFound l.search.setting.shape.now l.search.payloads.now l.search.lines.now l.search.own.now l.search.place l.kept.lines.items
