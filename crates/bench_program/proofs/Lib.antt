@@ -6,4 +6,5 @@ pub mod Judged
 pub mod Done
 pub mod Tested
 pub mod Parted
+pub mod FewRuns
 pub mod ByWork

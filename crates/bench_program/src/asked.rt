@@ -1,6 +1,6 @@
 //! What work the words of a command line ask for.
 
-ghost use Rattle.std.specs.Prelude.{◌≡◌, ◌≤◌, ◌<◌, ◌==◌, false, length, position, Some, None, codes, IfSome};
+ghost use Rattle.std.specs.Prelude.{◌≡◌, ◌<◌, ◌==◌, false, length, position, Some, None, codes, IfSome};
 ghost use Rattle.std.specs.Option.{option_map};
 ghost use Rattle.script_lang.specs.Words.{number_of};
 ghost use Rattle.clap.specs.Words.{first_value, found_of};
@@ -29,9 +29,7 @@ fn savers_of(matches: &ArgMatches<'_>) -> Savers
 
 /// A number that a word spells, from 1 to `most`.
 fn number_up_to(most: u64, word: &str) -> Option<u64>
-    ensures value { result ≡ number_up_to most (number_of word.now) }
-    ensures least { IfSome result (λ number. 1 ≤ number) }
-    ensures most { IfSome result (λ number. number ≤ most) }
+    ensures { result ≡ number_up_to most (number_of word.now) }
 {
     let number = number(word.as_bytes())?;
     if number < 1 || most < number {
@@ -43,9 +41,7 @@ fn number_up_to(most: u64, word: &str) -> Option<u64>
 /// The work over `runs` schedules of that seed: to compare them all, or to show or to shrink the one that a word names. None where
 /// the word names none of them, and where there are both words.
 fn compare_or_show(runs: u64, seed: u64, show: Option<&str>, shrink: Option<&str>) -> Option<Work>
-    requires { runs ≤ 1000000 }
-    ensures value { result ≡ compare_or_show runs seed (option_map (λ s. s.now) show.entry) (option_map (λ s. s.now) shrink.entry) }
-    ensures most { IfSome result (λ work. IsBounded work) }
+    ensures { result ≡ compare_or_show runs seed (option_map (λ s. s.now) show.entry) (option_map (λ s. s.now) shrink.entry) }
 {
     match (show, shrink) {
         (None, None) => Some(Work::Compare(SchedulePlan {
@@ -72,9 +68,8 @@ fn schedules_named(
     show: Option<&str>,
     shrink: Option<&str>,
 ) -> Option<Work>
-    ensures value { result ≡ schedules_named runs.now (option_map (λ s. s.now) seed.entry) (option_map (λ s. s.now) show.entry)
+    ensures { result ≡ schedules_named runs.now (option_map (λ s. s.now) seed.entry) (option_map (λ s. s.now) show.entry)
         (option_map (λ s. s.now) shrink.entry) }
-    ensures most { IfSome result (λ work. IsBounded work) }
 {
     let runs = number_up_to(MOST_SCHEDULES, runs)?;
     let seed = seed_of(seed)?;
@@ -94,8 +89,7 @@ fn whole(bench: BenchKind) -> SweepPlan
 
 /// The work without schedules, by the two flags and the crew. None where both flags stand there.
 fn work_of_flags(sweep: bool, faults: bool, savers: Savers) -> Option<Work>
-    ensures value { result ≡ work_of_flags sweep faults savers }
-    ensures most { IfSome result (λ work. IsBounded work) }
+    ensures { result ≡ work_of_flags sweep faults savers }
 {
     match (sweep, faults) {
         (true, true) => None,
@@ -108,9 +102,7 @@ fn work_of_flags(sweep: bool, faults: bool, savers: Savers) -> Option<Work>
 /// The work of a bench, or the run of the line that a word names, as a script. None where the word names none, and where the work is
 /// no bench.
 fn bench_or_row(show: Option<&str>, work: Option<Work>) -> Option<Work>
-    requires most { IfSome work (λ w. IsBounded w) }
-    ensures value { result ≡ bench_or_row (option_map (λ s. s.now) show.entry) work }
-    ensures most { IfSome result (λ w. IsBounded w) }
+    ensures { result ≡ bench_or_row (option_map (λ s. s.now) show.entry) work }
 {
     match show {
         None => work,
@@ -134,9 +126,8 @@ fn schedules_alone(
     show: Option<&str>,
     shrink: Option<&str>,
 ) -> Option<Work>
-    ensures value { result ≡ without_benches sweep faults (schedules_named runs.now (option_map (λ s. s.now) seed.entry)
+    ensures { result ≡ without_benches sweep faults (schedules_named runs.now (option_map (λ s. s.now) seed.entry)
         (option_map (λ s. s.now) show.entry) (option_map (λ s. s.now) shrink.entry)) }
-    ensures most { IfSome result (λ work. IsBounded work) }
 {
     if sweep || faults {
         return None;
@@ -146,8 +137,7 @@ fn schedules_alone(
 
 /// The one work that is asked for, whole. None where there are two, or where an option of schedules stands without them.
 fn work_without(matches: &ArgMatches<'_>, sweep: bool, faults: bool) -> Option<Work>
-    ensures value { result ≡ work_without (found_of matches.now) sweep faults }
-    ensures most { IfSome result (λ work. IsBounded work) }
+    ensures { result ≡ work_without (found_of matches.now) sweep faults }
 {
     let seed = matches.get_str(SEED);
     let show = matches.get_str(SHOW);
@@ -200,9 +190,7 @@ pub(crate) fn part_named(word: &str) -> Option<Part>
 
 /// A part of that work. None where it has none.
 fn parted(part: Part, work: Option<Work>) -> Option<Work>
-    requires most { IfSome work (λ w. IsBounded w) }
-    ensures value { result ≡ parted (Some part) work }
-    ensures most { IfSome result (λ w. IsBounded w) }
+    ensures { result ≡ parted (Some part) work }
 {
     let part = Some(part);
     match work {
@@ -214,9 +202,7 @@ fn parted(part: Part, work: Option<Work>) -> Option<Work>
 
 /// The part of that work that a word names; without a word, all of it. None where the word names none, or the work has none.
 fn with_part(word: Option<&str>, work: Option<Work>) -> Option<Work>
-    requires most { IfSome work (λ w. IsBounded w) }
-    ensures value { result ≡ with_part (option_map (λ s. s.now) word.entry) work }
-    ensures most { IfSome result (λ w. IsBounded w) }
+    ensures { result ≡ with_part (option_map (λ s. s.now) word.entry) work }
 {
     match word {
         None => work,
@@ -229,9 +215,7 @@ fn with_part(word: Option<&str>, work: Option<Work>) -> Option<Work>
 
 /// That work, of which only runs that are wrong are written. None where it is no bench.
 fn quietly(work: Option<Work>) -> Option<Work>
-    requires most { IfSome work (λ w. IsBounded w) }
-    ensures value { result ≡ quietly work }
-    ensures most { IfSome result (λ w. IsBounded w) }
+    ensures { result ≡ quietly work }
 {
     match work {
         Some(Work::Judge(plan)) => Some(Work::Judge(SweepPlan {
@@ -244,18 +228,14 @@ fn quietly(work: Option<Work>) -> Option<Work>
 
 /// That work, or with `--quiet` that of which only runs that are wrong are written.
 fn with_quiet(quiet: bool, work: Option<Work>) -> Option<Work>
-    requires most { IfSome work (λ w. IsBounded w) }
-    ensures value { result ≡ with_quiet quiet work }
-    ensures most { IfSome result (λ w. IsBounded w) }
+    ensures { result ≡ with_quiet quiet work }
 {
     if quiet { quietly(work) } else { work }
 }
 
 /// That work, where it counts what is wrong or differs. None where it does not.
 fn tested(work: Option<Work>) -> Option<Work>
-    requires most { IfSome work (λ w. IsBounded w) }
-    ensures value { result ≡ tested work }
-    ensures most { IfSome result (λ w. IsBounded w) }
+    ensures { result ≡ tested work }
 {
     match work {
         Some(Work::Judge(plan)) => Some(Work::Judge(plan)),
@@ -266,9 +246,7 @@ fn tested(work: Option<Work>) -> Option<Work>
 
 /// That work, of which with `--tap` tests are written.
 fn with_tap(tap: bool, work: Option<Work>) -> Option<Work>
-    requires most { IfSome work (λ w. IsBounded w) }
-    ensures value { result ≡ with_tap tap work }
-    ensures most { IfSome result (λ w. IsBounded w) }
+    ensures { result ≡ with_tap tap work }
 {
     if tap { tested(work) } else { work }
 }

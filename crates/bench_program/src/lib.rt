@@ -3,6 +3,7 @@
 #![tactic(auto)]
 
 mod asked;
+mod conflicts;
 mod digests;
 mod fault;
 mod orders;

@@ -1,12 +1,12 @@
 //! What is told on standard error beside what a work writes: which cause a refusal has, and that a bench tried or showed nothing.
 
 use crate::fault::BenchFault;
-use crate::orders::is_shown;
 use crate::usage::Work;
+use crate::works::shown_by;
 use bench_schedules::line_numbers;
 use board_model::Refusal;
 use command_line::{FileFault, explain_fault};
-use script_lang::{Line, Script, parse_script};
+use script_lang::{Line, parse_script};
 use std::alloc::Global;
 use std::io::{IsTerminal, Write};
 
@@ -37,21 +37,16 @@ fn tell_line<F: Write>(faults: &mut F, text: &str) {
 }
 
 /// Tells why no bench runs a script without a fault: it is refused 17.
-fn tell_no_bench<F: Write>(
-    alloc: Global,
-    work: Work,
-    script: &Script,
-    bytes: &[u8],
-    faults: &mut F,
-) {
+fn tell_no_bench<F: Write>(alloc: Global, work: Work, bytes: &[u8], faults: &mut F) {
+    let Ok(script) = parse_script(alloc, bytes) else {
+        return;
+    };
     if let Work::Compare(_) = work {
         tell_line(
             faults,
             "no stretch of `turn` lines is of two harts, so there is one order alone",
         );
-        return;
-    }
-    if let Some(place) = first_unplain(&script.lines) {
+    } else if let Some(place) = first_unplain(&script.lines) {
         let number = number_of(alloc, bytes, place);
         let _told = writeln!(
             faults,
@@ -62,16 +57,20 @@ fn tell_no_bench<F: Write>(
     }
 }
 
+/// Which number is out of its range: that of a run to show, where the script has no fault.
+fn why_out_of_range(alloc: Global, bytes: &[u8]) -> &'static str {
+    if parse_script(alloc, bytes).is_ok() {
+        "there is none of that number to show"
+    } else {
+        "a number of the board line is out of its range"
+    }
+}
+
 /// Tells which cause a refusal of a work has, where it has several.
 fn tell_cause<F: Write>(alloc: Global, work: Work, refusal: Refusal, bytes: &[u8], faults: &mut F) {
-    match (refusal, parse_script(alloc, bytes)) {
-        (Refusal::BadShape, Ok(_)) => {
-            tell_line(faults, "there is none of that number to show");
-        }
-        (Refusal::BadShape, Err(_)) => {
-            tell_line(faults, "a number of the board line is out of its range");
-        }
-        (Refusal::NotPlain, Ok(script)) => tell_no_bench(alloc, work, &script, bytes, faults),
+    match refusal {
+        Refusal::BadShape => tell_line(faults, why_out_of_range(alloc, bytes)),
+        Refusal::NotPlain => tell_no_bench(alloc, work, bytes, faults),
         _ => {}
     }
 }
@@ -79,14 +78,6 @@ fn tell_cause<F: Write>(alloc: Global, work: Work, refusal: Refusal, bytes: &[u8
 /// Whether the work is a bench, which may have nothing to try.
 fn is_bench(work: Work) -> bool {
     matches!(work, Work::Judge(_) | Work::Compare(_))
-}
-
-/// Whether no line of the script can show that an order differs, of a work that compares orders.
-fn shows_nothing(alloc: Global, work: Work, script: &[u8]) -> bool {
-    match (work, parse_script(alloc, script)) {
-        (Work::Compare(_), Ok(script)) => !is_shown(&script.lines),
-        _ => false,
-    }
 }
 
 /// Whether what the number of the refusal means is more than its cause says: 17 means what it says of a script alone.
@@ -129,7 +120,7 @@ fn tell_nothing<F: Write>(
     if is_bench(work) && !is_tried {
         tell_line(faults, "nothing was tried");
     }
-    if shows_nothing(alloc, work, script) {
+    if let Ok(false) = shown_by(alloc, work, script) {
         tell_line(faults, "nothing is shown");
     }
 }

@@ -186,7 +186,7 @@ fn tell_traps_of<R: Threads + Sync, F: Write>(
     faults: &mut F,
 ) {
     if let Work::Report(_) = work {
-        let _told = tell_traps::<R, F>(alloc, script, payloads, faults);
+        tell_traps::<R, F>(alloc, script, payloads, faults);
     }
 }
 

@@ -1,11 +1,11 @@
 //! The lines of a bench as the Test Anything Protocol has them.
 
-ghost use Rattle.std.specs.Prelude.{◌≡◌, ◌+◌, ◌++◌, ◌==◌, ◌≤◌, ◌<◌, ◌^◌, ◌∷◌, [], map, length, codes, IfOk, OnOk};
-ghost use Rattle.std.specs.List.{slice_split};
+ghost use Rattle.std.specs.Prelude.{◌≡◌, ◌+◌, ◌++◌, ◌≤◌, ◌<◌, ◌^◌, ◌∷◌, [], map, length, codes, IfOk, OnOk};
 ghost use Rattle.std.specs.Io.KnownBytes.{Appends};
 ghost use Rattle.bench_program.specs.Taps.{counts_text, failed_count, failed_lines, failed_text, has_word, last_behind, last_of_two, shown_text, skip_text, tap_lines, tap_text, tells_apart, well_word};
 
-use std::alloc::{AllocError, Global};
+use bench_schedules::text_lines;
+use std::alloc::Global;
 use std::io::{self, Write};
 
 /// What stands in a line of a bench before what the script's own run said.
@@ -39,13 +39,6 @@ fn skip_text(line: &[u8]) -> &'static [u8]
     } else {
         b""
     }
-}
-
-/// The lines of a text. After a line feed at its end there is one more, which is empty.
-fn parts(alloc: Global, text: &[u8]) -> Result<Vec<&[u8]>, AllocError>
-    ensures { IfOk result (λ v. map (λ w. w.now) v.items ≡ slice_split (λ b. b == 10) text.now) }
-{
-    text.split(|b| *b == b'\n').collect(alloc)
 }
 
 /// Writes a line that tells of a difference, as a test that failed.
@@ -177,6 +170,6 @@ pub fn write_tap<W: Write>(
 ) -> io::Result<()>
     ensures ok { OnOk result (Appends (W.contents out.old) (W.contents out.new) (tap_text well shown text.now)) }
 {
-    let lines = parts(alloc, text)?;
+    let lines = text_lines(alloc, text)?;
     write_lines(out, well, shown, &lines)
 }

@@ -7,7 +7,7 @@ ghost use Rattle.bench_report.specs.Lives.{IsSound};
 
 use bench_report::{LiveBench, Setting, lane_by_lane};
 use board::Payloads;
-use board_model::{HartId, Refusal, Value};
+use board_model::{HartId, Value};
 use crew::Crew;
 use machine::{Did, MachineLine, Word};
 use report_lines::{Answer, Printed};
@@ -54,30 +54,24 @@ fn turns_of(line: &Line) -> u64 {
     }
 }
 
-/// What a look shows of a hart; None where the board is off.
-fn shown<C: Crew>(
-    setting: &Setting<'_, C>,
-    live: &mut LiveBench,
-    look: Look,
-) -> Result<Option<u64>, AllocError>
+/// What a look shows of a hart; None where the board is off, or memory is refused.
+fn shown<C: Crew>(setting: &Setting<'_, C>, live: &mut LiveBench, look: Look) -> Option<u64>
     requires range { IsLookInRange setting.now.shape.now look }
     requires sound { IsSound live.old }
     ensures sound { IsSound live.new }
 {
-    let answer = live.run(setting, &Line::Show(look))?;
+    let Ok(answer) = live.run(setting, &Line::Show(look)) else {
+        return None;
+    };
     match answer.line {
-        Printed::Shown(MachineLine::Pc(_, value)) => Ok(Some(value)),
-        Printed::Shown(MachineLine::Csr(_, _, value)) => Ok(Some(value)),
-        _ => Ok(None),
+        Printed::Shown(MachineLine::Pc(_, value)) => Some(value),
+        Printed::Shown(MachineLine::Csr(_, _, value)) => Some(value),
+        _ => None,
     }
 }
 
-/// Where that hart stands; None where the board is off.
-fn trap_of<C: Crew>(
-    setting: &Setting<'_, C>,
-    live: &mut LiveBench,
-    hart: HartId,
-) -> Result<Option<Trap>, AllocError>
+/// Where that hart stands; None where the board is off, or memory is refused.
+fn trap_of<C: Crew>(setting: &Setting<'_, C>, live: &mut LiveBench, hart: HartId) -> Option<Trap>
     requires hart { hart < setting.now.shape.now.harts }
     requires sound { IsSound live.old }
     ensures sound { IsSound live.new }
@@ -86,30 +80,23 @@ fn trap_of<C: Crew>(
     let handler = shown(setting, live, Look::Csr(hart, STVEC))?;
     let at = shown(setting, live, Look::Csr(hart, SEPC))?;
     let cause = shown(setting, live, Look::Csr(hart, SCAUSE))?;
-    match (pc, handler, at, cause) {
-        (Some(pc), Some(handler), Some(at), Some(cause)) => Ok(Some(Trap {
-            pc,
-            handler,
-            at,
-            cause,
-        })),
-        _ => Ok(None),
-    }
+    Some(Trap {
+        pc,
+        handler,
+        at,
+        cause,
+    })
 }
 
 /// Whether the hart has just come to its handler from the handler's first instruction; not where the board is off.
-fn traps_at_handler<C: Crew>(
-    setting: &Setting<'_, C>,
-    live: &mut LiveBench,
-    hart: HartId,
-) -> Result<bool, AllocError>
+fn traps_at_handler<C: Crew>(setting: &Setting<'_, C>, live: &mut LiveBench, hart: HartId) -> bool
     requires hart { hart < setting.now.shape.now.harts }
     requires sound { IsSound live.old }
     ensures sound { IsSound live.new }
 {
-    match trap_of(setting, live, hart)? {
-        Some(now) => Ok(now.is_from(now.handler)),
-        None => Ok(false),
+    match trap_of(setting, live, hart) {
+        Some(now) => now.is_from(now.handler),
+        None => false,
     }
 }
 
@@ -121,21 +108,21 @@ fn is_made(answer: &Answer) -> bool {
     )
 }
 
-/// A turn of that hart. Answers where it stands then, and whether the turn was made; None where the board is off.
+/// A turn of that hart. Answers where it stands then, and whether the turn was made; None where the board is off, or memory is refused.
 fn turn_of<C: Crew>(
     setting: &Setting<'_, C>,
     live: &mut LiveBench,
     hart: HartId,
-) -> Result<Option<(Trap, bool)>, AllocError>
+) -> Option<(Trap, bool)>
     requires hart { hart < setting.now.shape.now.harts }
     requires sound { IsSound live.old }
     ensures sound { IsSound live.new }
 {
-    let answer = live.run(setting, &Line::Turn(hart, 1))?;
-    match trap_of(setting, live, hart)? {
-        Some(now) => Ok(Some((now, is_made(&answer)))),
-        None => Ok(None),
-    }
+    let Ok(answer) = live.run(setting, &Line::Turn(hart, 1)) else {
+        return None;
+    };
+    let now = trap_of(setting, live, hart)?;
+    Some((now, is_made(&answer)))
 }
 
 /// The trap from which on a hart only traps, in `count` turns from there on; None where there is none.
@@ -144,27 +131,23 @@ fn first_trap<C: Crew>(
     live: &mut LiveBench,
     hart: HartId,
     count: u32,
-) -> Result<Option<Trap>, AllocError>
+) -> Option<Trap>
     requires hart { hart < setting.now.shape.now.harts }
     requires sound { IsSound live.old }
 {
-    let Some(mut before) = trap_of(setting, live, hart)? else {
-        return Ok(None);
-    };
+    let mut before = trap_of(setting, live, hart)?;
     let mut first = before;
     for _ in 0..count {
-        let Some((now, made)) = turn_of(setting, live, hart)? else {
-            return Ok(None);
-        };
+        let (now, made) = turn_of(setting, live, hart)?;
         if made && now.is_from(before.pc) {
             if before.pc == now.handler {
-                return Ok(Some(first));
+                return Some(first);
             }
             first = now;
         }
         before = now;
     }
-    Ok(None)
+    None
 }
 
 /// Runs those lines.
@@ -190,14 +173,16 @@ fn first_trap_after<C: Crew>(
     payloads: &Payloads,
     hart: HartId,
     count: u32,
-) -> Result<Option<Trap>, AllocError>
+) -> Option<Trap>
     requires ranges { All (IsLineInRange setting.now.shape.now) lines.now }
     requires hart { hart < setting.now.shape.now.harts }
 {
-    let mut live = LiveBench::blank(setting.alloc, setting.shape, payloads)?;
+    let Ok(mut live) = LiveBench::blank(setting.alloc, setting.shape, payloads) else {
+        return None;
+    };
     let found = match run_lines(setting, lines, &mut live) {
         Ok(()) => first_trap(setting, &mut live, hart, count),
-        Err(refused) => Err(refused),
+        Err(_) => None,
     };
     live.release();
     found
@@ -220,22 +205,20 @@ fn trap_in_row<C: Crew>(
     lines: &[Line],
     place: usize,
     payloads: &Payloads,
-) -> Result<Option<(HartId, Trap)>, AllocError>
+) -> Option<(HartId, Trap)>
     requires ranges { All (IsLineInRange setting.now.shape.now) lines.now }
     requires place { place < length lines.now }
     requires sound { IsSound live.old }
     ensures sound { IsSound live.new }
 {
     let &Line::Turn(hart, count) = &lines[place] else {
-        return Ok(None);
+        return None;
     };
-    if !traps_at_handler(setting, live, hart)? {
-        return Ok(None);
+    if !traps_at_handler(setting, live, hart) {
+        return None;
     }
-    match first_trap_after(setting, &lines[..place], payloads, hart, count)? {
-        Some(first) => Ok(Some((hart, first))),
-        None => Ok(None),
-    }
+    let first = first_trap_after(setting, &lines[..place], payloads, hart, count)?;
+    Some((hart, first))
 }
 
 /// Whether a line is a row of a hart of which it was told.
@@ -246,14 +229,14 @@ fn is_told(told: &[bool; 8], line: &Line) -> bool {
     }
 }
 
-/// Runs those lines, and tells of each hart that comes to trap at its own handler for ever.
+/// Runs those lines, and tells of each hart that comes to trap at its own handler for ever. Ends where memory is refused.
 fn tell_while_running<C: Crew, F: Write>(
     setting: &Setting<'_, C>,
     lines: &[Line],
     live: &mut LiveBench,
     payloads: &Payloads,
     faults: &mut F,
-) -> Result<(), AllocError>
+)
     requires ranges { All (IsLineInRange setting.now.shape.now) lines.now }
     requires sound { IsSound live.old }
 {
@@ -262,51 +245,43 @@ fn tell_while_running<C: Crew, F: Write>(
     for place in 0..lines.len() {
         let line = &lines[place];
         let Some(less) = left.checked_sub(turns_of(line)) else {
-            return Ok(());
+            return;
         };
         left = less;
-        live.run(setting, line)?;
+        if live.run(setting, line).is_err() {
+            return;
+        }
         if is_told(&told, line) {
             continue;
         }
-        if let Some((hart, first)) = trap_in_row(setting, live, lines, place, payloads)? {
+        if let Some((hart, first)) = trap_in_row(setting, live, lines, place, payloads) {
             tell_trap(faults, hart, first);
             told[hart.index()] = true;
         }
     }
-    Ok(())
-}
-
-/// Tells of each hart that comes to trap at its own handler for ever in those lines, over a blank bench.
-fn tell_traps_of<C: Crew, F: Write>(
-    setting: &Setting<'_, C>,
-    lines: &[Line],
-    payloads: &Payloads,
-    faults: &mut F,
-) -> Result<(), AllocError>
-    requires ranges { All (IsLineInRange setting.now.shape.now) lines.now }
-{
-    let mut live = LiveBench::blank(setting.alloc, setting.shape, payloads)?;
-    let told = tell_while_running(setting, lines, &mut live, payloads, faults);
-    live.release();
-    told
 }
 
 /// Tells of each hart of a script that comes to trap at its own handler for ever, which a report does not show: the cause and the
-/// place of the trap with which that began. The script is run again, with these payloads in the slots, for some first turns.
+/// place of the trap with which that began. The script is run again, with these payloads in the slots, for some first turns. Where memory
+/// is refused, no more is told.
 pub fn tell_traps<R: Threads + Sync, F: Write>(
     alloc: Global,
     script: &[u8],
     payloads: &Payloads,
     faults: &mut F,
-) -> Result<(), Refusal> {
-    let script = parse_script(alloc, script)?;
+) {
+    let Ok(script) = parse_script(alloc, script) else {
+        return;
+    };
+    let Ok(mut live) = LiveBench::blank(alloc, &script.shape, payloads) else {
+        return;
+    };
     let crew = lane_by_lane::<R>();
     let setting = Setting {
         alloc,
         crew: &crew,
         shape: &script.shape,
     };
-    tell_traps_of(&setting, &script.lines, payloads, faults)?;
-    Ok(())
+    tell_while_running(&setting, &script.lines, &mut live, payloads, faults);
+    live.release();
 }

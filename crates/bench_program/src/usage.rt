@@ -5,9 +5,10 @@ ghost use Rattle.clap.specs.Words.{app_of, found_of, kind_of, rule_of};
 ghost use Rattle.clap.specs.declared.builder.value_parser.ValueParser.{ValueParser};
 ghost use Rattle.command_line.specs.Kinds.{no_work};
 ghost use Rattle.command_line.specs.Parses.{AreParsed};
-ghost use Rattle.bench_program.specs.Usage.{count_rule, crew_rule, jobs_rule, part_named, sbibench, script_rule, Flags, IsBounded, with_benches, with_manners, with_schedules, with_script, with_shown, work_asked, AreApart, AreOptions, IsFlag, IsNamedBy, NamesConflict, NamesNoWork};
+ghost use Rattle.bench_program.specs.Usage.{count_rule, crew_rule, jobs_rule, sbibench, script_rule, Flags, IsBounded, with_benches, with_manners, with_schedules, with_script, with_shown, work_asked, AreApart, AreOptions, IsFlag, IsNamedBy, NamesConflict, NamesNoWork};
 
-use crate::asked::{jobs_asked, part_named, tap_asked, work_asked};
+use crate::asked::{jobs_asked, tap_asked, work_asked};
+use crate::conflicts::conflict;
 use bench_schedules::SchedulePlan;
 use bench_sweep::{SweepPlan, WantedRow};
 use board_model::refusal_lines;
@@ -308,70 +309,6 @@ fn command<'a>(alloc: Global) -> Result<Command<'a>, AllocError>
         return Err(AllocError);
     };
     with_payloads(alloc, command)
-}
-
-/// The text that says why `--part` is out of place, or its word names no part; `counts` says whether it may stand there.
-fn misplaced_part(word: Option<&str>, counts: bool) -> Option<&'static str> {
-    let word = word?;
-    if !counts {
-        return Some("--part goes with --sweep, --faults or --schedules alone");
-    }
-    if part_named(word).is_none() {
-        return Some("--part takes K/N, K from 1 to N, and N up to 4096");
-    }
-    None
-}
-
-/// The text that says why an option is out of place that says which runs are made and written, and how.
-fn misplaced(matches: &ArgMatches<'_>) -> Option<&'static str> {
-    let judges = matches.get_flag(SWEEP) || matches.get_flag(FAULTS);
-    let compares = matches.get_str(SCHEDULES).is_some();
-    let shows = matches.get_str(SHOW).is_some() || matches.get_str(SHRINK).is_some();
-    let counts = !shows && (judges || compares);
-    if let Some(text) = misplaced_part(matches.get_str(PART), counts) {
-        return Some(text);
-    }
-    if matches.get_flag(QUIET) && (shows || !judges) {
-        return Some("--quiet goes with --sweep or --faults alone");
-    }
-    if matches.get_flag(TAP) && !counts {
-        return Some("--tap goes with --sweep, --faults or --schedules alone");
-    }
-    None
-}
-
-/// The text that says why words name no one work that ask for no schedules.
-fn conflict_without_schedules(matches: &ArgMatches<'_>) -> &'static str {
-    if matches.get_str(SHRINK).is_some() {
-        return "--shrink goes with --schedules";
-    }
-    if matches.get_str(SEED).is_none() && matches.get_str(SHOW).is_none() {
-        return "--sweep cannot be used with --faults";
-    }
-    "--seed goes with --schedules, and --show with that, --sweep or --faults"
-}
-
-/// The text that says why words name no one work that ask for schedules.
-fn conflict_of_schedules(matches: &ArgMatches<'_>) -> &'static str {
-    if matches.get_flag(SWEEP) || matches.get_flag(FAULTS) {
-        return "--schedules cannot be used with --sweep or --faults";
-    }
-    if matches.get_str(SHRINK).is_some() {
-        return "--shrink takes the number of one of the N schedules, and cannot be used with --show";
-    }
-    "--seed takes a number below 2^64, and --show the number of one of the N schedules"
-}
-
-/// The text that says why the words name no one work.
-fn conflict(matches: &ArgMatches<'_>) -> &'static str {
-    if let Some(text) = misplaced(matches) {
-        return text;
-    }
-    if matches.get_str(SCHEDULES).is_none() {
-        conflict_without_schedules(matches)
-    } else {
-        conflict_of_schedules(matches)
-    }
 }
 
 /// The words as the command's parser reads them, the program's name first.

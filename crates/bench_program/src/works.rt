@@ -110,6 +110,31 @@ fn judge<R: Threads + Sync, P: Progress, W: Write>(
     }
 }
 
+/// Writes the report of the script, whose lanes are written so.
+fn report<R: Threads + Sync, W: Write>(
+    alloc: Global,
+    threads: &R,
+    savers: Savers,
+    payloads: Payloads,
+    script: &[u8],
+    out: &mut W,
+) -> Result<u64, Refusal>
+    ensures made { IfOk result (λ differ. (differ ≡ 0)
+        × IsReported payloads script.now (W.contents out.old) (W.contents out.new)) }
+    ensures refused { IfErr result (IsAnyRefusal script.now) }
+{
+    match savers {
+        Savers::Threads => {
+            let savers = crew::Threads::new(threads);
+            reported(run_left_with(alloc, script, &savers, payloads, out))
+        }
+        Savers::Turns => {
+            let crew = lane_by_lane::<R>();
+            reported(run_left_with(alloc, script, &crew, payloads, out))
+        }
+    }
+}
+
 /// Makes what the work makes of the script, with these payloads in the slots. Of a long run it is told how far that is.
 pub fn make<R: Threads + Sync, P: Progress + Drop, W: Write>(
     alloc: Global,
@@ -127,14 +152,7 @@ pub fn make<R: Threads + Sync, P: Progress + Drop, W: Write>(
 {
     let jobs = Jobs::telling(threads, jobs_of(threads, options.jobs), progress);
     match options.work {
-        Work::Report(Savers::Threads) => {
-            let savers = crew::Threads::new(threads);
-            reported(run_left_with(alloc, script, &savers, payloads, out))
-        }
-        Work::Report(Savers::Turns) => {
-            let crew = lane_by_lane::<R>();
-            reported(run_left_with(alloc, script, &crew, payloads, out))
-        }
+        Work::Report(savers) => report(alloc, threads, savers, payloads, script, out),
         Work::Judge(plan) => judge(&jobs, alloc, plan, script, payloads, out),
         Work::ShowRow(row) => all_well(show_row::<R, W>(alloc, row, script, payloads, out)),
         Work::Compare(plan) => compare(&jobs, alloc, plan, script, &payloads, out),
@@ -157,7 +175,7 @@ pub fn is_kept(options: &BenchOptions) -> bool
 }
 
 /// Whether a line of the script can show that an order differs, where the work compares orders.
-fn shown_by(alloc: Global, work: Work, script: &[u8]) -> Result<bool, AllocError>
+pub fn shown_by(alloc: Global, work: Work, script: &[u8]) -> Result<bool, AllocError>
     ensures shown { IfOk result (λ shown. shown ≡ shown_by work script.now) }
 {
     match work {

@@ -16,7 +16,7 @@ asked f sweep faults runs seed show shrink work is runs_is seed_is show_is shrin
     ∙ ap (λ s. without_benches sweep faults (schedules_named runs (first_value f (codes "seed")) (first_value f (codes "show")) s)) shrink_is
     ∙ ap (λ r. work_named sweep faults r (first_value f (codes "seed")) (first_value f (codes "show")) (first_value f (codes "shrink")) savers) runs_is
 
-pub returns-in-Some-clause-value : goal.returns-in-Some-clause-value
-returns-in-Some-clause-value c =
-    asked (found_of c.args.matches.now) c.args.sweep c.args.faults c.in-Some.runs.now _ _ _ c.schedules_alone.result c.schedules_alone.ensures.value
+pub returns-in-Some : goal.returns-in-Some
+returns-in-Some c =
+    asked (found_of c.args.matches.now) c.args.sweep c.args.faults c.in-Some.runs.now _ _ _ c.schedules_alone.result c.schedules_alone.ensures
     (sym (ap (option_map (λ s. s.now)) c.in-Some.is) ∙ c.get_str.ensures) c.get_str-seed.ensures c.get_str-show.ensures c.get_str-shrink.ensures
