@@ -39,7 +39,6 @@ use std::sync::{Mutex, Wait};
 use std::thread::Threads;
 use store::{Saving, Store};
 use susp::{Bus, Doze};
-use tallies::Watch;
 
 /// The harts of a board that is on, the one seat of them all, the doze of their bus, and how many turns each makes at most.
 #[derive(Drop)]
@@ -74,6 +73,13 @@ pub(crate) struct ConsoleSide<J: Journal, I: Read + Drop, W: Write + Drop> {
     pub(crate) heard: Heard<J>,
 }
 
+/// A console that is to be begun, and where it says why it halts the harts.
+#[derive(Drop)]
+struct Attending<'a, 'c, J: Threaded, I: Read + Drop, W: Write + Drop> {
+    side: ConsoleSide<J, I, W>,
+    reason: &'a Mutex<HaltReason<'c, J>>,
+}
+
 /// A console that has left, and what it said of the harts.
 #[derive(Drop)]
 pub(crate) struct Talked<'c, J: Threaded, I: Read + Drop, W: Write + Drop> {
@@ -89,14 +95,15 @@ fn attend<'c, R: Wait, D: Disk + Drop, J: Threaded, I: Read + Drop, W: Write + D
     rt: &R,
     bus: &Mutex<SharedBus<J>>,
     store: &Mutex<SharedStore<D, J>>,
-    reason: &Mutex<HaltReason<'c, J>>,
-    side: ConsoleSide<J, I, W>,
+    attending: Attending<'_, 'c, J, I, W>,
 ) -> Talked<'c, J, I, W>
     ensures { Talks J.found J.issued result.left
-        (dialogue_ends (I.remaining side.streams.input) (output_of W.contents side.streams.out) (party side.part.told side.heard))
+        (dialogue_ends (I.remaining attending.entry.side.streams.input) (output_of W.contents attending.entry.side.streams.out)
+        (party attending.entry.side.part.told attending.entry.side.heard))
         (dialogue_ends (I.remaining result.side.streams.input) (output_of W.contents result.side.streams.out)
         (party result.side.part.told result.side.heard)) }
 {
+    let Attending { side, reason } = attending;
     let ConsoleSide {
         streams,
         part,
@@ -209,15 +216,10 @@ pub(crate) fn run_board<
         turns: on.turns,
     };
     let closing = Closing::new(lock, halt);
+    let reason = Mutex::new(closing.reason(first));
     let shared = SharedHardware { shape, tables, bus };
     let (whole, shared, driven) = drive_beside_console(
-        rt,
-        alloc,
-        (&closing, first),
-        shared,
-        whole,
-        booted,
-        side,
+        rt, alloc, &reason, shared, whole, booted, side,
     );
     match driven {
         Ok((loops, talked)) => after_console(rt, (whole, shared), loops, talked, boot, room),
@@ -241,6 +243,7 @@ type Driven<'c, J, I, W> = Result<
 /// Runs the harts on threads and the console beside them, with the bus and the store behind their locks, until all have ended.
 /// Then they are shared no longer, and come back with the tables.
 fn drive_beside_console<
+    'r,
     'c,
     D: Disk + Drop + Send,
     J: Threaded + Send + Sync,
@@ -250,14 +253,13 @@ fn drive_beside_console<
 >(
     rt: &R,
     alloc: Global,
-    halting: (&'c Closing<J>, Watch),
+    reason: &'r Mutex<HaltReason<'c, J>>,
     hardware: SharedHardware<J>,
     whole: Unshared<D, J>,
     booted: BootedHarts<J>,
     side: ConsoleSide<J, I, W>,
 ) -> (Unshared<D, J>, SharedHardware<J>, Driven<'c, J, I, W>)
     requires none { length (parts_with whole) ≡ 0 }
-    requires first { halting.1 ≡ watched J.halt true 0 None }
     requires shape { hardware.shape ≡ J.size }
     requires turns { booted.turns ≡ J.turns }
     requires parts { vec_len booted.parts ≡ vec_len booted.harts }
@@ -280,9 +282,8 @@ fn drive_beside_console<
     let SharedHardware { shape, tables, bus } = hardware;
     let bus_lock: Mutex<SharedBus<J>> = Mutex::new(bus);
     let store_lock: Mutex<SharedStore<D, J>> = Mutex::new(whole.share());
-    let (closing, first) = halting;
-    let reason_lock: Mutex<HaltReason<'c, J>> = Mutex::new(closing.reason(first));
-    let (bus, store, reason) = (&bus_lock, &store_lock, &reason_lock);
+    let (bus, store) = (&bus_lock, &store_lock);
+    let closing = reason.lock(rt).closing();
     let crew = crew::Threads::new(rt);
     let board = SharedBoard {
         saving: Saving { alloc, crew: &crew },
@@ -298,15 +299,24 @@ fn drive_beside_console<
         &Open,
         board,
         booted,
-        side,
-        move |side: ConsoleSide<J, I, W>| -> Talked<'_, J, I, W>
+        Attending { side, reason },
+        move |given| -> Talked<'_, J, I, W>
             ensures { Talks J.found J.issued result.left
-                (dialogue_ends (I.remaining side.streams.input) (output_of W.contents side.streams.out)
-                (party side.part.told side.heard))
+                (dialogue_ends (I.remaining given.entry.side.streams.input) (output_of W.contents given.entry.side.streams.out)
+                (party given.entry.side.part.told given.entry.side.heard))
                 (dialogue_ends (I.remaining result.side.streams.input) (output_of W.contents result.side.streams.out)
                 (party result.side.part.told result.side.heard)) }
-        { attend(rt, bus, store, reason, side) },
+        { attend(rt, bus, store, given) },
     );
+    let driven = match driven {
+        Ok(done) => Ok(done),
+        Err(back) => Err(Undriven {
+            side: back.side.side,
+            refusal: back.refusal,
+            loops: back.loops,
+            parts: back.parts,
+        }),
+    };
     let whole = store_lock.into_inner().unshare();
     let bus = bus_lock.into_inner();
     (whole, SharedHardware { shape, tables, bus }, driven)
