@@ -324,6 +324,7 @@ fn driven_as<J: Threaded + Send + Sync, R: Threads + Wait + Clock + Abort + Sync
     let (lock, (halt, first)) = halting;
     let closing = Closing::new(lock, halt);
     let reason = Mutex::new(closing.reason(first));
+    let closing = reason.lock(rt).closing();
     let crew = crew::Threads::new(rt);
     let (rung, told, size) = (&bus, &store, *shape);
     let board = SharedBoard {
@@ -332,7 +333,7 @@ fn driven_as<J: Threaded + Send + Sync, R: Threads + Wait + Clock + Abort + Sync
         shape: &size,
         bus: &bus,
         store: &store,
-        closing: &closing,
+        closing,
         reason: &reason,
     };
     let done = drive(
