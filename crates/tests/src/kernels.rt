@@ -70,10 +70,8 @@ static LONG: [u8; 1_048_577] = [0; 1_048_577];
 #[test]
 fn no_kernel_is_refused(rt: HostRuntime) {
     let cut_off = fault_of(&rt, rt.alloc(), b"\x7fELF");
-    same(&rt, cut_off, Some(KernelFault::Elf(ElfFault::CutOff)));
-    same(
-        &rt,
-        fault_of(&rt, rt.alloc(), &LONG),
-        Some(KernelFault::TooLong),
-    );
+    let is_cut_off = matches!(cut_off, Some(KernelFault::Elf(ElfFault::CutOff)));
+    same(&rt, is_cut_off, true);
+    let long = fault_of(&rt, rt.alloc(), &LONG);
+    same(&rt, matches!(long, Some(KernelFault::TooLong)), true);
 }
