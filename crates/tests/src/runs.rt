@@ -114,7 +114,7 @@ fn examined(rt: &impl Abort, files: MemoryFiles, words: &[&str], room: usize) ->
 }
 
 /// What comes of that command line over the disk of these bytes, and all else as that run has it.
-fn came<R: Abort + Threads + Wait + Sync>(
+fn run_of<R: Abort + Threads + Wait + Sync>(
     rt: &R,
     alloc: Global,
     disk: Vec<u8>,
@@ -145,7 +145,7 @@ pub fn all_left<R: Abort + Threads + Wait + Sync>(
 ) -> Vec<u8> {
     let mut disk = Vec::from_slice(alloc, disk).expect(rt, "memory");
     for run in runs {
-        let came = came(rt, alloc, disk, run.line, run);
+        let came = run_of(rt, alloc, disk, run.line, run);
         same(rt, came.status, run.status);
         same(rt, zeros_behind(&came.told, run.told), Some(run.zeros));
         same(rt, came.faults.as_slice(), run.faults);
@@ -172,5 +172,5 @@ pub fn status_of<R: Abort + Threads + Wait + Sync>(
     alloc: Global,
     line: &'static str,
 ) -> u8 {
-    came(rt, alloc, Vec::new(alloc), line, &ANY).status
+    run_of(rt, alloc, Vec::new(alloc), line, &ANY).status
 }
