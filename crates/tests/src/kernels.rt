@@ -63,15 +63,13 @@ fn fault_of<R: Abort + Threads + Sync>(rt: &R, alloc: Global, bytes: &[u8]) -> O
     }
 }
 
-/// More bytes than any RAM has.
-static LONG: [u8; 1_048_577] = [0; 1_048_577];
-
 /// An ELF file of nothing but its mark, and more bytes than any RAM has.
 #[test]
 fn no_kernel_is_refused(rt: HostRuntime) {
     let cut_off = fault_of(&rt, rt.alloc(), b"\x7fELF");
     let is_cut_off = matches!(cut_off, Some(KernelFault::Elf(ElfFault::CutOff)));
     same(&rt, is_cut_off, true);
-    let long = fault_of(&rt, rt.alloc(), &LONG);
+    let bytes = vec![in rt.alloc(); 0u8; 1_048_577].expect(&rt, "memory");
+    let long = fault_of(&rt, rt.alloc(), bytes.as_slice());
     same(&rt, matches!(long, Some(KernelFault::TooLong)), true);
 }
