@@ -3,7 +3,7 @@ use Rattle.std.proofs.Common.{◌≡◌, ◌≤◌, ℕ, Bool, true, false, List
 use Rattle.std.proofs.lemmas.Bool.Decides.{nat_tests}
 use Rattle.clap.specs.Words.{first_value}
 use Rattle.clap.specs.declared.parser.matches.Found.{Found}
-use Rattle.jobs.specs.declared.part.Part.{Part}
+use Rattle.crew.specs.declared.part.Part.{Part}
 use Rattle.script_lang.specs.Words.{number_of, seed_of}
 use Rattle.bench_sweep.specs.declared.points.BenchKind.{BenchKind}
 use Rattle.bench_program.specs.Usage.{Flags, IsBounded, bench_or_row, compare_or_show, number_up_to, part_named, parted, row_numbered, row_of, savers_of, schedules_by, show_number, shrink_number, with_part, with_quiet, with_tap, without_benches, without_schedules, work_asked, work_named, work_of_flags, work_without}

@@ -2,7 +2,7 @@
 use Rattle.std.proofs.Common.{◌≡◌, ◌∙◌, ◌⊎◌, inl, inr, ℕ, ◌<◌, ◌≤◌, Option, None, Some, MatchOption, refl, ap, subst, arith}
 use denote.Struct.Props.{props}
 use Rattle.std.proofs.lemmas.Bool.{cases_lt}
-use Rattle.jobs.specs.declared.part.Part.{Part}
+use Rattle.crew.specs.declared.part.Part.{Part}
 use Rattle.bench_program.specs.Usage.{part_between, part_if}
 
 -- each of the three facts has one proof at most

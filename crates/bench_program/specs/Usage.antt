@@ -16,7 +16,7 @@ use Rattle.command_line.specs.Options.{option_rule, path_named, payload_paths, v
 use Rattle.command_line.specs.Parses.{AreParsed}
 use Rattle.command_line.specs.Programs.{named_app}
 use Rattle.command_line.specs.declared.NoWork.{NoWork}
-use Rattle.jobs.specs.declared.part.Part.{Part}
+use Rattle.crew.specs.declared.part.Part.{Part}
 use Rattle.bench_sweep.specs.Swept.{whole}
 use Rattle.bench_sweep.specs.declared.points.BenchKind.{BenchKind}
 use Rattle.bench_sweep.specs.declared.points.BenchKind.TheVariants.{Cuts, Fails}

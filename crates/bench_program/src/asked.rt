@@ -14,7 +14,7 @@ use crate::usage::{
 use bench_schedules::SchedulePlan;
 use bench_sweep::{BenchKind, SweepPlan, WantedRow};
 use clap::ArgMatches;
-use jobs::Part;
+use crew::Part;
 use script_lang::{number, seed_of};
 
 /// The crew that was chosen.

@@ -26,7 +26,7 @@ use board_model::Refusal;
 use command_line::{
     FileFault, NoWork, Pipe, ProgramFault, explain_fault, read_at_most, show_on, tell_fault,
 };
-use jobs::Progress;
+use crew::Progress;
 use std::alloc::Global;
 use std::convert::AsStr;
 use std::io::{self, BufReader, BufWriter, IsTerminal, Read, Write};

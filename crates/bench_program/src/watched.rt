@@ -4,7 +4,7 @@ ghost use Rattle.std.specs.Prelude.{◌≡◌, false};
 
 use crate::run_line::RunLine;
 use crate::usage::Work;
-use jobs::Progress;
+use crew::Progress;
 use std::cell::RefCell;
 use std::io::{IsTerminal, Write};
 use std::time::Clock;

@@ -20,7 +20,7 @@ use bench_schedules::{SchedulePlan, schedules, show, shrink};
 use bench_sweep::{SweepPlan, run_bench, show_row};
 use board::Payloads;
 use board_model::{Refusal, unwritten};
-use jobs::{Jobs, Progress};
+use crew::{Jobs, Progress};
 use script_lang::parse_script;
 use std::alloc::{AllocError, Global};
 use std::io::{self, Write};

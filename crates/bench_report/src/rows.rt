@@ -8,7 +8,7 @@ use machine::{Did, MachineLine, Word};
 use report_lines::{Answer, Printed};
 
 /// What a row of turns of a hart did.
-#[derive(Clone, Copy, PartialEq, Eq, Drop)]
+#[derive(Clone, Copy, Drop)]
 pub enum TurnRow {
     /// The board is off, or has no such hart, and nothing was done.
     Off,

@@ -2,7 +2,7 @@
 use Rattle.std.proofs.Common.{◌≡◌, ◌∙◌, ◌≤◌, ◌+◌, ℕ, List, [], ◌∷◌, Option, length, refl, sym, subst, slice_index_or, arith}
 use Rattle.script_lang.specs.Scripts.{Script}
 use Rattle.report_lines.specs.declared.printed.Answer.{Answer}
-use Rattle.jobs.specs.Handed.{AreRows, TakesAll, Handed}
+use Rattle.crew.specs.Handed.{AreRows, TakesAll, Handed}
 use Rattle.bench_schedules.specs.Drawn.{IsDrawn, TellsDrawn}
 use Rattle.bench_schedules.specs.Numbers.{place_of_other}
 use Rattle.bench_schedules.specs.Schedules.{RunText, Wrote, differing}

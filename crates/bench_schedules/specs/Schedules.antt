@@ -4,8 +4,8 @@ use Rattle.std.specs.Fmt.{decimal}
 use Rattle.std.specs.List.{flat_map}
 use Rattle.std.specs.Io.KnownBytes.{Appends}
 use Rattle.board_model.specs.Shapes.{Size}
-use Rattle.jobs.specs.Parts.{begin_of, end_of, part_text}
-use Rattle.jobs.specs.declared.part.Part.{Part}
+use Rattle.crew.specs.Parts.{begin_of, end_of, part_text}
+use Rattle.crew.specs.declared.part.Part.{Part}
 use Rattle.script_lang.specs.Scripts.{Script, script_of}
 use Rattle.script_lang.specs.Spellings.{script_text, IsWritable}
 use Rattle.script_lang.specs.declared.line.Line.{Line}

@@ -8,7 +8,7 @@ ghost use Rattle.bench_schedules.specs.Told.{IsFirstApart, told_lines, told_text
 
 use crate::runs::Difference;
 use crate::told::{ToldApart, first_apart};
-use jobs::{Part, PartText};
+use crew::{Part, PartText};
 use std::alloc::{AllocError, Global};
 use std::io::{self, Write};
 

@@ -2,8 +2,8 @@
 use Rattle.std.proofs.Common.{◌≡◌, ◌≤◌, ◌<◌, ◌+◌, ◌-◌, ◌++◌, ◌∷◌, [], ℕ, List, false, length, take, drop, get_or, refl, sym, ◌∙◌, ap, subst, append_assoc, arith}
 use Rattle.std.proofs.lemmas.List.{length-take, length-drop, take-take, take_more}
 use Rattle.board_model.specs.Shapes.{Size}
-use Rattle.jobs.specs.Handed.{AreRows, TakesAll}
-use Rattle.jobs.proofs.HandedOn.{rows_both, taken_both}
+use Rattle.crew.specs.Handed.{AreRows, TakesAll}
+use Rattle.crew.proofs.HandedOn.{rows_both, taken_both}
 use Rattle.simdisk.specs.declared.SimDisk.{SimDisk}
 use Rattle.script_lang.specs.declared.line.Line.{Line}
 use Rattle.report_lines.specs.declared.printed.Answer.{Answer}

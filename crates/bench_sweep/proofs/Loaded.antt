@@ -2,7 +2,7 @@
 use Rattle.std.proofs.Common.{◌≡◌, ◌⊎◌, ℕ, true, false, inl, inr, List, Option, None, Some, Result, Ok, Err, IfOk, refl, sym, ◌∙◌, ap, subst, length}
 use Rattle.std.specs.Prelude.{is_some}
 use Rattle.board_model.specs.Durable.{DurableState, Image, IsWhole}
-use Rattle.board_model.specs.Plains.{HasMemory, state_in, IsPlainOf}
+use Rattle.board_model.specs.Plains.{HasMemory, IsPlainOf}
 use Rattle.board_model.specs.Shapes.{Size, IsSize, ram_bytes_of}
 use Rattle.board_model.specs.Views.{durable_of, head_of}
 use Rattle.board_model.specs.declared.durable.Durable.{Durable}

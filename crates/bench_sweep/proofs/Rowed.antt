@@ -7,7 +7,7 @@ use Rattle.board_model.specs.Shapes.{Size}
 use Rattle.script_lang.specs.declared.line.Line.{Line}
 use Rattle.bench_report.specs.Bench.{Bench}
 use Rattle.bench_report.specs.Happens.{unpowered}
-use Rattle.jobs.specs.Handed.{AreRows, TakesAll, Handed}
+use Rattle.crew.specs.Handed.{AreRows, TakesAll, Handed}
 use Rattle.bench_sweep.specs.declared.judging.PointRows.{PointRows}
 use Rattle.bench_sweep.specs.declared.points.BenchKind.{BenchKind}
 use Rattle.bench_sweep.specs.declared.points.Caller.{Caller}

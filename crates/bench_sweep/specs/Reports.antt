@@ -21,8 +21,8 @@ use Rattle.bench_sweep.specs.Runs.{RunsAt, Sits}
 use Rattle.bench_sweep.specs.Took.{RunTook, StandsOn}
 use Rattle.report_lines.specs.declared.printed.Answer.{Answer}
 use Rattle.bench_sweep.specs.Swept.{Cell, Spot, Writes, AreSwept, all_points, cell_of, own_points, rows_text, runs_at, runs_of}
-use Rattle.jobs.specs.Parts.{chunk_from}
-use Rattle.jobs.specs.declared.part.Part.{Part}
+use Rattle.crew.specs.Parts.{chunk_from}
+use Rattle.crew.specs.declared.part.Part.{Part}
 
 -- The report goes on in the same writer: the runs at these points were made, what the bench says of each was written, and each
 -- was counted. None was wrong, and `Is` holds of each row.

@@ -12,8 +12,8 @@ use Rattle.bench_sweep.specs.declared.judges.Sweep.{Sweep}
 use Rattle.bench_sweep.specs.declared.points.Caller.{Caller}
 use Rattle.bench_sweep.specs.declared.points.Caller.TheVariants.{Disk, Lane}
 use Rattle.bench_sweep.specs.declared.rows.Row.{Row}
-use Rattle.jobs.specs.Parts.{part_text}
-use Rattle.jobs.specs.declared.part.Part.{Part}
+use Rattle.crew.specs.Parts.{part_text}
+use Rattle.crew.specs.declared.part.Part.{Part}
 use lib.Chars.{codes}
 
 abbrev pub caller_text : Caller → List ℕ

@@ -3,8 +3,8 @@ use Rattle.std.specs.Prelude.{◌≡◌, ◌⊎◌, ◌+◌, ℕ, Bool, true, fa
 use Rattle.std.specs.List.{flat_map}
 use Rattle.std.specs.Io.KnownBytes.{Appends}
 use Rattle.disk.specs.Facts.{counted}
-use Rattle.jobs.specs.Parts.{own_of}
-use Rattle.jobs.specs.declared.part.Part.{Part}
+use Rattle.crew.specs.Parts.{own_of}
+use Rattle.crew.specs.declared.part.Part.{Part}
 use Rattle.simdisk.specs.declared.SimDisk.{SimDisk}
 use Rattle.simdisk.specs.declared.fill.Fill.{Fill}
 use Rattle.simdisk.specs.declared.fill.Fill.TheVariants.{Byte, Alternating, Old, New}

@@ -2,7 +2,7 @@
 
 ghost use Rattle.std.specs.Prelude.{◌≡◌, ◌≤◌, ◌<◌, ◌+◌, ◌-◌, ◌^◌, [], length, IfOk, OnOk};
 ghost use Rattle.bench_report.specs.Bench.{Bench};
-ghost use Rattle.jobs.specs.Handed.{AreRows};
+ghost use Rattle.crew.specs.Handed.{AreRows};
 ghost use Rattle.bench_sweep.specs.Reports.{IsOfCall, Judged, RunsAlong};
 ghost use Rattle.bench_sweep.specs.Along.{CameTold};
 ghost use Rattle.bench_sweep.specs.Runs.{Sits};
@@ -14,8 +14,7 @@ use crate::points::{Caller, Point};
 use crate::runner::Runner;
 use crate::site::{Going, Site};
 use crate::sites::run_lines;
-use crew::Crew;
-use jobs::{Chunk, Task, Window};
+use crew::{Chunk, Crew, Task, Window};
 use std::alloc::AllocError;
 
 /// The most calls of a chunk, and how many make it long beside what it costs to begin one.
@@ -228,7 +227,7 @@ impl<'a, 'b, C: Crew> RunsAtCalls<'a, 'b, C> {
 impl<'a, 'b, C: Crew + Sync> Task for RunsAtCalls<'a, 'b, C> {
     ghost use Rattle.std.specs.Prelude.{◌≡◌, true};
     ghost use Rattle.std.specs.Thread.{IsSync};
-    ghost use Rattle.jobs.specs.Handed.{IsChunk};
+    ghost use Rattle.crew.specs.Handed.{IsChunk};
     ghost use Rattle.bench_sweep.specs.Reports.{HasChunk, IsOfCall};
 
     type Row = Chunk<PointRows>;

@@ -1,7 +1,7 @@
 //! What a bench is asked to do.
 
 use crate::points::BenchKind;
-use jobs::Part;
+use crew::Part;
 
 /// What a bench is asked to do over a script.
 #[derive(Clone, Copy, Drop)]

@@ -8,7 +8,7 @@ ghost use Rattle.bench_sweep.specs.Swept.{rows_text};
 use crate::judges::Sweep;
 use crate::points::Caller;
 use board_model::StateText;
-use jobs::{Part, PartText};
+use crew::{Part, PartText};
 use report_lines::Answer;
 use simdisk::Fill;
 use std::fmt;

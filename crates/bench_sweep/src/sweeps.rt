@@ -15,7 +15,7 @@ ghost use Rattle.bench_sweep.specs.Made.{IsRunOf};
 ghost use Rattle.bench_sweep.specs.Rows.{sweep_text};
 ghost use Rattle.bench_sweep.specs.Swept.{IsPlainLine, IsNotPlain, NoBenchRuns, AreSwept, all_points, own_points, points_from, WroteAll, IsBenchOf};
 ghost use Rattle.bench_sweep.specs.Took.{RunTook};
-ghost use Rattle.jobs.specs.Parts.{window};
+ghost use Rattle.crew.specs.Parts.{window};
 ghost use Rattle.bench_sweep.specs.Reports.{Reports, ReportsAll, ReportsScript, RunsAlong, TakesPoint};
 
 use crate::begins::run_to_format;
@@ -33,8 +33,7 @@ use crate::site::Site;
 use bench_report::{Setting, lane_by_lane};
 use board::Payloads;
 use board_model::{Refusal, unwritten};
-use crew::Crew;
-use jobs::{Chunk, Jobs, Part, Progress, Sink, Window, hand_on_all};
+use crew::{Chunk, Crew, Jobs, Part, Progress, Sink, Window, hand_on_all};
 use script_lang::{Line, Script};
 use std::alloc::{AllocError, Global};
 use std::io::{self, Write};
@@ -70,7 +69,7 @@ impl<'a, W: Write> SweepReport<'a, W> {
 
 impl<'a, W: Write> Sink<Chunk<PointRows>> for SweepReport<'a, W> {
     ghost use Rattle.std.specs.Prelude.{◌≡◌, true};
-    ghost use Rattle.jobs.specs.Handed.{TakesAll};
+    ghost use Rattle.crew.specs.Handed.{TakesAll};
     ghost use Rattle.bench_sweep.specs.Reports.{TakesPoint};
 
     ghost takes = { λ old made new. (made.whole ≡ true) × TakesAll (TakesPoint W.contents) old made.rows.items new };

@@ -9,7 +9,7 @@ use std::alloc::{AllocError, Global};
 use std::io::{self, ErrorKind};
 
 /// What becomes of a file's call and of those after it.
-#[derive(Clone, Copy, Drop, PartialEq, Eq)]
+#[derive(Clone, Copy, Drop)]
 pub enum FileFate {
     /// That call fails, and the later ones don't.
     Fails,

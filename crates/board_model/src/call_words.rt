@@ -2,7 +2,7 @@
 
 /// The words of an SBI call (SBI specification 2.0, chapter 3). No call that the board has takes more than three
 /// arguments.
-#[derive(Clone, Copy, PartialEq, Eq, Drop)]
+#[derive(Clone, Copy, Drop)]
 pub struct CallWords {
     /// The extension, in a7.
     pub eid: u64,

@@ -16,7 +16,7 @@ enum ByteRead {
 }
 
 /// How the bytes of a line ended.
-#[derive(Clone, Copy, PartialEq, Eq, Drop)]
+#[derive(Clone, Copy, Drop)]
 pub enum LineEnd {
     /// With their line feed.
     Feed,

@@ -8,7 +8,7 @@ use board_model::{ConsoleCommand, Durable, Refusal, StateText};
 use std::fmt;
 
 /// The answer to a line, which prints without a line feed.
-#[derive(PartialEq, Eq, Drop)]
+#[derive(Drop)]
 pub enum Reply {
     /// `slot ok N`, or by the word of another command: its place among those of this life.
     Acknowledged(ConsoleCommand, u32),

@@ -11,7 +11,7 @@ use hart_threads::{Heard, Journal, SharedBus};
 use std::marker::{Brand, Model};
 
 /// What a call of the wake-up device came to. Nothing but a call makes one, so the console answers `wake` only after one.
-#[derive(PartialEq, Eq, Drop)]
+#[derive(Drop)]
 pub struct Waking {
     answered: Result<(), Refusal>,
 }

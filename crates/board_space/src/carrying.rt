@@ -106,7 +106,7 @@ fn find_rest(
     Ok(true)
 }
 
-/// What is remembered of `count` numbers of a row, from a place on, after what is in the other row. Whether all are.
+/// What is remembered of `count` numbers of a row, from a place on, after what is in the other row. It answers true where all are.
 fn find_numbers(
     memo: &Numbers,
     first: usize,
@@ -149,7 +149,7 @@ fn carry_rest(
     Ok(other)
 }
 
-/// The number of a hart of another store. Whether it is remembered.
+/// The number of a hart of another store. It is remembered where `learns` says so.
 fn carry_hart(
     to: &mut Records<Hart>,
     from: &Records<Hart>,
@@ -199,7 +199,7 @@ fn carry_harts(
     Ok(())
 }
 
-/// The number of a slice of words of another store. Whether it is remembered.
+/// The number of a slice of words of another store. It is remembered where `learns` says so.
 fn carry_words(
     to: &mut Interner,
     from: &Interner,
@@ -281,7 +281,8 @@ impl BoardRows {
     }
 
     /// Makes of a row of another space the row of this one that stands for the same board, in place of what was in `out`. The two have
-    /// one layout. Whether the numbers of its harts and segments are remembered. At `Err` each row stands for what it stood for.
+    /// one layout. The numbers of its harts and segments are remembered where `learns` says so. At `Err` each row stands for what it
+    /// stood for.
     pub fn carry(
         &mut self,
         from: &BoardRows,

@@ -12,7 +12,7 @@ use board_model::HartId;
 use model_board::Board;
 
 /// What may happen to a board next.
-#[derive(Clone, Copy, PartialEq, Eq, Drop)]
+#[derive(Clone, Copy, Drop)]
 pub enum Happening {
     /// A turn of a hart.
     Turn(HartId),

@@ -28,7 +28,7 @@ use state_space::{Expansion, Refused, Successors, System};
 use std::alloc::Global;
 
 /// Which failures may come, beside the turns of the harts and what the operator does.
-#[derive(Clone, Copy, PartialEq, Eq, Drop)]
+#[derive(Clone, Copy, Drop)]
 pub struct Failures {
     /// Whether power may fail, at any moment.
     pub cuts: bool,

@@ -15,3 +15,8 @@ pub mod Withins
 pub mod Others
 pub mod Turns
 pub mod Nexts
+pub mod Numbers
+pub mod Counted
+pub mod Written
+pub mod Spelled
+pub mod StreamHeard

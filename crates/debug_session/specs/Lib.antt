@@ -13,3 +13,9 @@ pub mod Firsts
 pub mod Withins
 pub mod Backs
 pub mod Others
+pub mod Fields
+pub mod Asked
+pub mod Actions
+pub mod Replies
+pub mod Packets
+pub mod Streams

@@ -12,7 +12,7 @@ pub struct Fault;
 
 /// A fault for a later call of a disk or of one of its lanes. Calls are reads, writes and syncs,
 /// counted from 1 for the first one after the fault was armed; a fault of call 0 never strikes.
-#[derive(Clone, Copy, PartialEq, Eq)]
+#[derive(Clone, Copy)]
 pub enum ArmedFault {
     /// The disk's call of this number fails.
     FailAt(u64),

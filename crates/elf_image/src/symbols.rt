@@ -7,7 +7,7 @@ use crate::fields::{rest_at, u32_at, u64_at};
 use crate::sections::Tables;
 
 /// A symbol: its address (`st_value`), and how many bytes what it names has (`st_size`).
-#[derive(Clone, Copy, Debug, PartialEq, Eq, Drop)]
+#[derive(Clone, Copy, Debug, Drop)]
 pub struct Symbol {
     pub address: u64,
     pub size: u64,

@@ -1,33 +1,43 @@
 //! `examples`: runs each script of a folder and of `cases` there, once with each crew, and compares what it
 //! writes with the report beside it; makes the runs of `runs` there, and compares what each comes to; and checks the
-//! kernels of `checks` as the command lines of the transcript there ask, and compares what is told of them (README.md).
-//! Status 0 where all is so; else 1, and standard error names the first that is not. The folder is the word on the
+//! kernels of `checks` as the command lines of the transcript there ask, and compares what is told of them; and does what
+//! the lists of `stories` ask of a disk each, and compares what is seen (README.md). Status 0 where all is so; else 1, and standard error names the first that is not. The folder is the word on the
 //! command line, or the one that the program runs in.
 //!
 //! With the word `--left` it runs the script of standard input alone, and writes how that ended, what a power-on
-//! over the disk that is left finds, and the report, as far as it was written (tools/trials/refuse-memory).
+//! over the disk that is left finds, and the report, as far as it was written (tools/trials/refuse-memory). With `--stories`
+//! it does what the lists of standard input ask, and writes what is seen (tools/trials/try-stories).
 #![tactic(auto)]
 
 mod checks;
 mod files;
 mod left;
+mod lists;
+mod pages;
 mod reported;
 mod runs;
+mod stories;
 mod streams;
+mod told;
 
 use crate::checks::retell;
 use crate::files::Folder;
 use crate::left::tell;
 use crate::reported::{AsReported, ExampleFault, compare_report};
 use crate::runs::{AsTold, RunFault, compare_run};
+use crate::stories::see_all;
 use bench_sweep::line_apart;
 use crew::{Crew, Sequential, Threads};
+use std::io::Read;
 use std::path::Path;
 use std::process::ExitCode;
 use std::{env, fs, io, thread};
 
 /// The word that asks for what a script leaves.
 const LEFT: &str = "--left";
+
+/// The word that asks for what is seen of lists.
+const STORIES: &str = "--stories";
 
 /// The folder of the short scripts, beside the examples.
 const CASES: &str = "cases";
@@ -40,6 +50,12 @@ const CHECKS: &str = "checks";
 
 /// The file there that has command lines of `sbicheck`, and what is told of each.
 const TRANSCRIPT: &str = "transcript";
+
+/// The file of lists that ask of a disk each.
+const LISTS: &str = "stories/lists";
+
+/// The file of what is seen of them.
+const SEEN: &str = "stories/seen";
 
 /// How a run's name ends.
 const RUN: &str = ".run";
@@ -174,8 +190,25 @@ fn compare_checks<R: thread::Threads + Sync>(
     Ok(true)
 }
 
-/// Compares the scripts of the folder and of its `cases`, makes its `runs`, and checks the kernels of its `checks`. Answers
-/// whether all is well.
+/// Does what the lists of the folder ask. Answers whether that is what is seen of them.
+fn compare_stories<R: thread::Threads + Sync>(folder: Folder<'_>) -> anyhow::Result<bool> {
+    let rt = folder.rt;
+    let lists = file_of(rt, folder.path, LISTS, "")?;
+    let wanted = file_of(rt, folder.path, SEEN, "")?;
+    let mut seen = Vec::new(rt.alloc());
+    see_all::<R, _>(rt.alloc(), str::from_utf8(&lists)?, &mut seen)?;
+    match line_apart(seen.as_slice(), wanted.as_slice()) {
+        None => println!(rt; "{LISTS} as seen")?,
+        Some(line) => {
+            eprintln!(rt; "examples: {LISTS}: another is seen from line {line} on")?;
+            return Ok(false);
+        }
+    }
+    Ok(true)
+}
+
+/// Compares the scripts of the folder and of its `cases`, makes its `runs`, checks the kernels of its `checks`, and does what
+/// the lists of its `stories` ask. Answers whether all is well.
 fn compare_folder<R: thread::Threads + Sync>(
     rt: &HostRuntime,
     threads: &R,
@@ -192,7 +225,8 @@ fn compare_folder<R: thread::Threads + Sync>(
     let is_well = compare_all(rt, &crews.0, &crews.1, folder)?
         && compare_all(rt, &crews.0, &crews.1, &cases)?
         && compare_runs(threads, Folder { rt, path: folder }, &runs)?
-        && compare_checks(threads, checked)?;
+        && compare_checks(threads, checked)?
+        && compare_stories::<R>(Folder { rt, path: folder })?;
     Ok(is_well)
 }
 
@@ -201,6 +235,12 @@ fn main(rt: HostRuntime) -> anyhow::Result<ExitCode> {
     let is_well = match words.get(1).map(String::as_str) {
         Some(word) if word == LEFT => {
             tell(&rt, &Sequential::<HostRuntime>::new([0, 1, 2, 3])?)?;
+            true
+        }
+        Some(word) if word == STORIES => {
+            let mut lists = Vec::new(rt.alloc());
+            let _count = rt.reader().read_to_end(&mut lists)?;
+            see_all::<HostRuntime, _>(rt.alloc(), str::from_utf8(&lists)?, &mut io::writer(&rt))?;
             true
         }
         Some(folder) => compare_folder(&rt, &rt, folder)?,

@@ -19,7 +19,7 @@ use std::sync::{Mutex, OnceLock, OnceToken, Wait};
 use tallies::{Halt, Journal, Watch};
 
 /// What the harts do once the console has left.
-#[derive(Clone, Copy, PartialEq, Eq, Drop)]
+#[derive(Clone, Copy, Drop)]
 pub enum AfterConsole {
     /// They go on until they made their turns, or the life ends.
     RunOut,

@@ -183,9 +183,6 @@ copied_states harts old c are shown same = (
   (λ k lt. subst (λ (x : HartState). IsIn c k x) (same k lt ∙ seat_determines_states harts old (listed (states_in harts old)) are.1 k lt) (shown k lt)),
 )
 
-pub same_states : (harts : ℕ) (c d : HartSeatView) → AreStates harts d (states_in harts d) → ((k : ℕ) → k < harts → state_in c k ≡ state_in d k) → states_in harts c ≡ states_in harts d
-same_states harts c d are same = map_all (state_in c) stopped harts (states_in harts d) are.0 (λ k lt. same k lt ∙ sym (at_all (state_in d) stopped harts k lt))
-
 -- ---- the states so far
 module _ (first : ℕ) (states : ℕ → HartState) where
   pub so_far_first : (n k : ℕ) → k ≡ first → so_far first n states k ≡ started

@@ -24,7 +24,7 @@ pub enum LookOption {
 }
 
 /// What may be wrong with a kernel.
-#[derive(Clone, Copy, PartialEq, Eq, Drop)]
+#[derive(Clone, Copy, Drop)]
 pub enum FailureKind {
     /// Two ends show different things, or one shows what is not expected.
     Differs,

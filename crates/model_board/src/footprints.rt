@@ -17,7 +17,7 @@ use rv_decode::{CsrNumber, FlatInstr, FlatOp, word_determines_instruction};
 
 /// What the next step of a hart touches, by the hart and the memory before it. Words are numbered from the start of RAM, 8
 /// bytes each.
-#[derive(Clone, Copy, PartialEq, Eq, Drop)]
+#[derive(Clone, Copy, Drop)]
 pub struct Footprint {
     /// Whether an interrupt is taken, and nothing else done.
     pub interrupts: bool,
@@ -34,7 +34,7 @@ pub struct Footprint {
 }
 
 /// What an instruction touches, beside the word in which it stands.
-#[derive(Clone, Copy, PartialEq, Eq, Drop)]
+#[derive(Clone, Copy, Drop)]
 pub enum Touch {
     /// Nothing but registers.
     Nothing,

@@ -23,7 +23,7 @@ use susp::Sleep;
 const TO_DISK: u32 = 0x8000_0001;
 
 /// What a turn makes of the life in which it is made.
-#[derive(Clone, Copy, PartialEq, Eq, Drop)]
+#[derive(Clone, Copy, Drop)]
 pub enum Settled {
     /// The life goes on.
     GoesOn,

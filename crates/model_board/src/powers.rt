@@ -14,7 +14,7 @@ pub enum Power {
 }
 
 /// Whether a board is on, as it is told.
-#[derive(Clone, Copy, PartialEq, Eq, Drop)]
+#[derive(Clone, Copy, Drop)]
 pub enum Status {
     /// It is on, dozing or not.
     On,

@@ -30,7 +30,7 @@ impl Model for TouchMap {
 }
 
 /// What a turn touches that the map does not let it.
-#[derive(Clone, Copy, PartialEq, Eq, Drop)]
+#[derive(Clone, Copy, Drop)]
 pub enum Break {
     /// It reads the word of that number.
     Reads(u64),

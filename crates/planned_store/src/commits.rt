@@ -14,7 +14,7 @@ pub(crate) const GATE: usize = 1;
 pub(crate) const RECORDS: usize = 2;
 
 /// A board, and the record that the gate of its disk selects.
-#[derive(Clone, Copy, PartialEq, Eq, Drop)]
+#[derive(Clone, Copy, Drop)]
 pub struct Selected {
     pub shape: Shape,
     pub side: Side,
@@ -23,7 +23,7 @@ pub struct Selected {
 }
 
 /// How far a commit has come: the call that it asks for, or how it has ended.
-#[derive(Clone, Copy, PartialEq, Eq, Drop)]
+#[derive(Clone, Copy, Drop)]
 pub enum CommitStep {
     WriteRecord,
     SyncRecord,
@@ -38,7 +38,7 @@ pub enum CommitStep {
 }
 
 /// A commit: what is selected, the record that follows it, and how far it has come.
-#[derive(Clone, Copy, PartialEq, Eq, Drop)]
+#[derive(Clone, Copy, Drop)]
 pub struct Commit {
     pub from: Selected,
     pub next: Record,

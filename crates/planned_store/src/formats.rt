@@ -14,7 +14,7 @@ use layout::{Side, gate_bytes, has_magic, record_bytes, superblock_bytes};
 use store::formatted_record;
 
 /// How far a format has come: the call that it asks for, or how it has ended.
-#[derive(Clone, Copy, PartialEq, Eq, Drop)]
+#[derive(Clone, Copy, Drop)]
 pub enum FormatStep {
     ReadSuperblock,
     WriteRecord,
@@ -32,7 +32,7 @@ pub enum FormatStep {
 }
 
 /// A format for a board of that shape.
-#[derive(Clone, Copy, PartialEq, Eq, Drop)]
+#[derive(Clone, Copy, Drop)]
 pub struct Formatting {
     pub shape: Shape,
     pub step: FormatStep,

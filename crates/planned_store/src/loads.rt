@@ -15,7 +15,7 @@ use disk::{Fault, Sector};
 use layout::{Saved, area_start, parse_place_head};
 
 /// How far a load has come: the call that it asks for, or how it has ended.
-#[derive(Clone, Copy, PartialEq, Eq, Drop)]
+#[derive(Clone, Copy, Drop)]
 pub enum LoadStep {
     /// The header of the next place.
     ReadHead,
@@ -30,7 +30,7 @@ pub enum LoadStep {
 }
 
 /// A load of the image that a record keeps.
-#[derive(Clone, Copy, PartialEq, Eq, Drop)]
+#[derive(Clone, Copy, Drop)]
 pub struct Loading {
     pub shape: Shape,
     pub saved: Saved,

@@ -25,7 +25,7 @@ pub enum Request {
 }
 
 /// How far an open, a command or a format has come: the call that it asks for, or how it has ended.
-#[derive(Clone, Copy, PartialEq, Eq, Drop)]
+#[derive(Clone, Copy, Drop)]
 pub enum Plan {
     /// An open of a disk of so many sectors: what the last life left in doubt is settled by a sync.
     Settling(usize),

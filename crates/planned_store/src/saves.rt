@@ -17,7 +17,7 @@ use layout::{PlaceHead, Record, Saved, Side, Version, area_start, place_head_byt
 use store::Resumption;
 
 /// How far a suspension has come: the call that it asks for, or how that part of it has ended.
-#[derive(Clone, Copy, PartialEq, Eq, Drop)]
+#[derive(Clone, Copy, Drop)]
 pub enum SaveStep {
     /// The header of the page's place.
     WriteHead,
@@ -32,7 +32,7 @@ pub enum SaveStep {
 }
 
 /// A suspension whose memory goes to the area that no image uses, page after page.
-#[derive(Clone, Copy, PartialEq, Eq, Drop)]
+#[derive(Clone, Copy, Drop)]
 pub struct Saving {
     pub from: Selected,
     pub at: Resumption,

@@ -13,7 +13,7 @@ use disk::Disk;
 use store::record_after;
 
 /// An open store, over a disk that nobody else writes: what is selected there, and the receipts of this life.
-#[derive(Clone, Copy, PartialEq, Eq, Drop)]
+#[derive(Clone, Copy, Drop)]
 pub struct OpenStore {
     pub selected: Selected,
     /// How many commands of this life were acknowledged.

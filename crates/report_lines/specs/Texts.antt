@@ -7,7 +7,7 @@ use Rattle.board_model.specs.ConsoleCommands.{word_of}
 use Rattle.board_model.specs.Texts.{state_text}
 use Rattle.script_lang.specs.Lines.{mode_text}
 use Rattle.machine.specs.Texts.{machine_line_text}
-use Rattle.examined.specs.Texts.{inspection_text}
+use Rattle.report_lines.specs.InspectionTexts.{inspection_text}
 use Rattle.report_lines.specs.declared.printed.Printed.{Printed}
 use Rattle.report_lines.specs.declared.printed.Printed.TheVariants as printed
 use Rattle.report_lines.specs.declared.printed.Answer.{Answer}

@@ -6,8 +6,8 @@ ghost use Rattle.script_lang.specs.Lines.{mode_text};
 ghost use Rattle.report_lines.specs.Texts.{line_text};
 ghost use lib.Chars.{codes};
 
+use crate::InspectionText;
 use board_model::{BootMode, ConsoleCommand, Durable};
-use examined::InspectionText;
 use machine::MachineLine;
 use std::fmt;
 use store::Inspection;

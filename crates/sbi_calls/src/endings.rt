@@ -9,7 +9,7 @@ use hart::Hart;
 use sbi_abi::{SbiRet, put};
 
 /// How a call ends.
-#[derive(Clone, Copy, PartialEq, Eq, Drop)]
+#[derive(Clone, Copy, Drop)]
 pub enum Ending {
     /// It is answered so.
     Answers(SbiRet),

@@ -9,7 +9,7 @@ use board_model::{Addr, HartId, HartSet, Shape};
 use sbi_abi::{Call, Extension, SbiError, targets};
 
 /// What a call asks of the board.
-#[derive(Clone, Copy, PartialEq, Eq, Drop)]
+#[derive(Clone, Copy, Drop)]
 pub enum Request {
     /// This value for an answer, and nothing else.
     Value(u64),

@@ -70,7 +70,7 @@ impl Did {
 }
 
 /// What a turn comes to where no store is at hand.
-#[derive(Clone, Copy, PartialEq, Eq, Drop)]
+#[derive(Clone, Copy, Drop)]
 pub enum Turned {
     /// It was made, and the hart did this.
     Made(Did),

@@ -3,7 +3,7 @@
 //! the command line.
 #![tactic(auto)]
 
-use board_programs::operate;
+use board_session::operate;
 use std::process::ExitCode;
 
 fn main(rt: HostRuntime) -> ExitCode {

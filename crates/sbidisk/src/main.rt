@@ -2,7 +2,7 @@
 //! that could not be read; 2 for a fault of the command line; 3 where a line says `bad`.
 #![tactic(auto)]
 
-use board_programs::examine;
+use board_session::examine;
 use std::process::ExitCode;
 
 fn main(rt: HostRuntime) -> ExitCode {

@@ -4,8 +4,8 @@ use Rattle.std.specs.Iterator.{Count, IsFinite, MakesProgress}
 use Rattle.std.proofs.lemmas.List.{append-nil}
 use Rattle.board_model.specs.Shapes.{Size}
 use Rattle.script_lang.specs.declared.line.Line.{Line}
-use Rattle.gdb_protocol.specs.declared.heard.PacketEvent.{PacketEvent}
-use Rattle.gdb_protocol.specs.declared.heard.PacketEvent.TheVariants as heards
+use Rattle.debug_session.specs.declared.heard.PacketEvent.{PacketEvent}
+use Rattle.debug_session.specs.declared.heard.PacketEvent.TheVariants as heards
 use Rattle.debug_session.specs.Ats.{IsAt}
 use Rattle.debug_session.specs.Sessions.{begins_of, history_of, plan_of, points_of, size_of, timeline_of, watches_of}
 use Rattle.debug_session.specs.Steps.{AreNoted}

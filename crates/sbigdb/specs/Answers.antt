@@ -1,8 +1,8 @@
 -- An answer to a packet.
 use Rattle.std.specs.Prelude.{◌≡◌, ℕ, Bool, List, [], if◌then◌else◌}
 use Rattle.debug_session.specs.Sessions.{bench_of, plan_of, size_of, stops_of}
-use Rattle.gdb_protocol.specs.Replies.{packets_of}
-use Rattle.gdb_protocol.specs.Asked.{request_of}
+use Rattle.debug_session.specs.Replies.{packets_of}
+use Rattle.debug_session.specs.Asked.{request_of}
 use Rattle.sbigdb.specs.declared.talk.Talk.{Talk}
 use Rattle.sbigdb.specs.Kept.{Keeps, Listed, StaysOpen}
 use Rattle.sbigdb.specs.Moved.{Moved}

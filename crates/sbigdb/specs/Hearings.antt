@@ -2,14 +2,14 @@
 use Rattle.std.specs.Prelude.{◌≡◌, ℕ, Bool, true, false, List, [], ◌∷◌, ◌++◌, Option}
 use Rattle.std.specs.Io.KnownBytes.{Consumes, IsAtEnd}
 use Rattle.std.specs.List.{FoldsTo}
-use Rattle.gdb_protocol.specs.Streams.{Hears, Standing}
-use Rattle.gdb_protocol.specs.declared.heard.PacketEvent.{PacketEvent}
-use Rattle.gdb_protocol.specs.declared.heard.PacketEvent.TheVariants as heards
-use Rattle.gdb_protocol.specs.Asked.{request_of}
-use Rattle.gdb_protocol.specs.declared.requests.GdbLook.TheVariants as looks
-use Rattle.gdb_protocol.specs.declared.requests.GdbRequest.{GdbRequest}
-use Rattle.gdb_protocol.specs.declared.requests.GdbRequest.TheVariants as asks
-use Rattle.gdb_protocol.specs.declared.heard.PacketPlace.TheVariants.{Between}
+use Rattle.debug_session.specs.Streams.{Hears, Standing}
+use Rattle.debug_session.specs.declared.heard.PacketEvent.{PacketEvent}
+use Rattle.debug_session.specs.declared.heard.PacketEvent.TheVariants as heards
+use Rattle.debug_session.specs.Asked.{request_of}
+use Rattle.debug_session.specs.declared.requests.GdbLook.TheVariants as looks
+use Rattle.debug_session.specs.declared.requests.GdbRequest.{GdbRequest}
+use Rattle.debug_session.specs.declared.requests.GdbRequest.TheVariants as asks
+use Rattle.debug_session.specs.declared.heard.PacketPlace.TheVariants.{Between}
 use Rattle.sbigdb.specs.declared.listening.Silence.{Silence}
 use Rattle.sbigdb.specs.declared.listening.Silence.TheVariants as silences
 

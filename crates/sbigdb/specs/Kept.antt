@@ -8,12 +8,12 @@ use Rattle.debug_session.specs.declared.stops.Stops.{Stops}
 use Rattle.debug_session.specs.declared.stops.Watchpoint.{Watchpoint}
 use Rattle.debug_session.specs.declared.stops.WatchKind.{WatchKind}
 use Rattle.debug_session.specs.declared.stops.WatchKind.TheVariants as kinds
-use Rattle.gdb_protocol.specs.declared.requests.GdbLook.{GdbLook}
-use Rattle.gdb_protocol.specs.declared.requests.GdbLook.TheVariants as looks
-use Rattle.gdb_protocol.specs.declared.requests.Watching.{Watching}
-use Rattle.gdb_protocol.specs.declared.requests.Watching.TheVariants as watching
-use Rattle.gdb_protocol.specs.declared.requests.GdbRequest.{GdbRequest}
-use Rattle.gdb_protocol.specs.declared.requests.GdbRequest.TheVariants as asks
+use Rattle.debug_session.specs.declared.requests.GdbLook.{GdbLook}
+use Rattle.debug_session.specs.declared.requests.GdbLook.TheVariants as looks
+use Rattle.debug_session.specs.declared.requests.Watching.{Watching}
+use Rattle.debug_session.specs.declared.requests.Watching.TheVariants as watching
+use Rattle.debug_session.specs.declared.requests.GdbRequest.{GdbRequest}
+use Rattle.debug_session.specs.declared.requests.GdbRequest.TheVariants as asks
 use Rattle.sbigdb.specs.declared.talk.Talk.{Talk}
 use Rattle.sbigdb.specs.Replies.{hart_named}
 use Rattle.sbigdb.specs.Talks.{acknowledges_in, hart_or, is_over_in, last_in, runner_in, selected_in, session_in, takes_in}

@@ -25,15 +25,15 @@ use Rattle.debug_session.specs.declared.session.Session.{Session}
 use Rattle.debug_session.specs.declared.stops.Stops.{Stops}
 use Rattle.debug_session.specs.Ats.{Ran}
 use Rattle.debug_session.specs.declared.timeline.Timeline.{Timeline}
-use Rattle.gdb_protocol.specs.Fields.{behind_prefix}
+use Rattle.debug_session.specs.Fields.{behind_prefix}
 use Rattle.sbigdb.specs.declared.asked.VCont.{VCont}
 use Rattle.sbigdb.specs.declared.asked.VCont.TheVariants as asked
 use Rattle.sbigdb.specs.declared.acts.Course.{Course}
 use Rattle.sbigdb.specs.declared.acts.Course.TheVariants as courses
-use Rattle.gdb_protocol.specs.declared.requests.Move.{Move}
-use Rattle.gdb_protocol.specs.declared.requests.Move.TheVariants as moves
-use Rattle.gdb_protocol.specs.declared.requests.GdbRequest.{GdbRequest}
-use Rattle.gdb_protocol.specs.declared.requests.GdbRequest.TheVariants as asks
+use Rattle.debug_session.specs.declared.requests.Move.{Move}
+use Rattle.debug_session.specs.declared.requests.Move.TheVariants as moves
+use Rattle.debug_session.specs.declared.requests.GdbRequest.{GdbRequest}
+use Rattle.debug_session.specs.declared.requests.GdbRequest.TheVariants as asks
 use Rattle.script_lang.specs.Scripts.{Script, script_of}
 use Rattle.script_lang.specs.Words.{decoded, number_of}
 use Rattle.script_lang.specs.declared.line.Line.{Line}

@@ -5,16 +5,16 @@ use Rattle.std.specs.Fmt.{digits}
 use Rattle.board_model.specs.Shapes.{Size}
 use Rattle.debug_session.specs.Lives.{machine_of, memory_in, register_in}
 use Rattle.bench_report.specs.declared.live.LiveBench.{LiveBench}
-use Rattle.gdb_protocol.specs.Packets.{digit_of}
+use Rattle.debug_session.specs.Packets.{digit_of}
 use Rattle.sbigdb.specs.Talks.{hart_or}
 use Rattle.sbigdb.specs.Texts.{threads_object}
-use Rattle.gdb_protocol.specs.Replies.{memory_map_text, pairs_of, part_text, register_text, registers_text, threads_text}
-use Rattle.gdb_protocol.specs.declared.requests.GdbLook.{GdbLook}
-use Rattle.gdb_protocol.specs.declared.requests.GdbLook.TheVariants as looks
-use Rattle.gdb_protocol.specs.declared.requests.Object.{Object}
-use Rattle.gdb_protocol.specs.declared.requests.Object.TheVariants as objects
-use Rattle.gdb_protocol.specs.declared.requests.GdbRequest.{GdbRequest}
-use Rattle.gdb_protocol.specs.declared.requests.GdbRequest.TheVariants as asks
+use Rattle.debug_session.specs.Replies.{memory_map_text, pairs_of, part_text, register_text, registers_text, threads_text}
+use Rattle.debug_session.specs.declared.requests.GdbLook.{GdbLook}
+use Rattle.debug_session.specs.declared.requests.GdbLook.TheVariants as looks
+use Rattle.debug_session.specs.declared.requests.Object.{Object}
+use Rattle.debug_session.specs.declared.requests.Object.TheVariants as objects
+use Rattle.debug_session.specs.declared.requests.GdbRequest.{GdbRequest}
+use Rattle.debug_session.specs.declared.requests.GdbRequest.TheVariants as asks
 use lib.Chars.{codes}
 
 -- the hart of a thread, whose number is one more

@@ -7,9 +7,9 @@ use Rattle.debug_session.specs.Ats.{IsAt}
 use Rattle.debug_session.specs.Sessions.{begins_of, history_of, plan_of, points_of, size_of, timeline_of, watches_of}
 use Rattle.debug_session.specs.Steps.{AreNoted}
 use Rattle.debug_session.specs.declared.session.SessionPlan.{SessionPlan}
-use Rattle.gdb_protocol.specs.declared.heard.PacketEvent.{PacketEvent}
-use Rattle.gdb_protocol.specs.declared.heard.PacketEvent.TheVariants as heards
-use Rattle.gdb_protocol.specs.Replies.{packets_of}
+use Rattle.debug_session.specs.declared.heard.PacketEvent.{PacketEvent}
+use Rattle.debug_session.specs.declared.heard.PacketEvent.TheVariants as heards
+use Rattle.debug_session.specs.Replies.{packets_of}
 use Rattle.sbigdb.specs.Answers.{IsReplied, again_text, front_text}
 use Rattle.sbigdb.specs.Talks.{acknowledges_in, hart_in, is_over_in, runner_in, selected_in, sent_in, session_in}
 use Rattle.sbigdb.specs.declared.talk.Talk.{Talk}

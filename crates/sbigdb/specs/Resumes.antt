@@ -4,9 +4,9 @@ use Rattle.std.specs.List.{slice_split}
 use Rattle.board_model.specs.Shapes.{Size}
 use Rattle.sbigdb.specs.declared.asked.VCont.{VCont}
 use Rattle.sbigdb.specs.declared.asked.VCont.TheVariants as asked
-use Rattle.gdb_protocol.specs.Actions.{are_known, first_asked}
-use Rattle.gdb_protocol.specs.declared.actions.ResumeAction.{ResumeAction}
-use Rattle.gdb_protocol.specs.declared.actions.ResumeAction.TheVariants.{Step, StepWithin, Go}
+use Rattle.debug_session.specs.Actions.{are_known, first_asked}
+use Rattle.debug_session.specs.declared.actions.ResumeAction.{ResumeAction}
+use Rattle.debug_session.specs.declared.actions.ResumeAction.TheVariants.{Step, StepWithin, Go}
 
 abbrev pub goes : Option ResumeAction → Bool
 goes None = false

@@ -1,7 +1,7 @@
 -- The stop reply. Source: "Debugging with GDB", appendix "GDB Remote Serial Protocol", "Stop Reply Packets".
 use Rattle.std.specs.Prelude.{ℕ, ◌+◌, Bool, false, List, [], ◌∷◌, ◌++◌, if◌then◌else◌}
 use Rattle.std.specs.Fmt.{digits}
-use Rattle.gdb_protocol.specs.Packets.{digit_of}
+use Rattle.debug_session.specs.Packets.{digit_of}
 use Rattle.debug_session.specs.declared.halts.HaltReason.{HaltReason}
 use Rattle.debug_session.specs.declared.halts.HaltReason.TheVariants.{Stepped, Point, Watched, Ended, Off, Idle, Spent, AtLine, Interrupted, Begin}
 use Rattle.debug_session.specs.declared.halts.Stop.{Stop}

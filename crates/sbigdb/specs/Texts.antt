@@ -10,7 +10,7 @@ use Rattle.script_lang.specs.Spellings.{board_text}
 use Rattle.script_lang.specs.declared.line.Line.{Line}
 use Rattle.debug_session.specs.Lives.{machine_of, pc_in}
 use Rattle.bench_report.specs.declared.live.LiveBench.{LiveBench}
-use Rattle.gdb_protocol.specs.Replies.{pairs_of}
+use Rattle.debug_session.specs.Replies.{pairs_of}
 use lib.Chars.{codes}
 
 -- the board line of a script, with its line feed

@@ -6,7 +6,7 @@ ghost use Rattle.debug_session.specs.Sessions.{size_of, timeline_of, KeepsRest};
 ghost use Rattle.sbigdb.specs.Kept.{IsTalk, StaysOpen};
 ghost use Rattle.sbigdb.specs.Moved.{IsTold, MovedBy, ResumedBy, Took};
 ghost use Rattle.sbigdb.specs.Talks.{runs_in};
-ghost use Rattle.gdb_protocol.specs.Fields.{behind_prefix};
+ghost use Rattle.debug_session.specs.Fields.{behind_prefix};
 
 use crate::answers::PacketPayloads;
 use crate::asked::VCont;
@@ -16,8 +16,7 @@ use crate::talk::Talk;
 use crate::texts::{report_text, tell};
 use board_model::HartId;
 use crew::Crew;
-use debug_session::{HaltReason, Session, Stop};
-use gdb_protocol::Move;
+use debug_session::{HaltReason, Move, Session, Stop};
 use report_lines::Answer;
 use script_lang::{Line, LineText};
 use std::alloc::{AllocError, Global};

@@ -9,16 +9,15 @@ ghost use Rattle.sbigdb.specs.Kept.{IsTalk, Keeps, Listed};
 ghost use Rattle.sbigdb.specs.Moved.{Moved};
 ghost use Rattle.sbigdb.specs.Stops.{stop_text};
 ghost use Rattle.sbigdb.specs.Talks.{acknowledges_in, hart_in, is_over_in, last_in, runner_in, selected_in, sent_in, session_in, takes_in};
-ghost use Rattle.gdb_protocol.specs.Asked.{request_of};
-ghost use Rattle.gdb_protocol.specs.declared.requests.GdbLook.{GdbLook};
-ghost use Rattle.gdb_protocol.specs.declared.requests.GdbRequest.TheVariants as asks;
+ghost use Rattle.debug_session.specs.Asked.{request_of};
+ghost use Rattle.debug_session.specs.declared.requests.GdbLook.{GdbLook};
+ghost use Rattle.debug_session.specs.declared.requests.GdbRequest.TheVariants as asks;
 
 use crate::replies::payload;
 use crate::talk::Talk;
 use board_model::{HartId, Shape};
 use crew::Crew;
-use debug_session::{HaltReason, Session, Stop};
-use gdb_protocol::{GdbRequest, Move, request_of};
+use debug_session::{GdbRequest, HaltReason, Move, Session, Stop, request_of};
 use std::alloc::{AllocError, Global};
 use std::sync::atomic::AtomicBool;
 

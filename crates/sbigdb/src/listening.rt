@@ -4,7 +4,7 @@ ghost use Rattle.std.specs.Prelude.{◌≡◌, true, false};
 ghost use Rattle.sbigdb.specs.Hearings.{HandedOn, ends_talk, is_last};
 
 use crossbeam_channel::Sender;
-use gdb_protocol::{Decoder, GdbLook, GdbRequest, PacketEvent, request_of};
+use debug_session::{Decoder, GdbLook, GdbRequest, PacketEvent, request_of};
 use std::alloc::Global;
 use std::io::Read;
 use std::sync::Wait;

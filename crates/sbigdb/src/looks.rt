@@ -12,8 +12,7 @@ use crate::replies::{hart_of, text_of};
 use crate::talk::Talk;
 use board_model::HartId;
 use crew::Crew;
-use debug_session::{WatchKind, Watchpoint};
-use gdb_protocol::{GdbLook, Watching, behind, parts};
+use debug_session::{GdbLook, WatchKind, Watching, Watchpoint, behind, parts};
 use std::alloc::AllocError;
 
 /// The watchpoint that a packet names. A watch on writes sees changes.

@@ -9,7 +9,7 @@ ghost use Rattle.sbigdb.specs.Moved.{GotoOr, LineRan, MonitoredBy, TextSaid, Wen
 ghost use Rattle.sbigdb.specs.Texts.{when_text};
 ghost use Rattle.report_lines.specs.Texts.{report_text};
 ghost use Rattle.debug_session.specs.Turns.{turns_made};
-ghost use Rattle.gdb_protocol.specs.Fields.{behind_prefix};
+ghost use Rattle.debug_session.specs.Fields.{behind_prefix};
 ghost use Rattle.script_lang.specs.Lines.{IsLineInRange};
 
 use crate::answers::PacketPayloads;
@@ -17,8 +17,7 @@ use crate::talk::Talk;
 use crate::texts::{answer_text, harts_text, report_text, tell, when_text};
 use board_model::{HartId, Refusal, Shape, command_lines};
 use crew::Crew;
-use debug_session::Session;
-use gdb_protocol::behind;
+use debug_session::{Session, behind};
 use hex::FromHexError;
 use report_lines::Answer;
 use script_lang::{Line, board_line, number, parse_script};

@@ -1,8 +1,8 @@
 //! What is replied to a request that moves nothing.
 
 ghost use Rattle.std.specs.Prelude.{◌≡◌, ◌+◌, ◌++◌, ◌∷◌, [], Some, codes, IfOk};
-ghost use Rattle.gdb_protocol.specs.Packets.{digit_of};
-ghost use Rattle.gdb_protocol.specs.Replies.{memory_map_text, part_text, registers_text};
+ghost use Rattle.debug_session.specs.Packets.{digit_of};
+ghost use Rattle.debug_session.specs.Replies.{memory_map_text, part_text, registers_text};
 ghost use Rattle.sbigdb.specs.Texts.{threads_object};
 ghost use Rattle.debug_session.specs.Lives.{memory_in, register_in};
 ghost use Rattle.debug_session.specs.Sessions.{bench_of, machine_of_session, size_of};
@@ -13,9 +13,9 @@ use crate::stops::stop_text;
 use crate::texts::threads_object;
 use board_model::{HartId, Shape};
 use crew::Crew;
-use debug_session::{REGISTERS, Session, Stop};
-use gdb_protocol::{
-    DESCRIPTION, GdbLook, Object, digit, memory_map, part, put_hex, put_register, threads,
+use debug_session::{
+    DESCRIPTION, GdbLook, Object, REGISTERS, Session, Stop, digit, memory_map, part, put_hex,
+    put_register, threads,
 };
 use std::alloc::{AllocError, Global};
 

@@ -2,12 +2,12 @@
 
 ghost use Rattle.std.specs.Prelude.{◌≡◌, ◌<◌, ◌+◌, false, map, codes, IfOk, IfNone, IfSome};
 ghost use Rattle.sbigdb.specs.Resumes.{goers_by, is_going, steps, IsAskedBy, IsAskedIn, NoneSteps};
-ghost use Rattle.gdb_protocol.specs.Actions.{first_asked};
-ghost use Rattle.gdb_protocol.specs.Fields.{behind_prefix};
+ghost use Rattle.debug_session.specs.Actions.{first_asked};
+ghost use Rattle.debug_session.specs.Fields.{behind_prefix};
 
 use crate::asked::VCont;
 use board_model::Shape;
-use gdb_protocol::{ResumeAction, action_for, are_known, behind, parts};
+use debug_session::{ResumeAction, action_for, are_known, behind, parts};
 use std::alloc::{AllocError, Global};
 
 /// The step that a hart is to make, if it is to make one.

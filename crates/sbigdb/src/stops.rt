@@ -4,8 +4,7 @@ ghost use Rattle.std.specs.Prelude.{◌≡◌, ◌++◌, IfOk, OnOk};
 ghost use Rattle.sbigdb.specs.Stops.{reason_text, signal_text, stop_text, watch_text, watch_word};
 
 use board_model::HartId;
-use debug_session::{HaltReason, Stop, WatchKind, Watchpoint};
-use gdb_protocol::digit;
+use debug_session::{HaltReason, Stop, WatchKind, Watchpoint, digit};
 use std::alloc::{AllocError, Global};
 
 /// The number of GDB's signal that says why nothing runs, as two digits: SIGINT, SIGPWR where the board is off or

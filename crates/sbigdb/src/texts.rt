@@ -8,8 +8,7 @@ ghost use Rattle.sbigdb.specs.Texts.{HandOver, console_packet, hart_line, hart_l
 use crate::answers::PacketPayloads;
 use board_model::{Durable, HartId, StateText};
 use crew::Crew;
-use debug_session::{Session, pc};
-use gdb_protocol::put_hex;
+use debug_session::{Session, pc, put_hex};
 use report_lines::Answer;
 use std::alloc::{AllocError, Global};
 

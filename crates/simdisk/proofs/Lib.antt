@@ -11,3 +11,7 @@ pub mod Arms
 pub mod Copying
 pub mod Comparing
 pub mod Causes
+pub mod Kept
+pub mod Lanes
+pub mod Caches
+pub mod Calls

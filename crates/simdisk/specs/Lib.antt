@@ -6,3 +6,6 @@ pub mod Latest
 pub mod Lendings
 pub mod Pokes
 pub mod Views
+pub mod Kept
+pub mod Cached
+pub mod CacheLaws

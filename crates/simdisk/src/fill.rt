@@ -1,7 +1,7 @@
 //! What a power cut leaves, where it is to be chosen.
 
 /// What a range that was written since the last sync holds after a power cut.
-#[derive(Clone, Copy, PartialEq, Eq, Drop)]
+#[derive(Clone, Copy, Drop)]
 pub enum Fill {
     /// This byte throughout.
     Byte(u8),

@@ -55,7 +55,7 @@ impl Last {
 }
 
 /// Which bytes of a lane are meant.
-#[derive(Clone, Copy, PartialEq, Eq)]
+#[derive(Clone, Copy)]
 pub(crate) enum LaneBytes {
     /// What a read gives.
     Read,

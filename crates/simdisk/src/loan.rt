@@ -3,7 +3,7 @@ ghost use Rattle.std.specs.Prelude.{◌≡◌};
 
 /// The sectors that are lent: so many lanes of so many sectors each, in a row from the first.
 /// Nothing is lent where there are no lanes.
-#[derive(Clone, Copy, PartialEq, Eq)]
+#[derive(Clone, Copy)]
 pub(crate) struct Loan {
     pub(crate) first: usize,
     pub(crate) lanes: usize,

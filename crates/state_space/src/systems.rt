@@ -4,7 +4,7 @@ use crate::found::Successors;
 use crate::refusal::Refused;
 
 /// What a system says of a row when it was expanded.
-#[derive(Clone, Copy, PartialEq, Eq, Debug)]
+#[derive(Clone, Copy, Debug)]
 pub enum Expansion {
     /// The state is at no end.
     Goes,

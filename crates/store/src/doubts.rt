@@ -3,7 +3,7 @@ use board_model::Entry;
 use layout::Record;
 
 /// A command that reached the disk, and of which nobody knows whether the gate selects its record.
-#[derive(Clone, Copy, PartialEq, Eq, Drop)]
+#[derive(Clone, Copy, Drop)]
 pub struct Doubt {
     pub entry: Entry,
     pub next: Record,

@@ -10,7 +10,7 @@ use std::marker::Model;
 
 /// A command that was acknowledged, in 3 bytes: its numbers are a slot and a number of boots, which the table of commands found in their
 /// ranges.
-#[derive(Clone, Copy, PartialEq, Eq, Drop)]
+#[derive(Clone, Copy, Drop)]
 pub enum Kept {
     Slot(u8),
     Reset(Reason),

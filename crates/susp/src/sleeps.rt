@@ -17,7 +17,7 @@ use sbi_abi::SbiError;
 use store::{Resumption, Saving, Store};
 
 /// The two ways to sleep.
-#[derive(Clone, Copy, PartialEq, Eq, Drop)]
+#[derive(Clone, Copy, Drop)]
 pub enum Sleep {
     /// The board dozes, until the wake-up device calls.
     ToRam,
@@ -26,7 +26,7 @@ pub enum Sleep {
 }
 
 /// The arguments of a system suspend as the registers hold them: not checked yet.
-#[derive(Clone, Copy, PartialEq, Eq, Drop)]
+#[derive(Clone, Copy, Drop)]
 pub struct SuspendWords {
     /// The type of the sleep.
     pub kind: u32,

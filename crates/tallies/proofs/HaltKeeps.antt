@@ -1,5 +1,5 @@
 -- Each step keeps the rule of a word that is set once.
-use Rattle.std.proofs.Common.{◌≡◌, ◌≢◌, ◌∙◌, ◌+◌, ◌<◌, ℕ, zero, suc, Bool, true, false, not, List, [], ◌∷◌, ◌++◌, Option, Some, None, refl, sym, ap, subst, ⊎_elim, arith, eq-eqb, ne_eqb}
+use Rattle.std.proofs.Common.{◌≡◌, ◌≢◌, ◌∙◌, ◌+◌, ◌<◌, ℕ, zero, suc, true, false, not, List, [], ◌∷◌, ◌++◌, Option, Some, None, refl, sym, ap, subst, ⊎_elim, arith, eq-eqb, ne_eqb}
 use Rattle.std.specs.Prelude.{is_some, slice_index, slice_set}
 use mathlib.Core.Option.{some, some-ne-none, some-injective}
 use lib.ListN.{get_elem?}
@@ -8,7 +8,7 @@ use Rattle.atomic_table.proofs.Lists.{at_set, at_snoc, set_again}
 use Rattle.tallies.specs.Sums.{total}
 use Rattle.tallies.proofs.Totals.{total-append, total-set, total_split, total_join, at_most_total}
 use Rattle.tallies.specs.declared.halt_views.HaltView.{HaltView}
-use Rattle.tallies.specs.Halts.{halt_view, no_looks, first_view, unset_of, sets_of, setters, same_view, what_is_known, with_known, IsKept, Enters, LooksBy, Looks, Sets, Learns}
+use Rattle.tallies.specs.Halts.{halt_view, no_looks, first_view, unset_of, sets_of, setters, same_view, what_is_known, with_known, IsKept, Enters, Looks, Sets, Learns}
 
 -- one that knows no sum
 none_known : (w v : HaltView) (n : ℕ) → w.sum ≡ None → w ≡ v → v.sum ≡ Some n → ⊥

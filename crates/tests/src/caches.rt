@@ -2,9 +2,8 @@
 ghost use Rattle.std.specs.Prelude.{◌≡◌};
 
 use crate::fixtures::blank_disk;
-use device_disks::CachedDisk;
 use disk::Disk;
-use simdisk::{Fill, SimDisk};
+use simdisk::{CachedDisk, Fill, SimDisk};
 use std::alloc::Global;
 use std::process::Abort;
 

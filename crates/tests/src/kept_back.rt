@@ -4,9 +4,8 @@ ghost use Rattle.std.specs.Prelude.{◌≡◌};
 use crate::caches::{blank, cut};
 use crate::fixtures::same;
 use crate::last_bytes::{last_bytes, write_byte};
-use device_disks::CachedDisk;
 use disk::{ArmedFault, Disk, Fault};
-use simdisk::{Fill, SimDisk};
+use simdisk::{CachedDisk, Fill, SimDisk};
 use std::alloc::Global;
 use std::process::Abort;
 

@@ -8,7 +8,7 @@ use board_files::{
     unreached,
 };
 use board_model::Refusal;
-use board_programs::Answers;
+use board_session::Answers;
 use command_line::FileFault;
 use disk::Sector;
 use std::alloc::Global;

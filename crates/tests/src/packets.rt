@@ -1,7 +1,7 @@
 //! Packets as gdb-multiarch 13.1 wrote and read them (`set debug remote 1`).
 
 use crate::fixtures::same;
-use gdb_protocol::{Decoder, PacketEvent, framed};
+use debug_session::{Decoder, PacketEvent, framed};
 use std::alloc::Global;
 use std::process::Abort;
 

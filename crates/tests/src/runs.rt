@@ -4,8 +4,7 @@
 use crate::fixtures::{same, words_of, zeros_behind};
 use crate::memory_files::{Broken, MemoryDisk, MemoryFiles, Page};
 use board_files::MemoryFile;
-use board_programs::{FileLeft, examine_on, operate_on};
-use board_session::Streams;
+use board_session::{FileLeft, Streams, examine_on, operate_on};
 use command_line::Pipe;
 use std::alloc::Global;
 use std::io::BufWriter;

@@ -3,7 +3,7 @@
 use board_model::Addr;
 
 /// What a turn comes to, by the tables.
-#[derive(Clone, Copy, PartialEq, Eq, Drop)]
+#[derive(Clone, Copy, Drop)]
 pub enum Ready {
     /// Nothing is to be done.
     Idle,

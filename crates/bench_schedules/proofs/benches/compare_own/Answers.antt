@@ -1,6 +1,6 @@
 use Rattle.std.proofs.Common.{◌≡◌, ◌+◌, ◌-◌, ℕ, ap₂, slice_index_or, subst}
 use Rattle.std.specs.Io.KnownBytes.{Appends}
-use Rattle.jobs.specs.Parts.{begin_of}
+use Rattle.crew.specs.Parts.{begin_of}
 use Rattle.script_lang.specs.Scripts.{Script}
 use Rattle.bench_schedules.specs.Numbers.{place_of_other}
 use Rattle.bench_schedules.specs.Schedules.{Wrote, count_text, own_count}

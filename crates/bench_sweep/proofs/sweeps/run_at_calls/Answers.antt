@@ -2,8 +2,8 @@ use Rattle.std.proofs.Common.{◌≡◌, ◌∙◌, ◌+◌, ◌-◌, ◌≤◌,
 use Rattle.std.proofs.lemmas.Result.{on_ok_weaker, IfOk-from_err}
 use Rattle.bench_sweep.specs.Reports.{IsOfCall, TakesPoint}
 use Rattle.bench_sweep.specs.Swept.{Spot, points_from}
-use Rattle.jobs.specs.Parts.{chunk_from, window}
-use Rattle.jobs.proofs.Chunked.{chunks_handed}
+use Rattle.crew.specs.Parts.{chunk_from, window}
+use Rattle.crew.proofs.Chunked.{chunks_handed}
 use Rattle.bench_sweep.proofs.Reported.{reports_as, reports_none}
 use Rattle.bench_sweep.proofs.Rowed.{all_points}
 use Rattle.bench_sweep.proofs.Written.{window_of_calls}

@@ -5,8 +5,8 @@ use Rattle.bench_sweep.specs.Points.{callers, MadeCalls}
 use Rattle.bench_sweep.specs.declared.points.Caller.{Caller}
 use Rattle.bench_sweep.specs.declared.points.Caller.TheVariants.{Disk}
 use Rattle.bench_sweep.specs.Swept.{all_points}
-use Rattle.jobs.specs.Parts.{window, begin_of, end_of}
-use Rattle.jobs.proofs.Pieces.{window_none, window_at, own_is}
+use Rattle.crew.specs.Parts.{window, begin_of, end_of}
+use Rattle.crew.proofs.Pieces.{window_none, window_at, own_is}
 use Rattle.bench_sweep.proofs.Made.{zip_long, zip_more, zip_same}
 use Rattle.bench_sweep.proofs.Reported.{reports_none, reports_more, reports_as}
 use Rattle.bench_sweep.proofs.Written.{next_caller, total_more}

@@ -8,7 +8,7 @@ use Rattle.bench_sweep.specs.Reports.{Reports}
 use Rattle.bench_sweep.specs.Runs.{RunsAt}
 use Rattle.bench_sweep.specs.Swept.{all_points}
 use Rattle.bench_sweep.proofs.Written.{total}
-use Rattle.jobs.specs.Parts.{window}
+use Rattle.crew.specs.Parts.{window}
 use Rattle.bench_sweep.proofs.sweeps.sweep_all_callers.Given as goal
 
 -- the runs of the callers so far are written

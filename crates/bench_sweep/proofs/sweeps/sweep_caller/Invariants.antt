@@ -7,7 +7,7 @@ use Rattle.bench_sweep.specs.Reports.{Reports}
 use Rattle.bench_sweep.specs.Runs.{RunsAt, Sits}
 use Rattle.bench_sweep.specs.Swept.{points_from}
 use Rattle.bench_sweep.specs.Took.{RunTook}
-use Rattle.jobs.specs.Parts.{window}
+use Rattle.crew.specs.Parts.{window}
 use Rattle.bench_sweep.proofs.Made.{Went}
 use Rattle.bench_sweep.proofs.sweeps.sweep_caller.Given as goal
 

@@ -2,8 +2,8 @@ use Rattle.std.proofs.Common.{ℕ, List, [], Vec, Global, ◌∙◌, ap, map, re
 use Rattle.std.proofs.lemmas.Result.{on_ok_weaker}
 use Rattle.std.specs.Io.KnownBytes.{Appends}
 use Rattle.board_model.proofs.Written.{unwritten}
-use Rattle.gdb_protocol.specs.declared.heard.PacketEvent.{PacketEvent}
-use Rattle.gdb_protocol.specs.Replies.{packets_of}
+use Rattle.debug_session.specs.declared.heard.PacketEvent.{PacketEvent}
+use Rattle.debug_session.specs.Replies.{packets_of}
 use Rattle.sbigdb.specs.Answers.{IsAnswer}
 use Rattle.sbigdb.specs.Responses.{Says}
 use Rattle.sbigdb.proofs.Responses.{says_nothing}

@@ -1,7 +1,7 @@
 use Rattle.std.proofs.Common.{◌≡◌, ◌≤◌, ◌∷◌, ◌++◌, [], List, length, ap, sym, subst, arith}
 use Rattle.std.proofs.lemmas.List.{length-append}
 use Rattle.bench_report.specs.Happens.{unpowered}
-use Rattle.jobs.specs.Handed.{AreRows}
+use Rattle.crew.specs.Handed.{AreRows}
 use Rattle.bench_sweep.specs.Reports.{IsOfCall}
 use Rattle.bench_sweep.specs.declared.judging.PointRows.{PointRows}
 use Rattle.bench_sweep.proofs.Along.{rows_more}

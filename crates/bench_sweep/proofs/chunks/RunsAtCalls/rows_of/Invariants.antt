@@ -1,7 +1,7 @@
 use Rattle.std.proofs.Common.{◌≡◌, ◌≤◌, ◌-◌, length}
 use Rattle.bench_report.specs.Bench.{Bench}
 use Rattle.bench_report.specs.Happens.{unpowered}
-use Rattle.jobs.specs.Handed.{AreRows}
+use Rattle.crew.specs.Handed.{AreRows}
 use Rattle.bench_sweep.specs.Reports.{IsOfCall}
 use Rattle.bench_sweep.specs.Along.{CameTold}
 use Rattle.bench_sweep.specs.Runs.{RunsAt}

@@ -1,6 +1,6 @@
 use Rattle.std.proofs.Common.{◌∙◌, List, refl, subst, arith}
 use Rattle.std.proofs.lemmas.List.{take_all}
-use Rattle.jobs.specs.Handed.{TakesAll}
+use Rattle.crew.specs.Handed.{TakesAll}
 use Rattle.bench_sweep.specs.Reports.{TakesPoint}
 use Rattle.bench_sweep.specs.declared.judging.PointRows.{PointRows}
 use Rattle.bench_sweep.proofs.Along.{taken_more}

@@ -1,5 +1,5 @@
 use Rattle.std.proofs.Common.{take}
-use Rattle.jobs.specs.Handed.{TakesAll}
+use Rattle.crew.specs.Handed.{TakesAll}
 use Rattle.bench_sweep.specs.Reports.{TakesPoint}
 use Rattle.bench_sweep.proofs.sweeps.SweepReportSinkChunkPointRows.take.Given as goal
 

@@ -1,7 +1,6 @@
-use Rattle.std.proofs.Common.{rules, ap, ◌∙◌}
+use Rattle.std.proofs.Common.{rules, ◌∙◌}
 use mathlib.Core.Option.{none}
 use Rattle.atomic_table.specs.Table.{step}
-use Rattle.tallies.specs.Halts.{Watched}
 use Rattle.tallies.proofs.HaltKeeps.{knows, learns}
 use Rattle.tallies.proofs.halt.Halt.compare.Goals as goal
 

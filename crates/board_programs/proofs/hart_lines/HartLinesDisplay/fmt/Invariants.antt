@@ -1,8 +1,0 @@
-use Rattle.std.proofs.Common.{take}
-use Rattle.std.specs.Fmt.{HasWritten, IsPlainFormatter}
-use Rattle.board_programs.specs.HartTexts.{lines_text}
-use Rattle.board_programs.proofs.hart_lines.HartLinesDisplay.fmt.Given as goal
-
-abbrev pub invariant-loop-end : goal.invariant-loop-end
-invariant-loop-end g l =
-    IsPlainFormatter l.initial.f → HasWritten g.W.Write.write_str_gives l.initial.f (lines_text (take l.end-index l.self.0.now)) l.f

@@ -1,4 +1,0 @@
-pub mod Kept
-pub mod Lanes
-pub mod Caches
-pub mod Calls

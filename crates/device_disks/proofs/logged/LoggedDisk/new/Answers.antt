@@ -1,6 +1,0 @@
-use Rattle.std.proofs.Common.{refl}
-use Rattle.device_disks.proofs.Kept.{fresh_over}
-use Rattle.device_disks.proofs.logged.LoggedDisk.new.Goals as goal
-
-pub returns-clause-fresh : goal.returns-clause-fresh
-returns-clause-fresh g c = fresh_over _ (g.D.Disk.facts c.args.device) _ _ refl c.requires c.picked-log.ensures

@@ -1,8 +1,0 @@
-use Rattle.disk.specs.WriteLog.{more_written, lent_piece}
-use Rattle.device_disks.proofs.logged.LoggedDiskDisk.split.Given as goal
-
-abbrev pub ghost-picked : goal.ghost-picked
-ghost-picked g a =
-    let passed = a._values.now in
-    let device = g.D.Disk.facts passed.1.now in
-    more_written (lent_piece device.lent device.content) passed.0.now.log

@@ -1,3 +1,0 @@
-pub mod Kept
-pub mod Cached
-pub mod Laws

@@ -1,8 +1,0 @@
-use Rattle.examined.proofs.Contents.{answered, examined}
-use Rattle.examined.proofs.laws.every_content.Goals as goal
-
-pub returns-clause-opened : goal.returns-clause-opened
-returns-clause-opened c = answered
-
-pub returns-clause-examined : goal.returns-clause-examined
-returns-clause-examined c = examined

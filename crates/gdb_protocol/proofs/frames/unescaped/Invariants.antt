@@ -1,6 +1,0 @@
-use Rattle.std.proofs.Common.{◌≡◌, false, drop}
-use Rattle.gdb_protocol.specs.Packets.{spelled_by, behind}
-use Rattle.gdb_protocol.proofs.frames.unescaped.Given as goal
-
-abbrev pub invariant-loop-byte : goal.invariant-loop-byte
-invariant-loop-byte l = behind l.out.items (spelled_by l.after_escape (drop l.byte-index l.body)) ≡ spelled_by false l.body

@@ -1,6 +1,0 @@
-use Rattle.std.proofs.Common.{◌≡◌}
-use Rattle.gdb_protocol.specs.Replies.{others_text}
-use Rattle.gdb_protocol.proofs.lists.others.Given as goal
-
-abbrev pub invariant-loop-hart : goal.invariant-loop-hart
-invariant-loop-hart l = l.out.items ≡ others_text l.hart
