@@ -6,12 +6,14 @@ use Rattle.board_model.specs.Shapes.{Size}
 use Rattle.hsm.specs.Rule.{reading as start_reading, first_word as start_words}
 use Rattle.hsm.specs.Words.{HartView}
 use Rattle.hsm.specs.declared.view.Action.{Action}
+use Rattle.hsm.specs.declared.view.Action.TheVariants.{Looked, Quieted}
 use Rattle.hsm.specs.declared.view.Stage.{Stage}
 use Rattle.ipi.specs.Ledger.{PendingView, reading as raise_reading, first_word as raise_words}
 use Rattle.ipi.specs.declared.view.IpiAction.{IpiAction}
 use Rattle.machine.specs.Machine.{Machine}
 use Rattle.sbi_calls.specs.Both.{Known}
 use Rattle.store.specs.Lives.{Life}
+use Rattle.susp.specs.Sleeps.{AreUnclaimed}
 use Rattle.susp.specs.declared.buses.Bus.{Bus}
 use Rattle.tallies.specs.Books.{Each, IsPart, part_view, told_by}
 use Rattle.tallies.specs.Logs.{Log, IsTrueLog, actions_in, log_places}
@@ -56,6 +58,17 @@ pub record HasTables (harts : ℕ) (starts : Log Action) (raises : Log IpiAction
   pub started : IsTrueLog start_reading (start_words first) harts starts
   pub raised : IsTrueLog raise_reading raise_words harts raises
 
+-- the last step of that hart before the look at its end asked whether every other hart was STOPPED, and found so
+abbrev pub FoundAlone : ℕ → Log Action → ℕ → Type 0
+FoundAlone harts starts hart =
+    ∥ ((found last : ℕ) × (before : List Action) × (actions_in hart starts ≡ Looked last ∷ Quieted found ∷ before)
+    × AreUnclaimed harts hart found) ∥₁
+
+-- where the console was begun, so did the hart of each suspension of the journal
+abbrev pub AreAlone : ℕ → Log Action → Option Left → List Change → Type 0
+AreAlone harts starts None journal = Unit {0}
+AreAlone harts starts (Some left) journal = AllCarry (λ hart address opaque memory. FoundAlone harts starts hart) journal
+
 -- ---- the bus
 -- There is one history of the bus of a session. Its turns made what the bus was at the end, one after another, of the memory that the
 -- power-on left. Each is of a hart, of the store or of the console. Directly after each durable call of a hart the store looked for that
@@ -85,11 +98,13 @@ AreDriven harts machine turns log starts raises (Some left) ends =
     × All (λ e. (stage : Stage) × IsEnding machine turns false (harts_after left) (took_by log e.hart.id)
     (known_by starts raises e.hart.id stage) e) ends
 
--- there is one such history, and one such log of each table, and they are those of the harts
+-- there is one such history, and one such log of each table, and they are those of the harts; a board that sleeps on its disk was found
+-- with every other hart STOPPED
 abbrev pub HasHistory : Size → Machine → ℕ → List Change → Option Change → ℕ → Option Left → List HartEnd → Type 0
 HasHistory size machine turns journal doubt woken left ends =
     (log : Log BusTurn) × (starts : Log Action) × (raises : Log IpiAction)
     × AreDriven size.harts machine turns log starts raises left ends × HasTables size.harts starts raises
+    × AreAlone machine.size.harts starts left journal
     × ∥ IsHistory size machine.memory journal doubt woken log ∥₁
 
 -- a life in which no suspension was asked for

@@ -1,11 +1,12 @@
-use Rattle.std.proofs.Common.{◌∙◌, ℕ, Bool, All, arith, sym, ap, subst}
+use Rattle.std.proofs.Common.{◌∙◌, ℕ, Bool, All, Some, arith, sym, ap, subst}
 use Rattle.hsm.specs.Seating.{all_harts}
 use Rattle.ipi.specs.Seating.{all_pending_views}
 use Rattle.hart_threads.specs.Views.{bus_parts, inside}
 use Rattle.hart_threads.specs.declared.ends.HartEnd.{HartEnd}
 use Rattle.hart_threads.specs.declared.closing.AfterConsole.{AfterConsole}
 use Rattle.store.specs.Views.{journal_of, life_of}
-use Rattle.board_session.specs.Histories.{HasTables, harts_after}
+use Rattle.board_session.specs.Histories.{AreDriven, HasTables, harts_after}
+use Rattle.board_session.proofs.Alone.{all_alone}
 use Rattle.board_session.proofs.Historied.{EndedBy, all_ends_by, history_of}
 use Rattle.board_session.proofs.Lasting.{all_over}
 use Rattle.board_session.proofs.session_end.after_console.Goals as goal
@@ -40,16 +41,19 @@ returns-clause-life g c =
     (subst (λ (p : AfterConsole). All (λ (e : HartEnd). EndedBy t.machine t.turns t.gated p log starts raises e) ends) c.args.talked.parts gone) in
     let true_logs : HasTables j.size.harts starts raises =
     subst (λ (n : ℕ). HasTables n starts raises) c.requires.tables (record { first = logs.0; started = logs.1.1; raised = logs.2.1 }) in
-    let many = ended.ensures.many ∙ c.requires.harts in (
+    let many = ended.ensures.many ∙ c.requires.harts in
+    let are : AreDriven j.size.harts t.machine t.turns log starts raises (Some left) ends = (sym ended.result.0.ok.0 ∙ many, ended.ensures.numbered, driven) in
+    let history = history_of j.size j.memory t.machine.memory log own woke parts end.1 kept life.0.journal life.0.doubt c.args.talked.side.heard.woken c.requires.machine life.2 life.3 c.disk_of-disk.ensures.saved c.disk_of-disk.ensures.woken in (
       life.0,
       (life.1 ∙ back.1, all_over _ life.0.journal c.last-last.result ends (life.2 ∙ ap (λ x. journal_of x) ended.ensures.store) c.last-last.ensures ended.ensures.over),
       (
         log,
         starts,
         raises,
-        (sym ended.result.0.ok.0 ∙ many, ended.ensures.numbered, driven),
+        are,
         true_logs,
-        history_of j.size j.memory t.machine.memory log own woke parts end.1 kept life.0.journal life.0.doubt c.args.talked.side.heard.woken c.requires.machine life.2 life.3 c.disk_of-disk.ensures.saved c.disk_of-disk.ensures.woken,
+        all_alone j.size t.machine t.turns log starts raises left ends are t.machine.memory life.0.journal life.0.doubt c.args.talked.side.heard.woken history,
+        history,
       ),
     )
 
