@@ -1,6 +1,7 @@
 -- A line that a bench under way runs.
 use Rattle.std.proofs.Common.{◌≡◌, ◌∙◌, Bool, List, ℕ, Result, Ok, Err, MatchResult, IfOk, OnErr, OnOk, inl, inr, true, false, refl, sym, subst}
 use Rattle.board_model.specs.Shapes.{Size}
+use Rattle.board_model.specs.declared.console_command.ConsoleCommand.{ConsoleCommand}
 use Rattle.std.specs.declared.alloc.AllocError.{AllocError}
 use Rattle.machine.specs.declared.line.MachineLine.TheVariants as shown
 use Rattle.script_lang.specs.declared.line.Line.{Line}
@@ -9,12 +10,12 @@ use Rattle.simdisk.specs.declared.fill.Fill.{Fill}
 use Rattle.sbi.specs.Words.{life_goes_on}
 use Rattle.sbi.specs.declared.words.Word.{Word}
 use Rattle.sbi.specs.declared.words.Word.TheVariants as words
-use Rattle.bench_report.specs.Agree.{Agrees, ArmsIts, CountsNone, CutsIts, EndsBy, HadEnough, InspectsOrLost, IsBench, Matches, MovesEnough, PokesIts}
+use Rattle.bench_report.specs.Agree.{Agrees, ArmsIts, CountsNone, CutsIts, EndsBy, HadEnough, InspectsOrLost, IsBench, Matches, MovesEnough, PokesIts, StepsTo}
 use Rattle.bench_report.specs.Bench.{Bench}
 use Rattle.bench_report.specs.Deeds.{IsNoRow, deed_of}
 use Rattle.bench_report.specs.Happens.{SaysEnough, shows, unpowered}
-use Rattle.bench_report.proofs.Growths.{moves_grow, said_counts}
-use Rattle.bench_report.specs.Steps.{Moves}
+use Rattle.bench_report.proofs.Growths.{console_keeps, moves_grow, said_counts}
+use Rattle.bench_report.specs.Steps.{ConsoleStep, Moves}
 use Rattle.bench_report.specs.declared.power.Power.{Power}
 use Rattle.bench_report.specs.declared.power.Power.TheVariants.{Off, On}
 use Rattle.bench_report.specs.Rows.{RowMoves, row_answer}
@@ -22,7 +23,7 @@ use Rattle.bench_report.specs.declared.rows.TurnRow.{TurnRow}
 use Rattle.bench_report.specs.declared.rows.TurnRow.TheVariants as rows
 use Rattle.bench_report.proofs.InPlace.{lost_of, row_of, step_of}
 use Rattle.report_lines.specs.declared.printed.Answer.{Answer}
-use Rattle.bench_report.specs.Lives.{IsAfter, IsCutIn, IsSettled, LineDid, WentInPlace}
+use Rattle.bench_report.specs.Lives.{IsAfter, IsCutIn, IsSettled, IsWholeOrCut, LineDid, WentInPlace}
 
 abbrev Reported : Size → Line → Fill → Power → Power → List (List ℕ) → List (List ℕ) → Result Answer AllocError → Type 0
 Reported size line fill power after old new r = (b : Bench) → IsBench size b power old
@@ -111,3 +112,37 @@ module _ (size : Size) (h n made : ℕ) (word : Word) (fill : Fill) (b : Bench) 
     tt,
     inr tt,
   )
+
+-- A command of the console, which is run in place: `would` is what it answered and `mid` the board that it left, `answer` and `left` what came
+-- of them once an armed cut that struck in it had taken power.
+module _ (size : Size) (command : ConsoleCommand) (fill : Fill) (b : Bench) (before mid left : Power) (would answer : Answer) (old : List (List ℕ))
+    (steps : Agrees size b before → StepsTo size b mid (ConsoleStep command b.power b would))
+    (ends : (x : Bench) → Agrees size x mid → IsWholeOrCut size fill x would mid answer left) (was : IsBench size b before old) where
+  did : StepsTo size b mid (ConsoleStep command b.power b would)
+  did = steps was.0
+
+  counts : did.0.growths ≡ b.growths
+  counts = console_keeps command b.power b would did.0 did.1
+
+  same : old ≡ did.0.payloads
+  same = was.1 ∙ sym did.3
+
+  abbrev Stepped : Answer → Type 0
+  Stepped a = ConsoleStep command b.power b a did.0
+
+  abbrev Commanded : List (List ℕ) → Type 0
+  Commanded slots = (x : Bench) × Moves size (lines.Command command) b answer x × IsBench size x left slots × (x.growths ≡ b.growths)
+
+  moved : IsWholeOrCut size fill did.0 would mid answer left → Commanded old
+  moved (inl (calm, is, agrees)) = (did.0, inl (subst Stepped (sym is) did.1, calm), (agrees, same, calm), counts)
+  moved (inr (hit, is, agrees, cut)) = (unpowered did.0, inr (would, did.0, did.1, hit, is, refl), (agrees, same, refl), counts)
+
+  pub commanded : (slots : List (List ℕ)) → slots ≡ old → Commanded slots
+  commanded slots is = subst Commanded (sym is) (moved (ends did.0 did.2))
+
+  ended : IsWholeOrCut size fill did.0 would mid answer left → EndsBy size (lines.Command command) fill b answer left
+  ended (inl (calm, is, agrees)) = inl (did.0, subst Stepped (sym is) did.1, calm)
+  ended (inr (hit, is, agrees, cut)) = inr (would, did.0, cut.0, cut.1, did.1, hit, cut.3, cut.4, cut.5)
+
+  pub command_did : LineDid size (lines.Command command) fill b answer before left
+  command_did = (ended (ends did.0 did.2), tt, tt, tt, inr tt)

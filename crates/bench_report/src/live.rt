@@ -4,13 +4,13 @@
 ghost use Rattle.std.specs.Prelude.{◌≡◌, ◌≤◌, false, length, IfOk, OnErr};
 ghost use Rattle.simdisk.specs.declared.SimDisk.{SimDisk};
 ghost use Rattle.board_model.specs.Shapes.{Size};
-ghost use Rattle.bench_report.specs.Agree.{OffIs, fill_after};
+ghost use Rattle.bench_report.specs.Agree.{Agrees, OffIs, fill_after};
 ghost use Rattle.bench_report.specs.Bench.{Bench, bench_with};
 ghost use Rattle.bench_report.specs.Happens.{off};
 ghost use Rattle.bench_report.specs.Steps.{Moves};
 ghost use Rattle.bench_report.specs.Views.{facts};
 ghost use Rattle.bench_report.specs.Deeds.{IsNoRow, deed_of};
-ghost use Rattle.bench_report.specs.Lives.{IsOn, IsSettled, IsSound, LineDid, Shows};
+ghost use Rattle.bench_report.specs.Lives.{IsOn, IsSettled, IsSound, IsWholeOrCut, LineDid, Shows};
 ghost use Rattle.bench_report.specs.Rows.{IsWithin, RowMoves, row_answer};
 ghost use Rattle.script_lang.specs.Lines.{IsLineInRange};
 ghost use Rattle.script_lang.specs.declared.line.Line.TheVariants as lines;
@@ -21,10 +21,11 @@ ghost use denote.Param.Send.{IsSync};
 use crate::cuts::settled;
 use crate::in_place::{in_place, is_still_on};
 use crate::memory::was_refused;
+use crate::on_lines::console;
 use crate::power::{OffDisk, Power};
 use crate::rows::TurnRow;
 use crate::setting::Setting;
-use crate::steps::{disk_left, fill_after, line_with_cuts, refused_suspension};
+use crate::steps::{disk_left, fill_after, line_with_cuts, lose_power, refused_suspension, struck};
 use board::Payloads;
 use board_model::{HartId, Shape};
 use core::mem::replace_with;
@@ -49,8 +50,8 @@ pub struct LiveBench {
     pub refused: bool,
 }
 
-/// A bench after a line that is no row of turns, and what the line answers. It is passed by name, and so asks for `sync`, which the bound of
-/// `C` would give it else.
+/// A bench after a line that is no row of turns, and what the line answers. It moves the board. It is passed by name, and so asks for
+/// `sync`, which the bound of `C` would give it else.
 fn after_line<C: Crew>(
     bench: LiveBench,
     asked: (&Setting<'_, C>, &Line),
@@ -145,11 +146,34 @@ impl LiveBench {
         ensures fill { self.new.fill ≡ fill_after line.now self.old.fill }
         ensures slots { length self.new.payloads ≡ length self.old.payloads }
     {
-        if let Line::Turn(hart, count) = line {
-            let row = self.turns(setting, *hart, *count);
-            return Ok(row.answer(*hart));
+        match line {
+            Line::Turn(hart, count) => {
+                let row = self.turns(setting, *hart, *count);
+                Ok(row.answer(*hart))
+            }
+            Line::Command(command) => {
+                let answer = console(*command, &mut self.power);
+                Ok(self.settle_command(answer))
+            }
+            _ => replace_with(self, (setting, line), after_line),
         }
-        replace_with(self, (setting, line), after_line)
+    }
+
+    /// Settles a board after a command of the console, which answered so. Where an armed cut struck in it, power is lost, and the answer is
+    /// `power lost`. This is a function of its own, since it moves the board, which `run` is to do only where power is lost.
+    fn settle_command(&mut self, answer: Answer) -> Answer
+        ensures settled { (size : Size) (b : Bench) → Agrees size b self.old.power
+            → IsWholeOrCut size self.old.fill b answer self.old.power result self.new.power }
+        ensures sound { IsSound self.new }
+        ensures payloads { self.new.payloads ≡ self.old.payloads }
+        ensures fill { self.new.fill ≡ self.old.fill }
+    {
+        if struck(&self.power) {
+            self.refused = false;
+            return replace_with(&mut self.power, self.fill, lose_power);
+        }
+        self.refused = refused_suspension(&self.power);
+        answer
     }
 
     /// Up to `count` turns of a hart, one after another: what the line `turn` does, and many times as fast, since

@@ -10,6 +10,7 @@ ghost use Rattle.bench_report.specs.Bench.{Bench};
 ghost use Rattle.bench_report.specs.Happens.{armed_with, off, SaysEnough, unpowered, says, shows};
 ghost use Rattle.bench_report.specs.Steps.{ArmStep, Step, Moves};
 ghost use Rattle.simdisk.specs.declared.SimDisk.{SimDisk};
+ghost use Rattle.report_lines.specs.declared.printed.Printed.TheVariants as printed;
 ghost use Rattle.bench_report.specs.Agree.{HasDisk, IsCutBy, IsArmed, ArmsIts, CutsIts, MovesEnough, PokesIts, StepsEnough, InspectsIts, InspectsOrLost, fill_after, EndsBy, Agrees, HadEnough, OffIs, IsBench, IsUnstruck, Matches, StepsTo};
 
 use crate::armings::{fault_of, newest_fill};
@@ -57,6 +58,16 @@ pub fn cut(power: Power, fill: Fill) -> Power
     Power::Off(OffDisk {
         disk: disk_left(power).after_cut(fill),
     })
+}
+
+/// Takes power from a board on whose disk an armed cut struck within a line, and answers what the line says then.
+pub(crate) fn lose_power(power: Power, fill: Fill) -> (Power, Answer)
+    ensures reported { (size : Size) (b : Bench) → Agrees size b power → Agrees size (unpowered b) result.0 }
+    ensures exact { (disk : SimDisk) × HasDisk power disk × IsCutBy fill disk result.0 }
+    ensures calm { IsUnstruck result.0 }
+    ensures tells { result.1 ≡ says printed.PowerLost }
+{
+    (cut(power, fill), says(Printed::PowerLost))
 }
 
 /// Arms a cut or a failure of a disk of a board that is off, or of one of its lanes, in the place of an older one.
@@ -222,8 +233,8 @@ pub(crate) fn line_with_cuts<C: Crew>(
 {
     let (after, answer) = line_alone(setting, line, power, payloads);
     if struck(&after) {
-        let power = cut(after, fill);
-        (power, Ok(says(Printed::PowerLost)))
+        let (left, lost) = lose_power(after, fill);
+        (left, Ok(lost))
     } else {
         (after, answer)
     }

@@ -4,9 +4,9 @@ use Rattle.bench_report.proofs.steps.line_with_cuts.Goals as goal
 
 pub returns-then-struck-clause-reported : goal.returns-then-struck-clause-reported
 returns-then-struck-clause-reported g c = λ b h.
-    told_cut _ _ _ b c.line_alone-after.result.1 c.line_alone-after.result.0 _ _ c.cut-power.ensures.exact.0 _ (c.line_alone-after.ensures.reported b h)
-    (λ new is. sym (c.struck.ensures.reported c.args.setting.now.shape.now new is) ∙ c.if-struck.true) (λ new is. c.cut-power.ensures.reported c.args.setting.now.shape.now new is)
-    h.2 c.cut-power.ensures.exact.1 c.cut-power.ensures.exact.2 c.says.ensures
+    told_cut _ _ _ b c.line_alone-after.result.1 c.line_alone-after.result.0 _ _ c.lose_power-left.ensures.exact.0 _ (c.line_alone-after.ensures.reported b h)
+    (λ new is. sym (c.struck.ensures.reported c.args.setting.now.shape.now new is) ∙ c.if-struck.true) (λ new is. c.lose_power-left.ensures.reported c.args.setting.now.shape.now new is)
+    h.2 c.lose_power-left.ensures.exact.1 c.lose_power-left.ensures.exact.2 c.lose_power-left.ensures.tells
 
 pub returns-else-struck-clause-reported : goal.returns-else-struck-clause-reported
 returns-else-struck-clause-reported g c = λ b h.
@@ -36,8 +36,8 @@ returns-else-struck-clause-inspects g c = whole_inspects _ _ c.line_alone-after.
 
 pub returns-then-struck-clause-enough : goal.returns-then-struck-clause-enough
 returns-then-struck-clause-enough g c =
-    cut_enough c.args.setting.now.shape.now c.args.line.now c.line_alone-after.result.0 _ _ _ c.line_alone-after.result.1 _ _ c.says.ensures (λ b h. c.line_alone-after.ensures.reported b h)
-    (λ new is. sym (c.struck.ensures.reported c.args.setting.now.shape.now new is) ∙ c.if-struck.true) (λ new is. c.cut-power.ensures.reported c.args.setting.now.shape.now new is)
+    cut_enough c.args.setting.now.shape.now c.args.line.now c.line_alone-after.result.0 _ _ _ c.line_alone-after.result.1 _ _ c.lose_power-left.ensures.tells (λ b h. c.line_alone-after.ensures.reported b h)
+    (λ new is. sym (c.struck.ensures.reported c.args.setting.now.shape.now new is) ∙ c.if-struck.true) (λ new is. c.lose_power-left.ensures.reported c.args.setting.now.shape.now new is)
 
 pub returns-else-struck-clause-enough : goal.returns-else-struck-clause-enough
 returns-else-struck-clause-enough g c =
