@@ -6,7 +6,7 @@ ghost use Rattle.board_model.specs.declared.durable.Entry.{Entry};
 ghost use Rattle.tallies.specs.BookViews.{id_of, parts_of};
 ghost use Rattle.tallies.specs.Books.{fresh_from};
 ghost use Rattle.tallies.specs.Halts.{watched};
-ghost use Rattle.hart_threads.specs.Begun.{board_of};
+ghost use Rattle.hart_threads.specs.Begun.{AreFromLast, board_of};
 ghost use Rattle.hart_threads.specs.Bused.{begun_bus};
 ghost use Rattle.hart_threads.specs.Heard.{heard_nothing};
 ghost use Rattle.hart_threads.specs.Seated.{AreNamed};
@@ -275,6 +275,7 @@ fn drive_beside_console<
         (dialogue_ends (I.remaining r.1.side.streams.input) (output_of W.contents r.1.side.streams.out)
         (party r.1.side.part.told r.1.side.heard))) }
     ensures loops { IfOk result.2 (λ r. vec_len r.0 ≡ vec_len booted.harts) }
+    ensures numbered { IfOk result.2 (λ r. AreFromLast 0 (λ x. x.ended.hart.id) r.0.items) }
     ensures side { IfErr result.2 (λ e. e.side ≡ side) }
     ensures back { IfErr result.2 (λ e. vec_len e.loops + vec_len e.parts ≡ vec_len booted.harts) }
     ensures fresh { IfErr result.2 (λ e. All (λ p. p.receipts.told ≡ []) e.parts.items) }

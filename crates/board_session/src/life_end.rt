@@ -5,6 +5,7 @@ ghost use Rattle.store.specs.Leaves.{IsIdle};
 ghost use Rattle.store.specs.Taken.{are_taken};
 ghost use Rattle.store.specs.Views.{size_of_store, found_state, journal_of, life_of, doubt_of, failures_at_open, disk_of};
 ghost use Rattle.hart_threads.specs.Noted.{boot_told};
+ghost use Rattle.hart_threads.specs.Begun.{AreFromLast};
 ghost use Rattle.hart_threads.specs.Bused.{AreSaved, AreWakes};
 ghost use Rattle.hart_threads.specs.Views.{bus_parts, inside, moments_with, parts_with};
 ghost use Rattle.hart_threads.specs.Ends.{AreNumberedFrom, IsEnding, own_receipt};
@@ -38,17 +39,14 @@ fn is_over(last: &Option<(u32, Entry)>, end: &HartEnd) -> bool
     }
 }
 
-/// How the hart of that number ended, of whose loop this is, in a life whose last command is that. That a loop is of the hart
-/// whose thread it was on, and that the command which ended it is the life's last, no type says, so both are looked at here:
-/// another loop would be waited for in vain, which no run comes to.
+/// How the hart ended of whose loop this is, in a life whose last command is that. That the command which ended the loop is the life's
+/// last no type says, so it is looked at here: another command would be waited for in vain, which no run comes to.
 fn end_of<'c, R: Wait, J: Threaded>(
     rt: &R,
     rested: &Rested<'c, J>,
     parted: &Parted<'c, J>,
-    number: usize,
     last: &Option<(u32, Entry)>,
 ) -> HartEnd
-    ensures number { result.hart.id ≡ number }
     ensures hart { result.hart ≡ rested.now.ended.hart }
     ensures over { IsOver last.now result }
     ensures told { own_receipt result ≡ rested.now.ended.told }
@@ -56,15 +54,15 @@ fn end_of<'c, R: Wait, J: Threaded>(
         (known rested.now.ended.local.seats) result }
 {
     let end = rested.end(parted);
-    if end.hart.id().index() == number && is_over(last, &end) {
+    if is_over(last, &end) {
         return end;
     }
     for _ in rt.forever() {}
     unreachable!()
 }
 
-/// How the harts of those loops ended, in the order of their numbers, from 0. In the list of loops the highest number comes
-/// first. `parted` holds what their console said of the harts when it left, and `last` the last command of their life. The parts of the
+/// How the harts of those loops ended, in the order of their numbers, from 0. In the list of loops the highest number comes first.
+/// `parted` holds what their console said of the harts when it left, and `last` the last command of their life. The parts of the
 /// loops come back to the store and to the bus, and their seats of the tables are given back.
 pub(crate) fn ends_of<'c, R: Wait, D: Disk + Drop, J: Threaded>(
     rt: &R,
@@ -79,6 +77,7 @@ pub(crate) fn ends_of<'c, R: Wait, D: Disk + Drop, J: Threaded>(
     requires empty { vec_len room ≡ 0 }
     requires room { vec_len loops ≤ vec_capacity room }
     requires few { vec_len loops ≤ 8 }
+    requires numbered { AreFromLast 0 (λ r. r.ended.hart.id) loops.items }
     ensures store { inside whole.new ≡ inside whole.old }
     ensures moments { moments_with whole.new ≡ moments_with whole.old }
     ensures back { (back : AreBack (parts_with whole.new)) × (back.harts ≡ map own_receipt result.0.items) }
@@ -93,8 +92,7 @@ pub(crate) fn ends_of<'c, R: Wait, D: Disk + Drop, J: Threaded>(
     let (mut loops, mut ends) = (loops, room);
     let mut back = SeatsBack::new();
     while let Some(rested) = loops.pop() {
-        let number = ends.len();
-        ends.push_reserved(end_of(rt, &rested, parted, number, last));
+        ends.push_reserved(end_of(rt, &rested, parted, last));
         let HartLocal {
             seats,
             doze: _,

@@ -2,6 +2,7 @@
 
 ghost use Rattle.std.specs.Prelude.{◌≡◌, ◌≤◌, ◌<◌, ◌+◌, [], All, length, Some, None, false, Err, vec_len, vec_capacity};
 ghost use Rattle.board_model.specs.declared.refusal.Refusal.TheVariants.{Memory};
+ghost use Rattle.hart_threads.specs.Begun.{AreFromLast};
 ghost use Rattle.hart_threads.specs.Heard.{heard_nothing};
 ghost use Rattle.hart_threads.specs.Noted.{boot_told};
 ghost use Rattle.hart_threads.specs.Seated.{AreNamed};
@@ -53,6 +54,7 @@ pub(crate) fn after_console<
 ) -> SessionEnd<D, I, W>
     requires none { length (parts_with shared.0) ≡ 0 }
     requires harts { vec_len loops ≡ J.size.harts }
+    requires numbered { AreFromLast 0 (λ r. r.ended.hart.id) loops.items }
     requires boot { boot.told ≡ boot_told J.issued }
     requires all { J.parts ≡ J.size.harts + 2 }
     requires ungated { J.gated ≡ false }

@@ -19,12 +19,13 @@ numbered_last : (hs : List ArchState) (h : ArchState) → AreNumbered (hs ++ h �
 numbered_last hs h all =
     ap (λ (s : ArchState). s.id) (sym (get_or_push hs h (never_started (length hs)) (length hs) refl)) ∙ all (length hs) (omega (arith, length_push hs h))
 
-pub from_last : (hs : List ArchState) (all : List ActingHart) → reverse (map (λ a. a.hart) all) ≡ hs → AreNumbered hs → AreFromLast all
+pub from_last : (hs : List ArchState) (all : List ActingHart) → reverse (map (λ a. a.hart) all) ≡ hs → AreNumbered hs → AreFromLast 0 (λ (a : ActingHart). a.hart.id) all
 from_last hs [] same numbered = tt
 from_last hs (a ∷ rest) same numbered =
     let harts : List ArchState = map (λ (x : ActingHart). x.hart) rest in
     let is : AreNumbered (reverse harts ++ a.hart ∷ []) = subst AreNumbered (sym same ∙ reverse-append (a.hart ∷ []) harts) numbered in
-    (numbered_last (reverse harts) a.hart is ∙ length-reverse harts ∙ long rest, from_last (reverse harts) rest refl (numbered_less (reverse harts) a.hart is))
+    let last = numbered_last (reverse harts) a.hart is ∙ length-reverse harts ∙ long rest in
+    (omega (arith, last), from_last (reverse harts) rest refl (numbered_less (reverse harts) a.hart is))
   where
     long : (xs : List ActingHart) → length (map (λ (x : ActingHart). x.hart) xs) ≡ length xs
     long [] = refl

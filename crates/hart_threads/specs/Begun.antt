@@ -1,5 +1,5 @@
 -- A hart as the boot left it, whose loop begins. Source: docs/BOARD.md, "Power on"; docs/THREADS.md, "The end of a loop".
-use Rattle.std.specs.Prelude.{◌≡◌, ℕ, List, [], ◌∷◌, Option, length}
+use Rattle.std.specs.Prelude.{◌≡◌, ◌+◌, ℕ, List, [], ◌∷◌, Option, length}
 use Rattle.board_model.specs.Shapes.{Size}
 use Rattle.hart.specs.State.{ArchState}
 use Rattle.hsm.specs.Rule.{stands}
@@ -15,7 +15,6 @@ use Rattle.susp.specs.Dozes.{doze_of}
 use Rattle.susp.specs.declared.buses.Doze.{Doze}
 use Rattle.hart_threads.specs.Bused.{fresh_part}
 use Rattle.hart_threads.specs.Seated.{AreOfHart, IsSeated}
-use Rattle.hart_threads.specs.declared.seated.ActingHart.{ActingHart}
 use Rattle.hart_threads.specs.Threads.{Seated, seated}
 
 -- the board that these make, with the tables as the one seat of all harts shows them
@@ -40,7 +39,7 @@ abbrev pub IsFromBoot : Machine → Tables → ArchState → Seats → Option Do
 IsFromBoot m t s seats doze =
     IsSeated t s.id seats doze × AreOfHart s.id seats × BeginsAs m s.id (seated s (known seats) doze (fresh_part s.id))
 
--- they are the harts of a board, that of the highest number first
-abbrev pub AreFromLast : List ActingHart → Type 0
-AreFromLast [] = Unit {0}
-AreFromLast (a ∷ rest) = (a.hart.id ≡ length rest) × AreFromLast rest
+-- they are of the harts from that number on, by these numbers of theirs, that of the highest number first
+abbrev pub AreFromLast : {A : Type 0} → ℕ → (A → ℕ) → List A → Type 0
+AreFromLast first number [] = Unit {0}
+AreFromLast first number (a ∷ rest) = (number a ≡ first + length rest) × AreFromLast first number rest

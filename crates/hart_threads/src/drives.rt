@@ -18,14 +18,14 @@ use crate::loops::hart_loop;
 use crate::seated::{ActingHart, seat_harts};
 use crate::shared::{HartLocal, HartParts, SharedBoard};
 use crate::threaded::Threaded;
-use crate::works::{Rooms, StopSource, on_threads};
+use crate::works::{Promised, Rooms, StopSource, on_threads};
 use board_model::Refusal;
 use disk::Disk;
 use hart::Hart;
 use sbi_calls::{Seats, Tables};
 use std::alloc::Global;
 use std::sync::{Mutex, Wait};
-use std::thread::Threads;
+use std::thread::{Promise, Threads};
 use susp::Doze;
 use tallies::Journal;
 
@@ -120,6 +120,7 @@ pub fn drive<
     requires tables { AreNamed J.starts J.raises board.tables.now }
     ensures said { IfOk result (λ r. K.post console side r.1) }
     ensures loops { IfOk result (λ r. vec_len r.0 ≡ vec_len booted.harts) }
+    ensures numbered { IfOk result (λ r. AreFromLast 0 (λ x. x.ended.hart.id) r.0.items) }
     ensures refused { IfErr result (λ e. (e.side ≡ side) × (e.refusal ≡ Memory)) }
     ensures back { IfErr result (λ e. vec_len e.loops + vec_len e.parts ≡ vec_len booted.harts) }
     ensures fresh { IfErr result (λ e. All (λ p. p.receipts.told ≡ []) e.parts.items) }
@@ -155,6 +156,7 @@ pub fn drive<
         works,
         &|work|
             requires { IsSeated work.board.tables.now work.acting.hart.id work.acting.seats work.acting.doze }
+            ensures { result.ended.hart.id ≡ work.entry.acting.hart.id }
         { loop_of(work) },
         side,
         console,
@@ -192,6 +194,14 @@ struct HartWork<'r, 'g, 'a, 'c, 's, R, G: Gate, D: Disk + Drop, J: Threaded> {
     ghost gated: { (h n : ℕ) → G.answers gate.now h n false → J.gated ≡ true },
 }
 
+/// The promise of a loop that ended: it is of the hart of that number.
+#[derive(Drop)]
+struct OfHart(usize);
+
+impl<'c, J: Threaded> Promise<Rested<'c, J>> for OfHart {
+    ghost kept_by = { λ p r. r.ended.hart.id ≡ p.0 };
+}
+
 /// The loop of a hart that is as the boot left it, and the end of the life where that ended it.
 fn loop_of<
     'r,
@@ -205,6 +215,7 @@ fn loop_of<
     J: Threaded + Send + Sync,
 >(work: HartWork<'r, 'g, 'a, 'c, 's, R, G, D, J>) -> Rested<'c, J>
     requires { IsSeated work.board.tables.now work.acting.hart.id work.acting.seats work.acting.doze }
+    ensures { result.ended.hart.id ≡ work.entry.acting.hart.id }
 {
     let HartWork {
         rt,
@@ -241,7 +252,7 @@ impl<'r, 'a, 'c, R: Wait, J: Threaded> StopSource for Stop<'r, 'a, 'c, R, J> {
     }
 }
 
-/// The loops of those harts, each with one of the parts, and the parts that are left.
+/// The loops of those harts, each promised by the number of its hart and with one of the parts; and the parts that are left.
 fn works_of<
     'r,
     'g,
@@ -259,15 +270,15 @@ fn works_of<
     all: Vec<ActingHart>,
     parts: Vec<HartParts<J>>,
     turns: u64,
-    room: Vec<HartWork<'r, 'g, 'a, 'c, 's, R, G, D, J>>,
+    room: Vec<Promised<OfHart, HartWork<'r, 'g, 'a, 'c, 's, R, G, D, J>>>,
 ) -> (
-    Vec<HartWork<'r, 'g, 'a, 'c, 's, R, G, D, J>>,
+    Vec<Promised<OfHart, HartWork<'r, 'g, 'a, 'c, 's, R, G, D, J>>>,
     Vec<HartParts<J>>,
 )
     requires board { board.shape.now ≡ J.size }
     requires named { J.machine.size ≡ board.shape.now }
     requires turns { turns ≡ J.turns }
-    requires numbered { AreFromLast all.items }
+    requires numbered { AreFromLast 0 (λ a. a.hart.id) all.items }
     requires runs { map (λ p. p.run) parts.items ≡ fresh_from 2 (vec_len parts) }
     requires gated { (h n : ℕ) → G.answers gate.now h n false → J.gated ≡ true }
     requires tables { AreTablesOf board.shape.now board.tables.now }
@@ -278,22 +289,26 @@ fn works_of<
     requires room { (vec_len room ≡ 0) × (vec_capacity room ≡ vec_len all) }
     ensures all { vec_len result.0 ≡ vec_len all }
     ensures none { vec_len result.1 ≡ 0 }
-    ensures seated { All (λ w. IsSeated w.board.tables.now w.acting.hart.id w.acting.seats w.acting.doze)
+    ensures seated { All (λ w. IsSeated w.work.board.tables.now w.work.acting.hart.id w.work.acting.seats w.work.acting.doze)
         result.0.items }
+    ensures own { All (λ w. w.work.acting.hart.id ≡ w.promise.0) result.0.items }
+    ensures numbered { AreFromLast 0 (λ w. w.promise.0) result.0.items }
     ensures fresh { All (λ p. p.receipts.told ≡ []) result.1.items }
 {
     let (mut works, mut parts) = (room, parts);
     for acting in all {
         let parts_of_one = next_parts(&mut parts);
         known_begun::<J>(&acting, board.tables);
-        works.push_reserved(HartWork {
+        let promise = OfHart(acting.hart.id().index());
+        let work = HartWork {
             rt,
             gate,
             board,
             acting,
             parts: parts_of_one,
             turns,
-        });
+        };
+        works.push_reserved(Promised { promise, work });
     }
     (works, parts)
 }

@@ -1,10 +1,12 @@
-use Rattle.std.proofs.Common.{◌≡◌, ◌∙◌, ◌∷◌, List, length, map, arith, refl, sym, ap, subst, All}
+use Rattle.std.proofs.Common.{◌≡◌, ◌∙◌, ◌∷◌, ℕ, List, length, map, vec_len, arith, refl, sym, ap, subst, All}
 use Rattle.std.proofs.lemmas.List.Elements.{All-push}
 use Rattle.board_model.specs.declared.durable.Entry.{Entry}
+use Rattle.hart.specs.State.{ArchState}
 use Rattle.hsm.specs.Seating.{all_harts}
 use Rattle.ipi.specs.Seating.{all_pending_views}
 use Rattle.tallies.specs.declared.book_views.PartView.{PartView}
 use Rattle.hart_threads.specs.declared.ends.HartEnd.{HartEnd}
+use Rattle.hart_threads.specs.Begun.{AreFromLast}
 use Rattle.hart_threads.specs.Ends.{AreNumberedFrom, own_receipt}
 use Rattle.hart_threads.specs.Views.{bus_parts, parts_with}
 use Rattle.hart_threads.specs.declared.bus_turns.BusTurn.{BusTurn}
@@ -13,7 +15,7 @@ use Rattle.board_session.specs.Histories.{EndsWith}
 use Rattle.board_session.specs.Sessions.{IsOver}
 use Rattle.board_session.proofs.Backing.{none_there, none_told, told_back, told_more}
 use Rattle.board_session.proofs.Historied.{all_with}
-use Rattle.board_session.proofs.Numbering.{numbered_next}
+use Rattle.board_session.proofs.Numbering.{from_last_taken, numbered_next}
 use Rattle.board_session.proofs.life_end.ends_of.Goals as goal
 
 pub loop-rested-init : goal.loop-rested-init
@@ -30,6 +32,7 @@ loop-rested-init g c =
       made = omega (arith, empty);
       room = refl;
       numbered = subst (λ (es : List HartEnd). AreNumberedFrom 0 es) (sym none) tt;
+      left = subst (λ (k : ℕ). AreFromLast k (λ r. r.ended.hart.id) c.args.loops.items) (sym empty) c.requires.numbered;
       well = subst (λ (es : List HartEnd). All (EndsWith t.machine t.turns t.gated c.args.parted.now.token.value (bus_parts c.args.bus.now) (all_harts c.new-back.result.starts.items) (all_pending_views c.new-back.result.raises.items)) es) (sym none) (λ k e lt. absurd (omega (arith, lt)));
       seats = c.new-back.ensures.none ∙ sym empty;
       over = subst (λ (es : List HartEnd). All (IsOver c.args.last.now) es) (sym none) (λ k e lt. absurd (omega (arith, lt)));
@@ -48,6 +51,7 @@ loop-rested-preserved-in-Some g c =
     let fewer = c.in-Some.ensures.cases in
     let pushed = c.push_reserved.ensures.len in
     let grown = c.push_reserved.ensures.items in
+    let left = from_last_taken (vec_len c.loop-rested.ends) (λ r. r.ended.hart.id) c.pop.new.self.items c.loop-rested.loops.items c.in-Some.rested c.in-Some.ensures.items i.left in
     let before = bus_parts c.loop-rested.bus in
     let back = told_back e.local.part (parts_with c.loop-rested.whole) e.told e.ends e.noted i.back.0 in
     let told = told_more c.loop-rested.ends.items c.push_reserved.new.self.items _ i.back.0.harts e.told grown c.end_of.ensures.told i.back.1 in
@@ -58,7 +62,8 @@ loop-rested-preserved-in-Some g c =
       parts = omega (arith, long, were, pushed);
       made = omega (arith, made, fewer, pushed);
       room = c.push_reserved.ensures.capacity ∙ i.room;
-      numbered = numbered_next c.loop-rested.ends.items _ _ _ i.numbered (sym c.loop-rested.ends.ok.0 ∙ sym c.len-number.ensures) c.end_of.ensures.number grown;
+      numbered = numbered_next c.loop-rested.ends.items _ _ _ i.numbered (sym c.loop-rested.ends.ok.0) (ap (λ (s : ArchState). s.id) c.end_of.ensures.hart ∙ left.0) grown;
+      left = subst (λ (k : ℕ). AreFromLast k (λ r. r.ended.hart.id) c.pop.new.self.items) (sym (omega (arith, pushed))) left.1;
       well = all_with t.machine t.turns t.gated parting e.local.run before _ _ _ _ _ e.local.seats e.hart c.loop-rested.ends.items c.push_reserved.new.self.items _ c.gather-in-Some.ensures.parts c.push.ensures.starts c.push.ensures.raises grown c.end_of.ensures.hart c.in-Some.rested.alone c.end_of.ensures.well i.well;
       seats = (let more = c.push.ensures.many in let were' = i.seats in omega (arith, more, were', pushed));
       over = subst (λ es. All (IsOver c.args.last.now) es) (sym grown)
@@ -78,6 +83,7 @@ loop-rested-preserved g c =
     let fewer = c.in-Some.ensures.cases in
     let pushed = c.push_reserved.ensures.len in
     let grown = c.push_reserved.ensures.items in
+    let left = from_last_taken (vec_len c.loop-rested.ends) (λ r. r.ended.hart.id) c.pop.new.self.items c.loop-rested.loops.items c.in-Some.rested c.in-Some.ensures.items i.left in
     let before = bus_parts c.loop-rested.bus in
     let back = told_back e.local.part (parts_with c.loop-rested.whole) e.told e.ends e.noted i.back.0 in
     let told = told_more c.loop-rested.ends.items c.push_reserved.new.self.items _ i.back.0.harts e.told grown c.end_of.ensures.told i.back.1 in
@@ -88,7 +94,8 @@ loop-rested-preserved g c =
       parts = omega (arith, long, were, pushed);
       made = omega (arith, made, fewer, pushed);
       room = c.push_reserved.ensures.capacity ∙ i.room;
-      numbered = numbered_next c.loop-rested.ends.items _ _ _ i.numbered (sym c.loop-rested.ends.ok.0 ∙ sym c.len-number.ensures) c.end_of.ensures.number grown;
+      numbered = numbered_next c.loop-rested.ends.items _ _ _ i.numbered (sym c.loop-rested.ends.ok.0) (ap (λ (s : ArchState). s.id) c.end_of.ensures.hart ∙ left.0) grown;
+      left = subst (λ (k : ℕ). AreFromLast k (λ r. r.ended.hart.id) c.pop.new.self.items) (sym (omega (arith, pushed))) left.1;
       well = all_with t.machine t.turns t.gated parting e.local.run before _ _ _ _ _ e.local.seats e.hart c.loop-rested.ends.items c.push_reserved.new.self.items _ c.gather-in-Some.ensures.parts c.push.ensures.starts c.push.ensures.raises grown c.end_of.ensures.hart c.in-Some.rested.alone c.end_of.ensures.well i.well;
       seats = (let more = c.push.ensures.many in let were' = i.seats in omega (arith, more, were', pushed));
       over = subst (λ es. All (IsOver c.args.last.now) es) (sym grown)

@@ -1,5 +1,6 @@
 use Rattle.std.proofs.Common.{◌∙◌, ℕ, ap, sym, subst}
 use Rattle.std.proofs.Math.Logic.{∥∥₁_map}
+use Rattle.hart.specs.State.{ArchState}
 use Rattle.sbi_calls.specs.Both.{known}
 use Rattle.hart_threads.specs.Begun.{BeginsAs}
 use Rattle.tallies.specs.declared.book_views.PartView.{PartView}
@@ -28,3 +29,6 @@ at_rest-requires-clause-alone g c =
     let loop = c.hart_loop-ended in
     subst (λ (k : ℕ). AreOfHart k loop.result.local.seats) (sym loop.ensures.id)
     (loop.ensures.gives.others.harts ∙ w.alone.0, loop.ensures.gives.pairs.harts ∙ w.alone.1)
+
+pub returns : goal.returns
+returns g c = ap (λ (s : ArchState). s.id) c.at_rest.ensures.hart ∙ c.hart_loop-ended.ensures.id
