@@ -1,19 +1,16 @@
 -- Lines that were refused no memory.
 use Rattle.std.proofs.Common.{◌≡◌, ◌⊎◌, inl, inr, Bool, true, false, Option, None, ap, subst}
 use Rattle.board_model.specs.Shapes.{Size}
-use Rattle.board_model.specs.declared.boot_mode.BootMode.{BootMode}
-use Rattle.board_model.specs.declared.console_command.ConsoleCommand.{ConsoleCommand}
 use Rattle.script_lang.specs.declared.line.Line.{Line}
 use Rattle.report_lines.specs.declared.printed.Answer.{Answer}
 use Rattle.report_lines.specs.declared.printed.Printed.{Printed}
 use Rattle.report_lines.specs.declared.printed.Printed.TheVariants as printed
 use Rattle.bench_report.specs.Bench.{BenchLife, Bench}
 use Rattle.bench_report.specs.Happens.{SaysEnough}
-use Rattle.bench_report.specs.PowerOns.{PowersOn}
 use Rattle.bench_report.specs.Deeds as deeds
 use Rattle.bench_report.specs.Deeds.{Deed, deed_of}
 use Rattle.bench_report.specs.Prefix.{asked_of}
-use Rattle.bench_report.specs.Steps.{ConsoleStep, TurnStep, CallStep, DeedStep, Step}
+use Rattle.bench_report.specs.Steps.{TurnStep, CallStep, DeedStep, Step}
 use Rattle.bench_report.proofs.Growths as growths
 use Rattle.bench_report.proofs.Growths.{Counts, Grows, Refuses, said_counts}
 use Rattle.bench_sweep.specs.Told.{ShowsEnoughMemory, is_guest, moves_harts}
@@ -25,12 +22,6 @@ says_enough line shows = shows
 
 fed : (a : Answer) (b new : Bench) → ShowsEnoughMemory a.line → Grows (Refuses a.line) b new → Counts b new
 fed a b new shows x = said_counts a.line b new (says_enough a.line shows) x
-
-pub console_grows : (c : ConsoleCommand) (p : Option BenchLife) (b : Bench) (a : Answer) (new : Bench) → ConsoleStep c p b a new → Counts b new
-console_grows c p b a new x = growths.console_keeps c p b a new x
-
-pub power_grows : (size : Size) (mode : BootMode) (b : Bench) (a : Answer) (new : Bench) → PowersOn size mode b a new → ShowsEnoughMemory a.line → Counts b new
-power_grows size mode b a new x shows = fed a b new shows (growths.power_grows size mode b a new x)
 
 pub never : {A : Type 0} → true ≡ false → A
 never e = absurd (let no : ⊥ = cc in no)

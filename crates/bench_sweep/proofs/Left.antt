@@ -1,6 +1,6 @@
 -- What a run leaves, and what a power-on that keeps its image finds of it.
 use Rattle.std.proofs.Common.{◌≡◌, ◌≤◌, ◌⊎◌, ℕ, inl, inr, true, false, List, [], ◌∷◌, Option, None, Some, Result, Ok, Err, OnOk, refl, sym, ◌∙◌, ap, subst, arith, length}
-use Rattle.std.specs.Prelude.{IfSome, MatchResult, is_some, if◌then◌else◌, length}
+use Rattle.std.specs.Prelude.{IfSome, IfOk, MatchResult, is_some, if◌then◌else◌, length}
 use Rattle.board_model.proofs.Attempts.{attempt_image}
 use Rattle.board_model.specs.Durable.{DurableState, Image, Change, Attempt, IsWhole, after, refusal_of}
 use Rattle.board_model.specs.Kept.{Kept, MayKeep, found_of}
@@ -18,8 +18,6 @@ use Rattle.disk.specs.Facts.{IsLeft}
 use Rattle.disk.specs.FaultState.{Armed, Unarmed, FaultArmed, CutArmed, FaultState, Cause, fault_state_left}
 use Rattle.disk.specs.declared.device.ArmedFault.{ArmedFault}
 use Rattle.simdisk.specs.declared.SimDisk.{SimDisk}
-use Rattle.board_model.specs.declared.console_command.ConsoleCommand.{ConsoleCommand}
-use Rattle.board_model.specs.ConsoleCommands.{console_change}
 use Rattle.std.proofs.lemmas.List.{append-nil}
 use Rattle.std.proofs.lemmas.List.Elements.{All-cons, All-nil}
 use Rattle.board.specs.Boots.{PayloadsFit}
@@ -34,9 +32,9 @@ use Rattle.bench_report.specs.Views.{SimBoard, store_in, facts, fault_state, sto
 use Rattle.bench_report.specs.Bench.{DiskState, Formatted, BenchLife, Bench, no_payloads}
 use Rattle.bench_report.specs.Happens.{FailsByFault, acknowledged, armed_with, in_doubt, off, on_with, says, settled, unpowered, has_machine}
 use Rattle.bench_report.specs.Commands.{Writes, Issued, IssuesAll}
-use Rattle.bench_report.specs.Steps.{ConsoleStep, OnStep, Step}
-use Rattle.bench_report.specs.PowerOns.{life_begun, IsBooted, Boots, Opens, ShowsFound, IsOpenRefusal, PowersOn, TellsNow}
-use Rattle.bench_report.specs.Agree.{BoardIs, OffIs, OnIs, Agrees, IsUnstruck, Matches, StepsTo}
+use Rattle.bench_report.specs.Steps.{OnStep, Step}
+use Rattle.bench_report.specs.PowerOns.{life_begun, IsBooted, Boots, Opens, ShowsFound, IsOpenRefusal, PowersOn}
+use Rattle.bench_report.specs.Agree.{BoardIs, OffIs, OnIs, Agrees, IsBench, IsUnstruck, Matches}
 use Rattle.bench_report.proofs.Determined.{found_as}
 use Rattle.bench_report.proofs.Ended.{left_on, cut_leaves}
 use Rattle.bench_report.proofs.KeptDisks.{GoesOn as KeepsOn, less}
@@ -48,14 +46,14 @@ use Rattle.bench_sweep.specs.declared.ledgers.RunLedger.{RunLedger}
 use Rattle.bench_sweep.specs.Ledgers.{Tells}
 use Rattle.bench_report.specs.Prefix.{AskedLine, Boot, asked_by}
 use Rattle.bench_sweep.specs.Lines.{LineMoves}
-use Rattle.bench_sweep.specs.Resumes.{asked_resumes, line_resumes, power_resumes, Resumes}
+use Rattle.bench_sweep.specs.Resumes.{asked_resumes, line_resumes, Resumes}
 use Rattle.bench_sweep.specs.Made.{shows}
 use Rattle.bench_sweep.specs.Runs.{TellsWhole, Runs, RunsCalm, LeftOff, IsSpoilt, FindsState, Finds, PowerFinds}
 use Rattle.bench_sweep.specs.Swept.{IsPlainLine}
-use Rattle.bench_sweep.specs.Told.{ShowsEnoughMemory, is_boot, moves_harts, powers_on, CommandTold, PowerTold, LineTold}
+use Rattle.bench_sweep.specs.Told.{ShowsEnoughMemory, is_boot, moves_harts, powers_on, LineTold, TellsAsked, TellsIts}
 use Rattle.bench_sweep.proofs.Followed.{whole_found}
-use Rattle.bench_sweep.proofs.Fed.{power_grows, console_grows, line_grows}
-use Rattle.bench_sweep.proofs.Told.{console, powers as power_tells, line_tells}
+use Rattle.bench_sweep.proofs.Fed.{line_grows}
+use Rattle.bench_sweep.proofs.Told.{line_tells}
 
 -- ---- a power cut
 pub left_off : KeepsOn → (size : Size) (b : Bench) (old new : SimDisk) → OffIs size b old → IsLeft (facts old) (facts new) → fault_state new ≡ fault_state_left (fault_state old) → OffIs size (unpowered b) new
@@ -140,71 +138,62 @@ still_resumes : (asked : AskedLine) (a : Answer) → is_boot asked ≡ false →
 still_resumes (Boot mode) a unasked = absurd (let no : ⊥ = cc in no)
 still_resumes asked a unasked = refl
 
-pub same_serials : (was ledger : RunLedger) → ledger.resumed ≡ was.resumed → Resumes was ledger []
+same_serials : (was ledger : RunLedger) → ledger.resumed ≡ was.resumed → Resumes was ledger []
 same_serials was ledger same = ap (λ (v : _). v.items) same ∙ sym (append-nil was.resumed.items)
+
+pub not_boot : (line : Line) → ((mode : BootMode) → line ≡ lines.On mode → ⊥) → powers_on line ≡ false
+not_boot (lines.On mode) not = absurd (not mode refl)
+not_boot line not = refl
 
 pub no_serials : (line : Line) (a : Answer) (was ledger : RunLedger) → powers_on line ≡ false → ledger.resumed ≡ was.resumed → Resumes was ledger (line_resumes line a)
 no_serials line a was ledger unasked same =
     let P : List ℕ → Type 0 = λ xs. Resumes was ledger xs in subst P (sym (still_resumes (asked_by line) a unasked)) (same_serials was ledger same)
 
-line_runs : (size : Size) (line : Line) (b : Bench) (old new : Power) (slots now : List (List ℕ)) (answer : Answer) (was ledger : RunLedger) → IsPlainLine line → moves_harts line ≡ false → powers_on line ≡ false → ledger.resumed ≡ was.resumed → RunsCalm size b old slots was
-    → ShowsEnoughMemory answer.line → ((x : Bench) × Step size line b answer x × Matches size x new now)
-    → ((z : Size) (k n : Kept) → TellsWhole z was k → LineTold line answer k n → TellsWhole z ledger n) → LineMoves size line b new now was ledger
-line_runs size line b old new slots now answer was ledger plain none unasked same r enough (x, step, matches) follows =
-    let told = line_tells size line b answer x plain none unasked (sound_of size b old r.follows.formatted r.agrees) step in record {
+-- a line that moves no hart, as far as no armed cut strikes, and what it says of the state
+abbrev pub Said : Size → Line → Power → List (List ℕ) → Answer → Option Durable → Power → List (List ℕ) → Type 0
+Said size line old slots answer now new left = (b : Bench) → IsBench size b old slots → (x : Bench) × Step size line b answer x × TellsIts line answer now x × Matches size x new left
+
+line_runs : (size : Size) (line : Line) (b : Bench) (old new : Power) (slots left : List (List ℕ)) (answer : Answer) (now : Option Durable) (was ledger : RunLedger) → IsPlainLine line → moves_harts line ≡ false → RunsCalm size b old slots was
+    → ShowsEnoughMemory answer.line → ((x : Bench) × Step size line b answer x × TellsIts line answer now x × Matches size x new left)
+    → ((z : Size) (k n : Kept) → TellsWhole z was k → LineTold line answer now k n → TellsWhole z ledger n)
+    → ((z : Size) (k n : Kept) → TellsWhole z was k → LineTold line answer now k n → Resumes was ledger (line_resumes line answer)) → LineMoves size line b new left was ledger
+line_runs size line b old new slots left answer now was ledger plain none r enough (x, step, tells, matches) follows serial =
+    let told = line_tells size line b answer now x plain none (sound_of size b old r.follows.formatted r.agrees) step tells in record {
       bench = x;
       does = (answer, step);
-      resumed = no_serials line answer was ledger unasked same;
+      resumed = serial size b.kept x.kept r.follows.kept told.0;
       runs = record { agrees = matches.0; same = matches.1; follows = record { formatted = told.1 ∙ r.follows.formatted; kept = follows size b.kept x.kept r.follows.kept told.0; enough = line_grows size line b answer x (inr none) enough step ∙ r.follows.enough } };
     }
 
-pub answered_runs : (size : Size) (line : Line) (b : Bench) (old new : Power) (slots now : List (List ℕ)) (answer : Result Answer AllocError) (was ledger : RunLedger) → IsPlainLine line → moves_harts line ≡ false → powers_on line ≡ false → ledger.resumed ≡ was.resumed
-    → RunsCalm size b old slots was → MatchResult answer (λ a. (x : Bench) × Step size line b a x × Matches size x new now) (λ e. Matches size b new now)
-    → MatchResult answer (λ a. ShowsEnoughMemory a.line × ((z : Size) (k n : Kept) → TellsWhole z was k → LineTold line a k n → TellsWhole z ledger n)) (λ e. ⊥) → LineMoves size line b new now was ledger
-answered_runs size line b old new slots now (Ok a) was ledger plain none unasked same r did (enough, told) = line_runs size line b old new slots now a was ledger plain none unasked same r enough did told
-answered_runs size line b old new slots now (Err e) was ledger plain none unasked same r did told = absurd told
+pub said_runs : {E : Type 0} (r : Result (Unit {0}) E) (size : Size) (line : Line) (old new : Power) (slots left : List (List ℕ)) (answer : Answer) (now : Option Durable) (was ledger : RunLedger) → IsPlainLine line → moves_harts line ≡ false
+    → Said size line old slots answer now new left → OnOk r (ShowsEnoughMemory answer.line) → OnOk r ((z : Size) (k n : Kept) → TellsWhole z was k → LineTold line answer now k n → TellsWhole z ledger n)
+    → OnOk r ((z : Size) (k n : Kept) → TellsWhole z was k → LineTold line answer now k n → Resumes was ledger (line_resumes line answer)) → OnOk r ((b : Bench) → RunsCalm size b old slots was → LineMoves size line b new left was ledger)
+said_runs (Err e) size line old new slots left answer now was ledger plain none said enough follows serial = tt
+said_runs (Ok u) size line old new slots left answer now was ledger plain none said enough follows serial = λ b r.
+    line_runs size line b old new slots left answer now was ledger plain none r enough (said b (r.agrees, r.same, r.calm)) follows serial
 
--- a line that powers a board on, which was off
-pub power_runs : (size : Size) (mode : BootMode) (b : Bench) (old new : Power) (disk : OffDisk) (slots : List (List ℕ)) (answer : Answer) (now : Option Durable) (was ledger : RunLedger) → old ≡ Off disk → RunsCalm size b old slots was → ShowsEnoughMemory answer.line
-    → (OffIs size b disk.disk → slots ≡ b.payloads → StepsTo size b new (λ x. PowersOn size mode b answer x × TellsNow answer.found now x))
-    → ((z : Size) (k n : Kept) → TellsWhole z was k → PowerTold mode answer.found answer.line now k n → TellsWhole z ledger n)
-    → ((z : Size) (k n : Kept) → TellsWhole z was k → PowerTold mode answer.found answer.line now k n → Resumes was ledger (power_resumes mode answer.found answer.line)) → LineMoves size (lines.On mode) b new slots was ledger
-power_runs size mode b old new disk slots answer now was ledger is r enough powers_it follows serial =
-    let A : Power → Type 0 = λ p. Agrees size b p in
-    let off : OffIs size b disk.disk = subst A is r.agrees in
-    let did = powers_it off r.same in
-    let told = power_tells size mode b answer now did.0 r.follows.formatted did.1.0 did.1.1 in
-    let P : Option BenchLife → Type 0 = λ p. OnStep size p mode b answer did.0 in record {
-      bench = did.0;
-      does = (answer, subst P (sym off.0) did.1.0);
-      resumed = serial size b.kept did.0.kept r.follows.kept told.0;
-      runs = record { agrees = did.2; same = r.same ∙ sym did.3; follows = record { formatted = told.1 ∙ r.follows.formatted; kept = follows size b.kept did.0.kept r.follows.kept told.0; enough = power_grows size mode b answer did.0 did.1.0 enough ∙ r.follows.enough } };
-    }
+-- a line that powers no board on, by what it answers
+unsaid : (asked : AskedLine) (a : Answer) (now : Option Durable) (x : Bench) → is_boot asked ≡ false → TellsAsked asked a now x
+unsaid (Boot mode) a now x unasked = absurd (let no : ⊥ = cc in no)
+unsaid asked a now x unasked = tt
 
--- a line of the console
-pub command_runs : {E : Type 0} (r : Result (Unit {0}) E) (c : ConsoleCommand) (old new : Power) (slots : List (List ℕ)) (answer : Answer) (was ledger : RunLedger)
-    → ((z : Size) (b : Bench) → Agrees z b old → StepsTo z b new (ConsoleStep c b.power b answer))
-    → OnOk r ((z : Size) (k n : Kept) → TellsWhole z was k → CommandTold answer.line (console_change c) k n → TellsWhole z ledger n) → ledger.resumed ≡ was.resumed → OnOk r ((size : Size) (b : Bench) → RunsCalm size b old slots was → LineMoves size (lines.Command c) b new slots was ledger)
-command_runs (Err e) c old new slots answer was ledger issues follows same = tt
-command_runs (Ok u) c old new slots answer was ledger issues follows same = λ size b r.
-    (let did = issues size b r.agrees in
-    let told = console c b.power b answer did.0 refl (sound_of size b old r.follows.formatted r.agrees).1 did.1 in record {
-      bench = did.0;
-      does = (answer, did.1);
-      resumed = same_serials was ledger same;
-      runs = record { agrees = did.2; same = r.same ∙ sym did.3; follows = record { formatted = told.1 ∙ r.follows.formatted; kept = follows size b.kept did.0.kept r.follows.kept told.0; enough = console_grows c b.power b answer did.0 did.1 ∙ r.follows.enough } };
-    })
+pub said_on : (size : Size) (line : Line) (old new : Power) (slots left : List (List ℕ)) (r : Result Answer AllocError)
+    → ((b : Bench) → IsBench size b old slots → MatchResult r (λ a. (x : Bench) × Step size line b a x × Matches size x new left) (λ e. Matches size b new left))
+    → IfOk r (λ a. (b : Bench) → IsBench size b old slots → (x : Bench) × Step size line b a x × Matches size x new left)
+said_on size line old new slots left (Ok a) reported = reported
+said_on size line old new slots left (Err e) reported = tt
 
--- and one that was on
-busy : (size : Size) (mode : BootMode) (b : Bench) (p : Option BenchLife) (board : SimBoard) → BoardIs size b.disk_state b.kept p board → OnStep size p mode b (says printed.Busy) b
+pub said_still : (size : Size) (line : Line) (old new : Power) (slots left : List (List ℕ)) (a : Answer) → powers_on line ≡ false → ((b : Bench) → IsBench size b old slots → (x : Bench) × Step size line b a x × Matches size x new left)
+    → Said size line old slots a None new left
+said_still size line old new slots left a unasked did b was = by (did b was)
+  where
+    by : ((x : Bench) × Step size line b a x × Matches size x new left) → (x : Bench) × Step size line b a x × TellsIts line a None x × Matches size x new left
+    by (x, step, matches) = (x, step, unsaid (asked_by line) a None x unasked, matches)
+
+-- a board that is on is not powered on
+pub busy : (size : Size) (mode : BootMode) (b : Bench) (p : Option BenchLife) (board : SimBoard) → BoardIs size b.disk_state b.kept p board → OnStep size p mode b (says printed.Busy) b
 busy size mode b None board at = absurd at
 busy size mode b (Some life) board at = (refl, refl)
-
-pub busy_runs : (size : Size) (mode : BootMode) (b : Bench) (old : Power) (board : SimBoard) (slots : List (List ℕ)) (ledger : RunLedger) → old ≡ On board → RunsCalm size b old slots ledger → LineMoves size (lines.On mode) b (On board) slots ledger ledger
-busy_runs size mode b old board slots ledger is r =
-    let A : Power → Type 0 = λ p. Agrees size b p in
-    let on : OnIs size b board = subst A is r.agrees in
-    record { bench = b; does = (says printed.Busy, busy size mode b b.power board on.0); resumed = same_serials ledger ledger refl; runs = record { agrees = on; same = r.same; follows = r.follows } }
 
 -- ---- a disk with nothing armed fails by itself alone
 differ : {A : Type 0} (a b c : Armed) → a ≡ b → a ≡ c → (b ≡ c → ⊥) → A

@@ -22,11 +22,11 @@ use Rattle.bench_report.specs.Happens.{says, out_of_memory, failed, off, on_with
 use Rattle.bench_report.specs.Commands.{Writes, IssuedBy, Issued, IssuesAll}
 use Rattle.bench_report.specs.PowerOns.{FormatsOn, life_begun, IsBooted, BootsFrom, Begins, Boots, Opens, ShowsFound, IsOpenRefusal, PowersOn, TellsNow}
 use Rattle.bench_report.specs.Prefix.{asked_of}
-use Rattle.bench_report.specs.Steps.{console_reported, FormatStep, ConsoleStep, DeedStep, Step}
+use Rattle.bench_report.specs.Steps.{console_reported, FormatStep, OnStep, ConsoleStep, DeedStep, Step}
 use Rattle.bench_report.proofs.Issues.{GoesOn, IsSound, issued_back}
 use Rattle.bench_report.proofs.Table.{table_not_six, of_modes}
 use Rattle.bench_sweep.specs.Swept.{IsSweptDeed, IsPlainLine}
-use Rattle.bench_sweep.specs.Told.{is_guest, moves_harts, is_boot, powers_on, IssuedTold, CommandTold, AllTold, BootSaid, PowerTold, AskedTold, LineTold, commands_told}
+use Rattle.bench_sweep.specs.Told.{is_guest, moves_harts, IssuedTold, CommandTold, AllTold, BootSaid, PowerTold, AskedTold, LineTold, TellsAsked, TellsIts, commands_told}
 use Rattle.bench_report.specs.Asides.{Effect, Stays, WritesPast, aside, affected}
 use Rattle.bench_report.proofs.Beside.{OfFirmware, is_aside}
 use Rattle.bench_report.proofs.Questions.{IsAsked, is_asked}
@@ -75,7 +75,7 @@ Said c b a new = CommandTold a.line c b.kept new.kept × (new.disk_state ≡ b.d
 said_by : (c : Change) (b : Bench) (a x : Answer) (new : Bench) → a ≡ x → Said c b x new → Said c b a new
 said_by c b a x new e h = let P : Answer → Type 0 = λ y. Said c b y new in subst P (sym e) h
 
-pub console : (c : ConsoleCommand) (p : Option BenchLife) (b : Bench) (a : Answer) (new : Bench) → b.power ≡ p → GoesOn b.kept b.power → ConsoleStep c p b a new → Said (console_change c) b a new
+console : (c : ConsoleCommand) (p : Option BenchLife) (b : Bench) (a : Answer) (new : Bench) → b.power ≡ p → GoesOn b.kept b.power → ConsoleStep c p b a new → Said (console_change c) b a new
 console c None b a new on sound x = said_by (console_change c) b a (says printed.Off) new x.0 (ap (λ (y : Bench). y.kept) x.1, ap (λ (y : Bench). y.disk_state) x.1)
 console c (Some life) b a new on sound (o, issued, e) = by o issued e
   where
@@ -153,7 +153,7 @@ module _ (z : Size) (s : DurableState) (b : Bench) (line : Printed) (new : Bench
   boots None mode table (inr (inr x)) = booted_by (commands_by mode s) b line (printed.OnRefused 11) new (out_of_memory b) x.1 x.2 (inl refl, refl)
 
 -- a power-on, of which the state then is known
-abbrev pub Powered : BootMode → Bench → Option Durable → Printed → Option Durable → Bench → Type 0
+abbrev Powered : BootMode → Bench → Option Durable → Printed → Option Durable → Bench → Type 0
 Powered mode b found line now new = PowerTold mode found line now b.kept new.kept × (new.disk_state ≡ b.disk_state)
 
 -- the open found no state
@@ -174,7 +174,7 @@ opened mode b (Some d) (Some x) line new mid s shows_it changes may is e formatt
     let P : List Change → Type 0 = λ cs. BootSaid line cs mid.kept new.kept in
     ((mid.kept, (changes, may, shows_it ∙ ap durable_of is, kept), subst P commands did.0, tells formatted), did.1 ∙ ap (λ (m : Bench). m.disk_state) e)
 
-pub powers : (size : Size) (mode : BootMode) (b : Bench) (a : Answer) (now : Option Durable) (new : Bench) → b.disk_state ≡ Formatted → PowersOn size mode b a new → TellsNow a.found now new → Powered mode b a.found a.line now new
+powers : (size : Size) (mode : BootMode) (b : Bench) (a : Answer) (now : Option Durable) (new : Bench) → b.disk_state ≡ Formatted → PowersOn size mode b a new → TellsNow a.found now new → Powered mode b a.found a.line now new
 powers size mode b a now new formatted (inl (s, z, mid, opens, shows_it, booted)) tells =
     let O : DiskState → Type 0 = λ m. Opens size m b s z mid in
     go (subst O formatted opens)
@@ -188,6 +188,11 @@ powers size mode b a now new formatted (inl (s, z, mid, opens, shows_it, booted)
 powers size mode b a now new formatted (inr (inl (n, refused, e, is))) tells = let P : DiskState → Type 0 = λ m. IsOpenRefusal m n in absurd (subst P formatted refused)
 powers size mode b a now new formatted (inr (inr (inl x))) tells = unopened mode b a (printed.OnRefused 11) now new (out_of_memory b) x.1 x.2 refl refl
 powers size mode b a now new formatted (inr (inr (inr x))) tells = unopened mode b a (printed.OnRefused 5) now new (failed x.1.0 b) x.0 x.1.2 refl refl
+
+-- also of a board that was on
+on_tells : (size : Size) (mode : BootMode) (p : Option BenchLife) (b : Bench) (a : Answer) (now : Option Durable) (new : Bench) → b.disk_state ≡ Formatted → OnStep size p mode b a new → TellsNow a.found now new → Powered mode b a.found a.line now new
+on_tells size mode None b a now new formatted x tells = powers size mode b a now new formatted x tells
+on_tells size mode (Some life) b a now new formatted x tells = unopened mode b a printed.Busy now new b x.0 x.1 refl refl
 
 -- ---- lines
 -- nothing of the disk changed
@@ -221,20 +226,18 @@ by_firmware : (deed : Deed) → IsSweptDeed deed → IsByFirmwareAlone deed
 by_firmware (Beside WritePast) plain = absurd plain
 by_firmware deed plain = tt
 
-deed_tells : (size : Size) (deed : Deed) (b : Bench) (a : Answer) (new : Bench) → IsSweptDeed deed → is_guest (asked_of deed) ≡ false → is_boot (asked_of deed) ≡ false → IsSound b → DeedStep size deed b a new
-    → AskedTold (asked_of deed) a b.kept new.kept × (new.disk_state ≡ b.disk_state)
-deed_tells size deeds.Format b a new plain none unasked sound x = format_line b.power b a new sound.0 x
-deed_tells size (deeds.PowerOn mode) b a new plain none unasked sound x = never unasked
-deed_tells size (deeds.Issue c) b a new plain none unasked sound x = console c b.power b a new refl sound.1 x
-deed_tells size (deeds.Turns h n) b a new plain none unasked sound x = never none
-deed_tells size (deeds.Call h asked) b a new plain none unasked sound x = never none
-deed_tells size (deeds.Ask question) b a new plain none unasked sound x = asked_line b a new (is_asked size question b.power b a new x)
-deed_tells size (Beside act) b a new plain none unasked sound x =
+deed_tells : (size : Size) (deed : Deed) (b : Bench) (a : Answer) (now : Option Durable) (new : Bench) → IsSweptDeed deed → is_guest (asked_of deed) ≡ false → IsSound b → DeedStep size deed b a new → TellsAsked (asked_of deed) a now new
+    → AskedTold (asked_of deed) a now b.kept new.kept × (new.disk_state ≡ b.disk_state)
+deed_tells size deeds.Format b a now new plain none sound x tells = format_line b.power b a new sound.0 x
+deed_tells size (deeds.PowerOn mode) b a now new plain none sound x tells = on_tells size mode b.power b a now new sound.0 x tells
+deed_tells size (deeds.Issue c) b a now new plain none sound x tells = console c b.power b a new refl sound.1 x
+deed_tells size (deeds.Turns h n) b a now new plain none sound x tells = never none
+deed_tells size (deeds.Call h asked) b a now new plain none sound x tells = never none
+deed_tells size (deeds.Ask question) b a now new plain none sound x tells = asked_line b a new (is_asked size question b.power b a new x)
+deed_tells size (Beside act) b a now new plain none sound x tells =
     aside_line (aside act b.power b.payloads).1 b new ((is_aside act b.power b.payloads).firmware (by_firmware (Beside act) plain)) x.1
 
 -- what a plain line tells that moves no hart
-abbrev pub LineTells : Line → Bench → Answer → Bench → Type 0
-LineTells line b a new = LineTold line a b.kept new.kept × (new.disk_state ≡ b.disk_state)
-
-pub line_tells : (size : Size) (line : Line) (b : Bench) (a : Answer) (new : Bench) → IsPlainLine line → moves_harts line ≡ false → powers_on line ≡ false → IsSound b → Step size line b a new → LineTells line b a new
-line_tells size line b a new plain none unasked sound x = deed_tells size (deed_of line) b a new plain none unasked sound x
+pub line_tells : (size : Size) (line : Line) (b : Bench) (a : Answer) (now : Option Durable) (new : Bench) → IsPlainLine line → moves_harts line ≡ false → IsSound b → Step size line b a new → TellsIts line a now new
+    → LineTold line a now b.kept new.kept × (new.disk_state ≡ b.disk_state)
+line_tells size line b a now new plain none sound x tells = deed_tells size (deed_of line) b a now new plain none sound x tells

@@ -45,10 +45,9 @@ use Rattle.bench_report.proofs.Dozed.{turn_size, call_size}
 use Rattle.bench_report.proofs.Issues.{GoesOn}
 use Rattle.bench_report.proofs.Lines.{stands_by}
 use Rattle.bench_report.specs.declared.power.Power.{Power}
-use Rattle.bench_report.specs.declared.power.OffDisk.{OffDisk}
 use Rattle.bench_report.specs.declared.power.Power.TheVariants.{Off, On}
 use Rattle.bench_sweep.specs.declared.ledgers.RunLedger.{RunLedger}
-use Rattle.bench_sweep.specs.Runs.{Follows, Runs, HartMoves}
+use Rattle.bench_sweep.specs.Runs.{Follows, RunsCalm, HartMoves}
 use Rattle.bench_sweep.specs.Lines.{TurnsOnce, TurnsMany, DoesLine, HartGoes, LineGoes, LineMoves}
 use Rattle.bench_report.specs.Prefix.{AskedLine, Boot, asked_by}
 use Rattle.bench_sweep.specs.Told.{is_boot, is_guest, moves_harts, powers_on, IssuedTold, IsOfHart, HartTold}
@@ -358,6 +357,10 @@ abbrev pub LeavesBy : Size → Option Word → SimBoard → Power → Type 0
 LeavesBy size None board now = (n : Bench) → OnIs size n board → Agrees size n now
 LeavesBy size (Some word) board now = (n : Bench) → BoardAfter size word n board → Agrees size n now
 
+pub still_on : (size : Size) (said : Option Word) (board : SimBoard) → ((word : Word) → said ≡ Some word → ⊥) → LeavesBy size said board (On board)
+still_on size None board none = λ n on. on
+still_on size (Some word) board none = absurd (none word refl)
+
 line_left : (size : Size) (line : Line) (b : Bench) (said : Option Word) (board : SimBoard) (now : Power) (slots : List (List ℕ)) (l m : RunLedger) → moves_harts line ≡ true → m.resumed ≡ l.resumed → slots ≡ b.payloads → LeavesBy size said board now
     → LineGoes size b (DoesLine size line b) said board m → LineMoves size line b now slots l m
 line_left size line b None board now slots l m of_harts serials same leaves (n, does, kept, on, follows) = record { bench = n; does = does; resumed = no_serials line does.0 l m (no_boot line of_harts) serials; runs = record { agrees = leaves n on; same = same ∙ sym kept; follows = follows } }
@@ -365,7 +368,7 @@ line_left size line b (Some word) board now slots l m of_harts serials same leav
 
 -- on a board that is on
 pub line_on : (size : Size) (line : Line) (b : Bench) (power now : Power) (old new : SimBoard) (said is_said : Option Word) (slots : List (List ℕ)) (l m : RunLedger) → moves_harts line ≡ true → m.resumed ≡ l.resumed → power ≡ On old → said ≡ is_said → LeavesBy size is_said new now
-    → ((c : Bench) → OnIs size c old → Follows size c l → LineGoes size c (DoesLine size line c) said new m) → Runs size b power slots l → LineMoves size line b now slots l m
+    → ((c : Bench) → OnIs size c old → Follows size c l → LineGoes size c (DoesLine size line c) said new m) → RunsCalm size b power slots l → LineMoves size line b now slots l m
 line_on size line b power now old new said is_said slots l m of_harts serials is e leaves goes r =
     let P : Power → Type 0 = λ p. Agrees size b p in
     let L : Option Word → Type 0 = λ o. LeavesBy size o new now in
@@ -377,9 +380,8 @@ off_does size (lines.Turn h n) b of_harts off = let P : Option BenchLife → Typ
 off_does size (lines.Call h asked) b of_harts off = let P : Option BenchLife → Type 0 = λ p. CallStep p h asked b (shows shown.Off) b in (shows shown.Off, subst P (sym off) (refl, refl))
 off_does size line b of_harts off = absurd (let no : ⊥ = cc in no)
 
-pub line_off : (size : Size) (line : Line) (b : Bench) (power : Power) (disk : OffDisk) (slots : List (List ℕ)) (l : RunLedger) → moves_harts line ≡ true → power ≡ Off disk → Runs size b power slots l → LineMoves size line b (Off disk) slots l l
-line_off size line b power disk slots l of_harts is r =
-    let P : Power → Type 0 = λ p. Agrees size b p in
-    let off : OffIs size b disk.disk = subst P is r.agrees in
-    let does = off_does size line b of_harts off.0 in
-    record { bench = b; does = does; resumed = no_serials line does.0 l l (no_boot line of_harts) refl; runs = record { agrees = off; same = r.same; follows = r.follows } }
+pub line_off : (size : Size) (line : Line) (b : Bench) (power : Power) (slots : List (List ℕ)) (l : RunLedger) → moves_harts line ≡ true → ((board : SimBoard) → power ≡ On board → ⊥) → RunsCalm size b power slots l → LineMoves size line b power slots l l
+line_off size line b (On board) slots l of_harts not r = absurd (not board refl)
+line_off size line b (Off disk) slots l of_harts not r =
+    let does = off_does size line b of_harts r.agrees.0 in
+    record { bench = b; does = does; resumed = no_serials line does.0 l l (no_boot line of_harts) refl; runs = record { agrees = r.agrees; same = r.same; follows = r.follows } }

@@ -13,7 +13,6 @@ use crate::moments::Moment;
 use crate::points::{Caller, Point};
 use crate::runner::Runner;
 use crate::site::{Going, Site};
-use crate::sites::run_lines;
 use crew::{Chunk, Crew, Task, Window};
 use std::alloc::AllocError;
 
@@ -36,43 +35,27 @@ pub fn chunk_size(calls: u64, threads: usize) -> u64
     few.min(MANY_CALLS).max(many).clamp(1, MOST_CALLS)
 }
 
-/// Keeps how many calls the caller has made at that moment from the site on.
-fn mark(
-    moment: &Moment,
-    site: &Site,
-    caller: Caller,
-    marks: &mut Vec<u64>,
-) -> Result<(), AllocError> {
-    let made = moment.going.calls_since(site, caller)?;
-    marks.push(made)?;
-    Ok(())
-}
-
 /// Runs on up to `to` lines, and keeps how many calls the caller has made then from the site on.
 fn mark_next<C: Crew>(
     runner: &Runner<'_, C>,
     site: &Site,
     caller: Caller,
-    moment: Moment,
+    moment: &mut Moment,
     to: usize,
     marks: &mut Vec<u64>,
-) -> Result<Moment, AllocError>
+) -> Result<(), AllocError>
     requires lines { AreSwept runner.now.setting.shape.now runner.now.lines.now }
-    requires order { moment.count ≤ to }
+    requires order { moment.old.count ≤ to }
     requires few { to ≤ length runner.now.lines.now }
-    requires sits { (b : Bench) × CameTold runner.now.setting.shape.now b runner.now.lines.now site.now moment }
-    ensures sits { IfOk result (λ at. (b : Bench)
-        × CameTold runner.now.setting.shape.now b runner.now.lines.now site.now at) }
-    ensures few { IfOk result (λ at. at.count ≤ to) }
+    requires sits { (b : Bench) × CameTold runner.now.setting.shape.now b runner.now.lines.now site.now moment.old }
+    ensures sits { OnOk result ((b : Bench)
+        × CameTold runner.now.setting.shape.now b runner.now.lines.now site.now moment.new) }
+    ensures few { OnOk result (moment.new.count ≤ to) }
 {
-    let moment = moment.run_to(&runner.setting, runner.lines, to)?;
-    match mark(&moment, site, caller, marks) {
-        Ok(()) => Ok(moment),
-        Err(refusal) => {
-            moment.going.release();
-            Err(refusal)
-        }
-    }
+    moment.run_to(&runner.setting, runner.lines, to)?;
+    let made = moment.going.calls_since(site, caller)?;
+    marks.push(made)?;
+    Ok(())
 }
 
 /// How many calls the caller has made from the site on, after each of the first `count` lines but the last. All others lie in that one.
@@ -91,8 +74,12 @@ pub fn marks_of<C: Crew>(
     let mut moment = Moment::at(runner.setting.alloc, site)?;
     let but_last = count.saturating_sub(1);
     for i in 0..but_last {
-        moment = mark_next(runner, site, caller, moment, i + 1, &mut marks)?;
+        let Ok(()) = mark_next(runner, site, caller, &mut moment, i + 1, &mut marks) else {
+            moment.going.release();
+            return Err(AllocError);
+        };
     }
+    moment.going.release();
     Ok(marks)
 }
 
@@ -169,31 +156,25 @@ impl<'a, 'b, C: Crew> RunsAtCalls<'a, 'b, C> {
     }
 
     /// Runs on to the line in which that call lies, and makes the runs at it.
-    fn next_rows(&self, moment: Moment, done: u64) -> Result<(Moment, PointRows), AllocError>
+    fn next_rows(&self, moment: &mut Moment, done: u64) -> Result<PointRows, AllocError>
         requires few { self.now.count ≤ length self.now.runner.now.lines.now }
-        requires order { moment.count ≤ self.now.count }
+        requires order { moment.old.count ≤ self.now.count }
         requires lines { AreSwept self.now.runner.now.setting.shape.now self.now.runner.now.lines.now }
         requires room { self.now.before + done + 1 < 2 ^ 64 }
-        requires sits { (b : Bench) × CameTold self.now.runner.now.setting.shape.now b self.now.runner.now.lines.now self.now.site.now moment }
-        ensures few { IfOk result (λ did. did.0.count ≤ self.now.count) }
-        ensures came { IfOk result (λ did. (b : Bench)
-            → CameTold self.now.runner.now.setting.shape.now b self.now.runner.now.lines.now self.now.site.now moment
-            → CameTold self.now.runner.now.setting.shape.now b self.now.runner.now.lines.now self.now.site.now did.0) }
-        ensures judged { IfOk result (λ did. (b : Bench)
-            → CameTold self.now.runner.now.setting.shape.now b self.now.runner.now.lines.now self.now.site.now moment
+        requires sits { (b : Bench) × CameTold self.now.runner.now.setting.shape.now b self.now.runner.now.lines.now self.now.site.now moment.old }
+        ensures few { OnOk result (moment.new.count ≤ self.now.count) }
+        ensures came { OnOk result ((b : Bench)
+            → CameTold self.now.runner.now.setting.shape.now b self.now.runner.now.lines.now self.now.site.now moment.old
+            → CameTold self.now.runner.now.setting.shape.now b self.now.runner.now.lines.now self.now.site.now moment.new) }
+        ensures judged { IfOk result (λ made. (b : Bench)
+            → CameTold self.now.runner.now.setting.shape.now b self.now.runner.now.lines.now self.now.site.now moment.old
             → Judged (RunsAlong self.now.runner.now.setting.shape.now self.now.runner.now.bench self.now.caller self.now.site.now self.now.before b
-            self.now.runner.now.lines.now) did.1
+            self.now.runner.now.lines.now) made
             (runs_of self.now.runner.now.bench self.now.caller (self.now.before + done + 1))) }
     {
         let next = line_of(self.marks, moment.count, self.count, done);
-        let mut moment = moment.run_to(&self.runner.setting, self.runner.lines, next)?;
-        match self.rows_at(&mut moment, done) {
-            Ok(made) => Ok((moment, made)),
-            Err(refusal) => {
-                moment.going.release();
-                Err(refusal)
-            }
-        }
+        moment.run_to(&self.runner.setting, self.runner.lines, next)?;
+        self.rows_at(moment, done)
     }
 
     /// Makes the runs at the calls of that window, one after another. Where one is refused, those made stay.
@@ -210,14 +191,14 @@ impl<'a, 'b, C: Crew> RunsAtCalls<'a, 'b, C> {
         let Window { from, to } = window;
         let mut moment = Moment::at(self.runner.setting.alloc, self.site)?;
         for done in from..to {
-            let (next, made) = self.next_rows(moment, done)?;
-            match rows.push(made) {
-                Ok(()) => moment = next,
-                Err(_) => {
-                    next.going.release();
-                    return Err(AllocError);
-                }
-            }
+            let Ok(made) = self.next_rows(&mut moment, done) else {
+                moment.going.release();
+                return Err(AllocError);
+            };
+            let Ok(()) = rows.push(made) else {
+                moment.going.release();
+                return Err(AllocError);
+            };
         }
         moment.going.release();
         Ok(())

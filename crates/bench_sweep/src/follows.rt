@@ -1,6 +1,6 @@
 //! What a ledger takes from the answers of a script's lines.
 
-ghost use Rattle.std.specs.Prelude.{◌≡◌, ◌↔◌, ℕ, List, ◌∷◌, Some, None, false, true, is_some, IsTrue, IsSomeAnd, MatchOption, MatchResult, OnOk};
+ghost use Rattle.std.specs.Prelude.{◌≡◌, ◌↔◌, ℕ, List, ◌∷◌, Some, None, false, true, is_some, IsTrue, IsSomeAnd, MatchOption, OnOk};
 ghost use Rattle.board_model.specs.Durable.{Change, Suspend, Consume, Discard, CarriesWhole};
 ghost use Rattle.board_model.specs.Kept.{Kept, found_of};
 ghost use Rattle.board_model.specs.Shapes.{Size};
@@ -15,7 +15,7 @@ ghost use Rattle.sbi.specs.declared.words.Word.TheVariants as words;
 ghost use Rattle.sbi.specs.declared.words.LifeEnd.TheVariants as life_ends;
 ghost use Rattle.bench_report.specs.Bench.{Bench};
 ghost use Rattle.bench_sweep.specs.Runs.{TellsWhole, Follows, HartMoves};
-ghost use Rattle.bench_sweep.specs.Resumes.{image_told, serial_of, consumed, booted, powered, power_resumes, Resumes};
+ghost use Rattle.bench_sweep.specs.Resumes.{image_told, serial_of, consumed, booted, powered, power_resumes, line_resumes, Resumes};
 ghost use Rattle.bench_sweep.specs.Told.{ShowsEnoughMemory, IssuedTold, CommandTold, BootTold, BootSaid, NowTold, PowerTold, LineTold, commands_told};
 
 use crate::ledgers::RunLedger;
@@ -265,27 +265,8 @@ fn record_power_on(
     }
 }
 
-/// Keeps what a power-on said, where enough memory shows in it. Refused also where it does not.
-pub fn record_powered(
-    ledger: &mut RunLedger,
-    alloc: Global,
-    mode: BootMode,
-    answer: &Answer,
-    now: Option<Durable>,
-) -> Result<(), AllocError>
-    ensures enough { OnOk result (ShowsEnoughMemory answer.now.line) }
-    ensures kept { OnOk result ((size : Size) (old new : Kept) → TellsWhole size ledger.old old
-        → PowerTold mode answer.now.found answer.now.line now old new → TellsWhole size ledger.new new) }
-    ensures serial { OnOk result ((size : Size) (old new : Kept) → TellsWhole size ledger.old old
-        → PowerTold mode answer.now.found answer.now.line now old new
-        → Resumes ledger.old ledger.new (power_resumes mode answer.now.found answer.now.line)) }
-{
-    enough_memory(answer.line)?;
-    record_power_on(ledger, alloc, mode, answer, now)
-}
-
 /// A command of the console gave that answer.
-pub fn record_console(
+fn record_console(
     ledger: &mut RunLedger,
     alloc: Global,
     command: ConsoleCommand,
@@ -308,42 +289,26 @@ pub fn record_console(
     }
 }
 
-/// A line that moves no hart and powers no board on gave that answer. Where that is refused the ledger is of no
-/// use.
-fn record_line(
+/// A line that moves no hart gave that answer, and the state is then that one, where the line powers a board on. Refused also where the
+/// answer does not show enough memory. Where that is refused the ledger is of no use.
+pub fn record_line(
     ledger: &mut RunLedger,
     alloc: Global,
     line: &Line,
     answer: &Answer,
+    now: Option<Durable>,
 ) -> Result<(), AllocError>
+    ensures enough { OnOk result (ShowsEnoughMemory answer.now.line) }
     ensures kept { OnOk result ((size : Size) (old new : Kept) → TellsWhole size ledger.old old
-        → LineTold line.now answer.now old new → TellsWhole size ledger.new new) }
-    ensures resumed { ledger.new.resumed ≡ ledger.old.resumed }
+        → LineTold line.now answer.now now old new → TellsWhole size ledger.new new) }
+    ensures serial { OnOk result ((size : Size) (old new : Kept) → TellsWhole size ledger.old old
+        → LineTold line.now answer.now now old new → Resumes ledger.old ledger.new (line_resumes line.now answer.now)) }
 {
+    enough_memory(answer.line)?;
     match line {
+        Line::On(mode) => record_power_on(ledger, alloc, *mode, answer, now),
         Line::Command(command) => record_console(ledger, alloc, *command, answer.line),
         _ => Ok(()),
-    }
-}
-
-/// Keeps what a line said, where it was refused no memory. Refused also where it was.
-pub fn record_answered(
-    ledger: &mut RunLedger,
-    alloc: Global,
-    line: &Line,
-    answer: Result<Answer, AllocError>,
-) -> Result<(), AllocError>
-    ensures kept { OnOk result (MatchResult answer (λ a. ShowsEnoughMemory a.line
-        × ((size : Size) (old new : Kept) → TellsWhole size ledger.old old → LineTold line.now a old new
-        → TellsWhole size ledger.new new)) (λ e. ⊥)) }
-    ensures resumed { ledger.new.resumed ≡ ledger.old.resumed }
-{
-    match answer {
-        Err(refusal) => Err(refusal),
-        Ok(answer) => {
-            enough_memory(answer.line)?;
-            record_line(ledger, alloc, line, &answer)
-        }
     }
 }
 

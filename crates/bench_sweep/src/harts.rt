@@ -1,28 +1,30 @@
 //! Lines that move harts, turn by turn, so that the ledger sees each command that they make.
 
-ghost use Rattle.std.specs.Prelude.{◌≡◌, ◌≤◌, ◌<◌, ℕ, List, false, true, Some, None, length, IfOk, OnOk};
+ghost use Rattle.std.specs.Prelude.{◌≡◌, ◌≤◌, ◌<◌, false, true, length, IfOk, OnOk};
 ghost use Rattle.board_model.specs.Shapes.{Size};
 ghost use Rattle.script_lang.specs.Lines.{IsLineInRange};
 ghost use Rattle.script_lang.specs.declared.line.Line.TheVariants as lines;
 ghost use Rattle.bench_report.specs.Views.{machine_in, store_in};
 ghost use Rattle.store.specs.Views.{was_refused_memory};
 ghost use Rattle.bench_report.specs.Bench.{Bench};
-ghost use Rattle.bench_report.specs.Agree.{OnIs};
-ghost use Rattle.bench_sweep.specs.Runs.{Follows, Runs};
+ghost use Rattle.bench_report.specs.Agree.{Agrees, OnIs};
+ghost use Rattle.bench_report.specs.Lives.{IsAfter};
+ghost use Rattle.bench_sweep.specs.Runs.{Follows, RunsCalm};
 ghost use Rattle.bench_sweep.specs.Lines.{TurnsOnce, TurnsMany, DoesLine, HartGoes, LineGoes, LineMoves};
 ghost use Rattle.bench_sweep.specs.Told.{moves_harts};
 
 use crate::follows::record_hart;
 use crate::ledgers::RunLedger;
-use crate::sites::release;
-use bench_report::{Power, after};
+use crate::site::Going;
+use bench_report::{Power, Setting, after};
 use board::Board;
-use board_model::{CallWords, HartId, Shape};
+use board_model::{CallWords, HartId};
+use core::mem::replace_with;
 use crew::Crew;
 use machine::Word;
 use script_lang::Line;
 use simdisk::SimDisk;
-use std::alloc::{AllocError, Global};
+use std::alloc::AllocError;
 
 /// Refused where memory was refused to a suspension of that board, whose hart found -1 alone.
 fn suspended_well(board: &Board<SimDisk>) -> Result<(), AllocError>
@@ -36,8 +38,7 @@ fn suspended_well(board: &Board<SimDisk>) -> Result<(), AllocError>
 
 /// One turn of a hart, and the ledger follows it.
 fn turn_once<C: Crew>(
-    alloc: Global,
-    crew: &C,
+    setting: &Setting<'_, C>,
     board: &mut Board<SimDisk>,
     hart: HartId,
     ledger: &mut RunLedger,
@@ -48,16 +49,15 @@ fn turn_once<C: Crew>(
         → HartGoes size b (TurnsOnce hart b word) word board.new ledger.new) }
     ensures resumed { ledger.new.resumed ≡ ledger.old.resumed }
 {
-    let word = board.turn(alloc, crew, hart);
+    let word = board.turn(setting.alloc, setting.crew, hart);
     suspended_well(board)?;
-    record_hart(ledger, alloc, board, word)?;
+    record_hart(ledger, setting.alloc, board, word)?;
     Ok(word)
 }
 
 /// Turns of a hart, as `Board::turns` makes them; the ledger follows each.
 fn turn_many<C: Crew>(
-    alloc: Global,
-    crew: &C,
+    setting: &Setting<'_, C>,
     board: &mut Board<SimDisk>,
     hart: HartId,
     count: u32,
@@ -69,10 +69,10 @@ fn turn_many<C: Crew>(
         → HartGoes size b (TurnsMany hart count b word) word board.new ledger.new) }
     ensures resumed { ledger.new.resumed ≡ ledger.old.resumed }
 {
-    let mut word = turn_once(alloc, crew, board, hart, ledger)?;
+    let mut word = turn_once(setting, board, hart, ledger)?;
     let mut left = count - 1;
     while 0 < left && !word.ends_row() && !board.struck() {
-        word = turn_once(alloc, crew, board, hart, ledger)?;
+        word = turn_once(setting, board, hart, ledger)?;
         left -= 1;
     }
     Ok(word)
@@ -80,8 +80,7 @@ fn turn_many<C: Crew>(
 
 /// A call in the place of a hart, and the ledger follows it. None where the hart is not started, or dozes.
 fn call_once<C: Crew>(
-    alloc: Global,
-    crew: &C,
+    setting: &Setting<'_, C>,
     board: &mut Board<SimDisk>,
     hart: HartId,
     words: CallWords,
@@ -92,11 +91,11 @@ fn call_once<C: Crew>(
         → LineGoes size b (DoesLine size (lines.Call hart words) b) said board.new ledger.new) }
     ensures resumed { ledger.new.resumed ≡ ledger.old.resumed }
 {
-    match board.call(alloc, crew, hart, words) {
+    match board.call(setting.alloc, setting.crew, hart, words) {
         None => Ok(None),
         Some(word) => {
             suspended_well(board)?;
-            record_hart(ledger, alloc, board, word)?;
+            record_hart(ledger, setting.alloc, board, word)?;
             Ok(Some(word))
         }
     }
@@ -104,8 +103,7 @@ fn call_once<C: Crew>(
 
 /// What a line of turns did: none where the board has not the hart.
 fn turn_in_place<C: Crew>(
-    alloc: Global,
-    crew: &C,
+    setting: &Setting<'_, C>,
     board: &mut Board<SimDisk>,
     hart: HartId,
     count: u32,
@@ -119,14 +117,13 @@ fn turn_in_place<C: Crew>(
     if !board.machine().has(hart) {
         return Ok(None);
     }
-    let word = turn_many(alloc, crew, board, hart, count, ledger)?;
+    let word = turn_many(setting, board, hart, count, ledger)?;
     Ok(Some(word))
 }
 
 /// What a line of a call did: none where the board has not the hart, or it makes no call.
 fn call_in_place<C: Crew>(
-    alloc: Global,
-    crew: &C,
+    setting: &Setting<'_, C>,
     board: &mut Board<SimDisk>,
     hart: HartId,
     words: CallWords,
@@ -139,59 +136,59 @@ fn call_in_place<C: Crew>(
     if !board.machine().has(hart) {
         return Ok(None);
     }
-    call_once(alloc, crew, board, hart, words, ledger)
+    call_once(setting, board, hart, words, ledger)
 }
 
 /// What a line of harts did: none where the board has not the hart, or it makes no call.
 fn run_in_place<C: Crew>(
-    alloc: Global,
-    crew: &C,
-    shape: &Shape,
+    setting: &Setting<'_, C>,
     board: &mut Board<SimDisk>,
     line: &Line,
     ledger: &mut RunLedger,
 ) -> Result<Option<Word>, AllocError>
-    requires range { IsLineInRange shape.now line.now }
+    requires range { IsLineInRange setting.now.shape.now line.now }
     requires of_harts { moves_harts line.now ≡ true }
     ensures goes { IfOk result (λ said. (size : Size) (b : Bench) → OnIs size b board.old → Follows size b ledger.old
         → LineGoes size b (DoesLine size line.now b) said board.new ledger.new) }
     ensures resumed { ledger.new.resumed ≡ ledger.old.resumed }
 {
     match line {
-        Line::Turn(hart, count) => turn_in_place(alloc, crew, board, *hart, *count, ledger),
-        Line::Call(hart, words) => call_in_place(alloc, crew, board, *hart, *words, ledger),
+        Line::Turn(hart, count) => turn_in_place(setting, board, *hart, *count, ledger),
+        Line::Call(hart, words) => call_in_place(setting, board, *hart, *words, ledger),
         _ => Ok(None),
     }
 }
 
-/// Runs a line of harts, and the ledger follows each turn of it. On a board that is off it does nothing. Where
-/// that is refused the ledger is of no use.
-pub fn run_hart_line<C: Crew>(
-    alloc: Global,
-    crew: &C,
-    shape: &Shape,
-    line: &Line,
-    power: Power,
-    ledger: &mut RunLedger,
-) -> Result<Power, AllocError>
-    requires range { IsLineInRange shape.now line.now }
-    requires of_harts { moves_harts line.now ≡ true }
-    ensures goes { IfOk result (λ now. (size : Size) (b : Bench) (slots : List (List ℕ)) → Runs size b power slots ledger.old
-        → LineMoves size line.now b now slots ledger.old ledger.new) }
-    ensures resumed { ledger.new.resumed ≡ ledger.old.resumed }
+/// A board that was on, after a turn or a call with that word.
+fn ended(power: Power, word: Word) -> (Power, ())
+    ensures after { (size : Size) (b : Bench) → IsAfter size word b power → Agrees size b result.0 }
 {
     match power {
-        Power::Off(off) => Ok(Power::Off(off)),
-        Power::On(mut board) => {
-            match run_in_place(alloc, crew, shape, &mut board, line, ledger) {
-                Ok(None) => Ok(Power::On(board)),
-                Ok(Some(word)) => Ok(after(board, word)),
-                Err(refusal) => {
-                    release(Power::On(board));
-                    Err(refusal)
-                }
-            }
+        Power::On(board) => (after(board, word), ()),
+        Power::Off(off) => (Power::Off(off), ()),
+    }
+}
+
+impl Going {
+    /// Runs a line of harts, and the ledger follows each turn of it. On a board that is off it does nothing. Where that is refused the
+    /// run is of no use.
+    pub fn harts<C: Crew>(
+        &mut self,
+        setting: &Setting<'_, C>,
+        line: &Line,
+    ) -> Result<(), AllocError>
+        requires range { IsLineInRange setting.now.shape.now line.now }
+        requires of_harts { moves_harts line.now ≡ true }
+        ensures runs { OnOk result ((b : Bench) → RunsCalm setting.now.shape.now b self.old.power self.old.payloads self.old.ledger
+            → LineMoves setting.now.shape.now line.now b self.new.power self.new.payloads self.old.ledger self.new.ledger) }
+    {
+        let Power::On(board) = &mut self.power else {
+            return Ok(());
+        };
+        if let Some(word) = run_in_place(setting, board, line, &mut self.ledger)? {
+            replace_with(&mut self.power, word, ended);
         }
+        Ok(())
     }
 }
 

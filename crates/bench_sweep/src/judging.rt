@@ -24,7 +24,7 @@ use crate::points::{BenchKind, FILLS, FIRST_FILLS, LAST_FILL, Point, cut_fill};
 use crate::rows::Row;
 use crate::runner::Runner;
 use crate::site::{Going, Site};
-use crate::sites::{Went, cut_by, cut_off, run_lines};
+use crate::sites::{cut_by, cut_off};
 use bench_report::{OffDisk, Setting};
 use crew::Crew;
 use simdisk::Fill;
@@ -197,10 +197,13 @@ fn run_to_cut<C: Crew>(
         → Judged (RunsWith runner.now.setting.shape.now BenchKind.Cuts point.before b runner.now.lines.now) made
         (runs_of BenchKind.Cuts point.caller point.number)) }
 {
-    let armed = from.armed(BenchKind::Cuts, point);
-    let went = run_lines(&runner.setting, runner.lines, false, armed)?;
+    let mut armed = from.armed(BenchKind::Cuts, point);
+    let Ok(_count) = armed.run_lines(&runner.setting, runner.lines, false) else {
+        armed.release();
+        return Err(AllocError);
+    };
     // The plain run made the call. Only one that was refused memory can have missed it.
-    let left = turn_off(went.going, true)?;
+    let left = turn_off(armed, true)?;
     judge_each_fill(runner, left, point)
 }
 
@@ -217,9 +220,12 @@ fn run_past_failure<C: Crew>(
         → Judged (RunsWith runner.now.setting.shape.now BenchKind.Fails point.before b runner.now.lines.now) made
         (runs_of BenchKind.Fails point.caller point.number)) }
 {
-    let armed = from.armed(BenchKind::Fails, point);
-    let went = run_lines(&runner.setting, runner.lines, false, armed)?;
-    let left = turn_off_failed(went, runner.lines.len())?;
+    let mut armed = from.armed(BenchKind::Fails, point);
+    let Ok(count) = armed.run_lines(&runner.setting, runner.lines, false) else {
+        armed.release();
+        return Err(AllocError);
+    };
+    let left = turn_off_failed(armed, count, runner.lines.len())?;
     let mut made = PointRows::none(runner.setting.alloc);
     judge_last(runner, left, point, None, &mut made)?;
     Ok(made)
@@ -245,15 +251,14 @@ pub fn turn_off(going: Going, struck: bool) -> Result<Site, AllocError>
     Ok(site)
 }
 
-/// Turns the board off after the last of `all` lines, with nothing armed any more: the call failed. Refused where something
+/// Turns the board off after `count` lines, the last of `all`, with nothing armed any more: the call failed. Refused where something
 /// is. As with a cut, only a run that was refused memory can have missed the call.
-pub fn turn_off_failed(went: Went, all: usize) -> Result<Site, AllocError>
-    ensures whole { OnOk result (all ≤ went.count) }
+pub fn turn_off_failed(going: Going, count: usize, all: usize) -> Result<Site, AllocError>
+    ensures whole { OnOk result (all ≤ count) }
     ensures runs { IfOk result (λ site. (size : Size) (b : Bench)
-        → Runs size b went.going.power went.going.payloads went.going.ledger
+        → Runs size b going.power going.payloads going.ledger
         → (b.fault_state.struck ≡ false) × (b.fault_state.own ≡ 0) × (b.fault_state.armed ≡ Unarmed) × RunsAt size (off b) site) }
 {
-    let Went { count, going } = went;
     // No cut is armed that could end the run before its last line.
     if count < all {
         going.release();

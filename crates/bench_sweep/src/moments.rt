@@ -1,6 +1,6 @@
 //! Moments of a run: at each the board is copied as it stands, and the copy is armed.
 
-ghost use Rattle.std.specs.Prelude.{◌≡◌, ◌≤◌, List, length, IfOk};
+ghost use Rattle.std.specs.Prelude.{◌≡◌, ◌≤◌, List, length, IfOk, OnOk};
 ghost use Rattle.board_model.specs.Shapes.{Size};
 ghost use Rattle.bench_report.specs.Agree.{HasDisk, IsArmed, IsCopyOf};
 ghost use Rattle.bench_report.specs.Bench.{Bench};
@@ -15,7 +15,6 @@ ghost use Rattle.simdisk.specs.declared.SimDisk.{SimDisk};
 
 use crate::points::{BenchKind, Caller, Point};
 use crate::site::{Going, Site};
-use crate::sites::run_lines;
 use bench_report::{Setting, arm_power, copy_power, disk_of};
 use crew::Crew;
 use script_lang::Line;
@@ -98,32 +97,26 @@ impl Moment {
 
     /// Runs the lines on, as they are, up to the one after so many.
     pub fn run_to<C: Crew>(
-        self,
+        &mut self,
         setting: &Setting<'_, C>,
         lines: &[Line],
         to: usize,
-    ) -> Result<Moment, AllocError>
+    ) -> Result<(), AllocError>
         requires lines { AreSwept setting.now.shape.now lines.now }
-        requires order { self.count ≤ to }
+        requires order { self.old.count ≤ to }
         requires few { to ≤ length lines.now }
-        requires sits { (b : Bench) × (first : SiteThen) × CameTold setting.now.shape.now b lines.now first self }
-        ensures came { IfOk result (λ at. (b : Bench) (first : SiteThen)
-            → CameTold setting.now.shape.now b lines.now first self → CameTold setting.now.shape.now b lines.now first at) }
-        ensures few { IfOk result (λ at. at.count ≤ to) }
+        requires sits { (b : Bench) × (first : SiteThen) × CameTold setting.now.shape.now b lines.now first self.old }
+        ensures came { OnOk result ((b : Bench) (first : SiteThen)
+            → CameTold setting.now.shape.now b lines.now first self.old → CameTold setting.now.shape.now b lines.now first self.new) }
+        ensures few { OnOk result (self.new.count ≤ to) }
     {
-        if to == self.count {
-            return Ok(self);
-        }
-        let Moment { count, going } = self;
-        let went = run_lines(setting, &lines[count..to], false, going)?;
+        let slice = &lines[self.count..to];
+        let more = self.going.run_lines(setting, slice, false)?;
         // Nothing is armed that could strike.
-        if went.going.is_struck() {
-            went.going.release();
+        if self.going.is_struck() {
             return Err(AllocError);
         }
-        Ok(Moment {
-            count: count + went.count,
-            going: went.going,
-        })
+        self.count += more;
+        Ok(())
     }
 }

@@ -18,7 +18,6 @@ use crate::judging::turn_off;
 use crate::points::{CALLERS, Caller};
 use crate::runner::Runner;
 use crate::site::{Going, Site};
-use crate::sites::run_lines;
 use board_model::Refusal;
 use crew::Crew;
 use script_lang::{Line, Script, parse_script};
@@ -47,10 +46,12 @@ pub fn stretch_of<C: Crew>(runner: &Runner<'_, C>, site: &Site) -> Result<LifeSp
         site.now.off.disk did.next.off.disk) }
 {
     let copy = site.copy(runner.setting.alloc)?;
-    let plain = Going::from(copy);
-    let went = run_lines(&runner.setting, runner.lines, true, plain)?;
-    let count = went.count;
-    let next = turn_off(went.going, false)?;
+    let mut plain = Going::from(copy);
+    let Ok(count) = plain.run_lines(&runner.setting, runner.lines, true) else {
+        plain.release();
+        return Err(AllocError);
+    };
+    let next = turn_off(plain, false)?;
     Ok(LifeSpan { count, next })
 }
 

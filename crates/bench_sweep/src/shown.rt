@@ -23,7 +23,6 @@ use crate::plain_runs::{calls_between, plain_script, run_plain};
 use crate::points::{BenchKind, CALLERS, Caller, FILLS, Point, RunAt, cut_fill};
 use crate::runner::Runner;
 use crate::site::{Going, Site};
-use crate::sites::{Went, run_lines};
 use bench_report::{Setting, lane_by_lane};
 use board::Payloads;
 use board_model::{BootMode, Refusal, Shape, shape_in_range};
@@ -184,20 +183,20 @@ fn arming_of(shape: &Shape, bench: BenchKind, run: RunAt) -> Result<Arming, Refu
     Ok(arming_at(shape, bench, run))
 }
 
-/// Refused where a run of all those lines did not end as one of that bench does: a cut struck, or all lines ran and the call
+/// Refused where a run of `count` of all those lines did not end as one of that bench does: a cut struck, or all lines ran and the call
 /// failed.
-fn check_ended(bench: BenchKind, went: Went, all: usize) -> Result<(), AllocError>
-    requires few { went.count ≤ all }
+fn check_ended(bench: BenchKind, going: Going, count: usize, all: usize) -> Result<(), AllocError>
+    requires few { count ≤ all }
     ensures ended { OnOk result ((size : Size) (b : Bench)
-        → Runs size b went.going.power went.going.payloads went.going.ledger → IsEnded bench went.count all b) }
+        → Runs size b going.power going.payloads going.ledger → IsEnded bench count all b) }
 {
     match bench {
         BenchKind::Cuts => {
-            turn_off(went.going, true)?.release();
+            turn_off(going, true)?.release();
             Ok(())
         }
         BenchKind::Fails => {
-            turn_off_failed(went, all)?.release();
+            turn_off_failed(going, count, all)?.release();
             Ok(())
         }
     }
@@ -225,10 +224,12 @@ fn count_armed<C: Crew>(
     };
     let copy = site.copy(runner.setting.alloc)?;
     let from = Going::from(copy);
-    let armed = from.armed(runner.bench, point);
-    let went = run_lines(&runner.setting, runner.lines, false, armed)?;
-    let count = went.count;
-    check_ended(runner.bench, went, runner.lines.len())?;
+    let mut armed = from.armed(runner.bench, point);
+    let Ok(count) = armed.run_lines(&runner.setting, runner.lines, false) else {
+        armed.release();
+        return Err(AllocError);
+    };
+    check_ended(runner.bench, armed, count, runner.lines.len())?;
     Ok(count)
 }
 

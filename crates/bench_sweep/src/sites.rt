@@ -1,34 +1,37 @@
 //! How a run goes on from a site.
 //! A law runs nothing, and tells the prover a fact: `kept_disks`.
 
-ghost use Rattle.std.specs.Prelude.{◌≡◌, ◌≤◌, ◌<◌, Some, None, true, false, length, take, All, IfOk, OnOk, MatchOption};
+ghost use Rattle.std.specs.Prelude.{◌≡◌, ◌≤◌, ◌<◌, true, false, length, take, All, IfOk, OnOk};
 ghost use Rattle.board_model.specs.Shapes.{Size};
 ghost use Rattle.script_lang.specs.Lines.{IsLineInRange};
-ghost use Rattle.script_lang.specs.declared.line.Line.TheVariants as lines;
 ghost use Rattle.disk.specs.Facts.{Only};
 ghost use Rattle.simdisk.specs.Views.{left_by_fill};
 ghost use Rattle.disk.specs.WriteLog.{synced};
 ghost use Rattle.bench_report.specs.declared.power.Power.TheVariants.{Off};
-ghost use Rattle.bench_report.specs.Agree.{Agrees, OffIs, IsUnstruck};
+ghost use Rattle.bench_report.specs.Agree.{Agrees, IsBench, IsUnstruck, Matches, OffIs, StepsTo};
 ghost use Rattle.bench_report.specs.Bench.{Bench};
 ghost use Rattle.bench_report.specs.Happens.{off, unpowered};
+ghost use Rattle.bench_report.specs.PowerOns.{TellsNow};
+ghost use Rattle.bench_report.specs.Steps.{OnStep, Step};
 ghost use Rattle.bench_report.specs.Views.{facts, sim_log_of};
 ghost use Rattle.bench_sweep.specs.Lines.{LineMoves};
 ghost use Rattle.bench_sweep.specs.Points.{calls_of};
 ghost use Rattle.bench_sweep.specs.Runs.{Runs, RunsAt, RunsCalm, LeftAt, RanTo, StopsOff};
 ghost use Rattle.bench_sweep.specs.Swept.{IsPlainLine};
-ghost use Rattle.bench_sweep.specs.Told.{moves_harts, powers_on};
+ghost use Rattle.bench_sweep.specs.Told.{TellsIts};
 ghost use Rattle.bench_sweep.specs.Took.{disk_at, RunTook};
 ghost use Rattle.bench_sweep.specs.declared.points.Caller.{Caller};
+ghost use denote.Param.Send.{IsSync};
 
-use crate::follows::{record_answered, record_console, record_powered};
-use crate::harts::{is_of_harts, run_hart_line};
-use crate::ledgers::RunLedger;
+use crate::follows::record_line;
+use crate::harts::is_of_harts;
 use crate::site::{Going, Site};
 use bench_report::{OffDisk, Power, Setting, console, disk_left, line_alone, power_on, struck};
 use board::Payloads;
-use board_model::{BootMode, ConsoleCommand, Shape};
+use board_model::{BootMode, Durable};
+use core::mem::replace_with;
 use crew::Crew;
+use report_lines::{Answer, Printed};
 use script_lang::Line;
 use simdisk::{Fill, SimDisk};
 use std::alloc::{AllocError, Global};
@@ -159,212 +162,136 @@ impl Going {
         }
         until_off && is_off(&self.power)
     }
+
+    /// Runs a line that moves no hart, as far as no armed cut strikes. Answers what it says and, of one that powers a board on whose open
+    /// found a state, the state then. The board stays where it is for a command: a run of many would pay for moving it more than for them.
+    fn alone<C: Crew>(
+        &mut self,
+        setting: &Setting<'_, C>,
+        line: &Line,
+    ) -> Result<(Answer, Option<Durable>), AllocError>
+        requires range { IsLineInRange setting.now.shape.now line.now }
+        requires calm { IsUnstruck self.old.power }
+        ensures said { IfOk result (λ did. (b : Bench) → IsBench setting.now.shape.now b self.old.power self.old.payloads
+            → (new : Bench) × Step setting.now.shape.now line.now b did.0 new × TellsIts line.now did.0 did.1 new
+            × Matches setting.now.shape.now new self.new.power self.new.payloads) }
+        ensures ledger { self.new.ledger ≡ self.old.ledger }
+    {
+        match line {
+            Line::Command(command) => Ok((console(*command, &mut self.power), None)),
+            Line::On(mode) => {
+                let asked = (setting.alloc, *mode, &self.payloads);
+                Ok(replace_with(&mut self.power, asked, powered))
+            }
+            _ => {
+                let answer = replace_with(self, (setting, line), moved)?;
+                Ok((answer, None))
+            }
+        }
+    }
+
+    /// Runs one line, and the ledger follows it. An armed cut that struck within it is not made yet. Where that is refused the run is of
+    /// no use.
+    pub fn run_line<C: Crew>(
+        &mut self,
+        setting: &Setting<'_, C>,
+        line: &Line,
+    ) -> Result<(), AllocError>
+        requires range { IsLineInRange setting.now.shape.now line.now }
+        requires plain { IsPlainLine line.now }
+        requires calm { IsUnstruck self.old.power }
+        ensures runs { OnOk result ((b : Bench) → RunsCalm setting.now.shape.now b self.old.power self.old.payloads self.old.ledger
+            → LineMoves setting.now.shape.now line.now b self.new.power self.new.payloads self.old.ledger self.new.ledger) }
+    {
+        if is_of_harts(line) {
+            return self.harts(setting, line);
+        }
+        let (answer, now) = self.alone(setting, line)?;
+        record_line(&mut self.ledger, setting.alloc, line, &answer, now)
+    }
+
+    /// Runs these lines, no further than to the one in which an armed cut strikes, or where so asked to the first after which the board is
+    /// off. Answers how many ran.
+    pub fn run_lines<C: Crew>(
+        &mut self,
+        setting: &Setting<'_, C>,
+        lines: &[Line],
+        until_off: bool,
+    ) -> Result<usize, AllocError>
+        requires ranges { All (IsLineInRange setting.now.shape.now) lines.now }
+        requires plain { All IsPlainLine lines.now }
+        requires calm { IsUnstruck self.old.power }
+        ensures ran { IfOk result (λ count. (b : Bench)
+            → RunsCalm setting.now.shape.now b self.old.power self.old.payloads self.old.ledger
+            → RanTo setting.now.shape.now b (take count lines.now) self.new.power self.new.payloads self.old.ledger self.new.ledger) }
+        ensures took { IfOk result (λ count. (b : Bench)
+            → RunsCalm setting.now.shape.now b self.old.power self.old.payloads self.old.ledger
+            → RunTook setting.now.shape.now (take count lines.now) (disk_at self.old.power) (disk_at self.new.power)) }
+        ensures stops { IfOk result (λ count. until_off ≡ true → count < length lines.now → StopsOff self.new.power) }
+        // Where it is not asked to end at a board that is off, only an armed cut that struck ends it early.
+        ensures whole { IfOk result (λ count. until_off ≡ false → (size : Size) (b : Bench) → Agrees size b self.new.power
+            → b.fault_state.struck ≡ false → count ≡ length lines.now) }
+        ensures few { IfOk result (λ count. count ≤ length lines.now) }
+        ensures some { IfOk result (λ count. 0 < length lines.now → 0 < count) }
+    {
+        let mut count = 0;
+        for line in lines {
+            self.run_line(setting, line)?;
+            count += 1;
+            if self.stops(until_off) {
+                return Ok(count);
+            }
+        }
+        Ok(count)
+    }
 }
 
-/// Lets go of a board.
-pub fn release(power: Power) {
-    let _power = power;
-}
-
-/// Runs a line that powers a board on, and the ledger follows it. A board that is on stays as it is.
-fn run_power_on(
-    alloc: Global,
-    shape: &Shape,
-    mode: BootMode,
-    power: Power,
-    payloads: &Payloads,
-    ledger: &mut RunLedger,
-) -> Result<Power, AllocError>
-    ensures runs { IfOk result (λ now. (b : Bench) → RunsCalm shape.now b power payloads.now ledger.old
-        → LineMoves shape.now (lines.On mode) b now payloads.now ledger.old ledger.new) }
+/// Powers a board on that is off, by that mode and with these payloads. Answers what it says and, where the open found a state, the one then.
+fn powered(power: Power, asked: (Global, BootMode, &Payloads)) -> (Power, (Answer, Option<Durable>))
+    ensures said { (size : Size) (b : Bench) → Agrees size b power → asked.entry.2.now ≡ b.payloads
+        → StepsTo size b result.0 (λ new. OnStep size b.power asked.entry.1 b result.1.0 new × TellsNow result.1.0.found result.1.1 new) }
 {
+    let (alloc, mode, payloads) = asked;
     match power {
-        Power::On(board) => Ok(Power::On(board)),
         Power::Off(off) => {
             let (power, answer, now) = power_on(alloc, mode, off, payloads);
-            match record_powered(ledger, alloc, mode, &answer, now) {
-                Ok(()) => Ok(power),
-                Err(refusal) => {
-                    release(power);
-                    Err(refusal)
-                }
-            }
+            (power, (answer, now))
+        }
+        Power::On(board) => {
+            let busy = Answer {
+                found: None,
+                line: Printed::Busy,
+            };
+            (Power::On(board), (busy, None))
         }
     }
 }
 
-/// Runs a line that moves no hart and powers no board on, and the ledger follows it.
-fn run_still_line<C: Crew>(
-    setting: &Setting<'_, C>,
-    line: &Line,
-    power: Power,
-    payloads: &mut Payloads,
-    ledger: &mut RunLedger,
-) -> Result<Power, AllocError>
-    requires range { IsLineInRange setting.now.shape.now line.now }
-    requires plain { IsPlainLine line.now }
-    requires of_none { moves_harts line.now ≡ false }
-    requires no_boot { powers_on line.now ≡ false }
-    requires calm { IsUnstruck power }
-    ensures runs { IfOk result (λ now. (b : Bench) → RunsCalm setting.now.shape.now b power payloads.old ledger.old
-        → LineMoves setting.now.shape.now line.now b now payloads.new ledger.old ledger.new) }
-{
-    let (power, answer) = line_alone(setting, line, power, payloads);
-    match record_answered(ledger, setting.alloc, line, answer) {
-        Ok(()) => Ok(power),
-        Err(refusal) => {
-            release(power);
-            Err(refusal)
-        }
-    }
-}
-
-/// The mode of a line that powers a board on.
-fn boot_of(line: &Line) -> Option<BootMode>
-    ensures { MatchOption result (powers_on line.now ≡ false) (λ mode. line.now ≡ lines.On mode) }
-{
-    match line {
-        Line::On(mode) => Some(*mode),
-        _ => None,
-    }
-}
-
-/// Runs a line, and the ledger follows it.
-fn run_on_power<C: Crew>(
-    setting: &Setting<'_, C>,
-    line: &Line,
-    power: Power,
-    payloads: &mut Payloads,
-    ledger: &mut RunLedger,
-) -> Result<Power, AllocError>
-    requires range { IsLineInRange setting.now.shape.now line.now }
-    requires plain { IsPlainLine line.now }
-    requires calm { IsUnstruck power }
-    ensures runs { IfOk result (λ now. (b : Bench) → RunsCalm setting.now.shape.now b power payloads.old ledger.old
-        → LineMoves setting.now.shape.now line.now b now payloads.new ledger.old ledger.new) }
-{
-    let Setting { alloc, crew, shape } = *setting;
-    match boot_of(line) {
-        Some(mode) => run_power_on(alloc, shape, mode, power, payloads, ledger),
-        None => {
-            if is_of_harts(line) {
-                run_hart_line(alloc, crew, shape, line, power, ledger)
-            } else {
-                run_still_line(setting, line, power, payloads, ledger)
-            }
-        }
-    }
-}
-
-/// Runs a line that is no command of the console, and the ledger follows it.
-fn run_other<C: Crew>(
-    setting: &Setting<'_, C>,
-    line: &Line,
+/// A run after a line, as far as no armed cut strikes, and what that answers; the ledger does not follow it yet. It is passed by name, and so
+/// asks for `sync`, which the bound of `C` would give it else.
+fn moved<C: Crew>(
     going: Going,
-) -> Result<Going, AllocError>
-    requires range { IsLineInRange setting.now.shape.now line.now }
-    requires plain { IsPlainLine line.now }
+    asked: (&Setting<'_, C>, &Line),
+) -> (Going, Result<Answer, AllocError>)
+    requires sync { IsSync C.Handle.row }
+    requires range { IsLineInRange asked.0.now.shape.now asked.1.now }
     requires calm { IsUnstruck going.power }
-    ensures runs { IfOk result (λ now. (b : Bench)
-        → RunsCalm setting.now.shape.now b going.power going.payloads going.ledger
-        → LineMoves setting.now.shape.now line.now b now.power now.payloads going.ledger now.ledger) }
+    ensures said { IfOk result.1 (λ answer. (b : Bench) → IsBench asked.entry.0.now.shape.now b going.power going.payloads
+        → (new : Bench) × Step asked.entry.0.now.shape.now asked.entry.1.now b answer new
+        × Matches asked.entry.0.now.shape.now new result.0.power result.0.payloads) }
+    ensures ledger { result.0.ledger ≡ going.ledger }
 {
+    let (setting, line) = asked;
     let Going {
         power,
         mut payloads,
-        mut ledger,
+        ledger,
     } = going;
-    match run_on_power(setting, line, power, &mut payloads, &mut ledger) {
-        Ok(power) => Ok(Going {
-            power,
-            payloads,
-            ledger,
-        }),
-        Err(refusal) => Err(refusal),
-    }
-}
-
-/// Runs a command of the console, and the ledger follows it. The board stays where it is: a run of many commands would
-/// pay for moving it more than for the commands.
-fn run_command(alloc: Global, command: ConsoleCommand, going: &mut Going) -> Result<(), AllocError>
-    ensures runs { OnOk result ((size : Size) (b : Bench)
-        → RunsCalm size b going.old.power going.old.payloads going.old.ledger
-        → LineMoves size (lines.Command command) b going.new.power going.new.payloads going.old.ledger going.new.ledger) }
-{
-    let answer = console(command, &mut going.power);
-    record_console(&mut going.ledger, alloc, command, answer.line)
-}
-
-/// Runs one line, and the ledger follows it. An armed cut that struck within it is not made yet.
-fn run_line<C: Crew>(
-    setting: &Setting<'_, C>,
-    line: &Line,
-    mut going: Going,
-) -> Result<Going, AllocError>
-    requires range { IsLineInRange setting.now.shape.now line.now }
-    requires plain { IsPlainLine line.now }
-    requires calm { IsUnstruck going.power }
-    ensures runs { IfOk result (λ now. (b : Bench)
-        → RunsCalm setting.now.shape.now b going.power going.payloads going.ledger
-        → LineMoves setting.now.shape.now line.now b now.power now.payloads going.ledger now.ledger) }
-{
-    match line {
-        Line::Command(command) => {
-            match run_command(setting.alloc, *command, &mut going) {
-                Ok(()) => Ok(going),
-                Err(refusal) => {
-                    going.release();
-                    Err(refusal)
-                }
-            }
-        }
-        _ => run_other(setting, line, going),
-    }
-}
-
-/// Where a run of lines ended.
-#[derive(Drop)]
-pub struct Went {
-    /// How many lines ran.
-    pub count: usize,
-    pub going: Going,
-}
-
-/// Runs these lines from there on, no further than to the one in which an armed cut strikes, or where so asked to the first
-/// after which the board is off.
-pub fn run_lines<C: Crew>(
-    setting: &Setting<'_, C>,
-    lines: &[Line],
-    until_off: bool,
-    from: Going,
-) -> Result<Went, AllocError>
-    requires ranges { All (IsLineInRange setting.now.shape.now) lines.now }
-    requires plain { All IsPlainLine lines.now }
-    requires calm { IsUnstruck from.power }
-    ensures ran { IfOk result (λ went. (b : Bench)
-        → RunsCalm setting.now.shape.now b from.power from.payloads from.ledger
-        → RanTo setting.now.shape.now b (take went.count lines.now) went.going.power went.going.payloads from.ledger went.going.ledger) }
-    ensures took { IfOk result (λ went. (b : Bench)
-        → RunsCalm setting.now.shape.now b from.power from.payloads from.ledger
-        → RunTook setting.now.shape.now (take went.count lines.now) (disk_at from.power) (disk_at went.going.power)) }
-    ensures stops { IfOk result (λ went. until_off ≡ true → went.count < length lines.now → StopsOff went.going.power) }
-    // Where it is not asked to end at a board that is off, only an armed cut that struck ends it early.
-    ensures whole { IfOk result (λ went. until_off ≡ false → (size : Size) (b : Bench) → Agrees size b went.going.power
-        → b.fault_state.struck ≡ false → went.count ≡ length lines.now) }
-    ensures few { IfOk result (λ went. went.count ≤ length lines.now) }
-    ensures some { IfOk result (λ went. 0 < length lines.now → 0 < went.count) }
-{
-    let mut going = from;
-    let mut count = 0;
-    for line in lines {
-        match run_line(setting, line, going) {
-            Ok(now) => going = now,
-            Err(refusal) => return Err(refusal),
-        }
-        count += 1;
-        if going.stops(until_off) {
-            return Ok(Went { count, going });
-        }
-    }
-    Ok(Went { count, going })
+    let (power, answer) = line_alone(setting, line, power, &mut payloads);
+    let after = Going {
+        power,
+        payloads,
+        ledger,
+    };
+    (after, answer)
 }

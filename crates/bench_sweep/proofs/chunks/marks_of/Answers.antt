@@ -9,4 +9,4 @@ loop-i-init g c =
     record { few = omega (arith, c.in_ok-moment.ensures.none); sits = (unpowered sits.0, c.in_ok-moment.ensures.came size sits.0 c.args.runner.now.lines.now sits.1) }
 
 pub loop-i-preserved : goal.loop-i-preserved
-loop-i-preserved g c = record { few = c.in_ok-moment-2.ensures.few; sits = c.in_ok-moment-2.ensures.sits }
+loop-i-preserved g c = record { few = c.in-Ok.ensures.few; sits = c.in-Ok.ensures.sits }

@@ -19,7 +19,7 @@ judge_each_fill-requires-clause-sits g c κs within =
     let size = c.args.runner.now.setting.shape.now in
     let sits = c.requires.sits in
     let calm = c.armed-armed.ensures.runs size sits.0 sits.1 in
-    let ran = c.in_ok-went.ensures.ran (armed_with (fault_at Cuts c.args.point.caller c.args.point.call) sits.0) calm in
+    let ran = c.in-Ok.ensures.ran (armed_with (fault_at Cuts c.args.point.caller c.args.point.call) sits.0) calm in
     (off ran.bench, (c.in_ok-left.ensures.runs size ran.bench ran.runs).2)
 
 pub returns : goal.returns
@@ -28,10 +28,10 @@ returns g c = record {
       (let size = c.args.runner.now.setting.shape.now in
       let lines = c.args.runner.now.lines.now in
       let calm = c.armed-armed.ensures.runs size b l in
-      let ran = c.in_ok-went.ensures.ran (armed_with (fault_at Cuts c.args.point.caller c.args.point.call) b) calm in
+      let ran = c.in-Ok.ensures.ran (armed_with (fault_at Cuts c.args.point.caller c.args.point.call) b) calm in
       let left = c.in_ok-left.ensures.runs size ran.bench ran.runs in
       judged_at Cuts c.args.point.caller c.args.point.number _ _ rows
-      (λ row caller number is. runs_with size Cuts c.args.point b lines c.in_ok-went.went.count _ _ _ _ c.in_ok-went.ensures.few ran (left.0, left.1) c.in_ok-left.left.off.disk row caller number is)
+      (λ row caller number is. runs_with size Cuts c.args.point b lines c.in-Ok._count _ _ _ _ c.in-Ok.ensures.few ran (left.0, left.1) c.in_ok-left.left.off.disk row caller number is)
       (did (off ran.bench) left.2)))
       c.judge_each_fill.ensures.judged);
 }

@@ -13,29 +13,29 @@ pub returns-clause-lives : goal.returns-clause-lives
 returns-clause-lives g c = λ b r.
     let size = c.args.runner.now.setting.shape.now in
     let calm = c.from-plain.ensures.runs size (unpowered b) (calm_off size (unpowered b) _ _ _ (c.in_ok-copy.ensures.runs size b r)) in
-    let ran = c.in_ok-went.ensures.ran (unpowered b) calm in
+    let ran = c.in-Ok.ensures.ran (unpowered b) calm in
     let left = c.in_ok-next.ensures.runs size ran.bench ran.runs in
-    life_of size b c.args.runner.now.lines.now _ _ _ _ _ _ ran (left.0, left.2) (c.in_ok-went.ensures.stops refl)
+    life_of size b c.args.runner.now.lines.now _ _ _ _ _ _ ran (left.0, left.2) (c.in-Ok.ensures.stops refl)
 
 pub returns-clause-sits : goal.returns-clause-sits
 returns-clause-sits g c =
     let size = c.args.runner.now.setting.shape.now in
     let sits = c.requires.sits in
     let calm = c.from-plain.ensures.runs size (unpowered sits.0) (calm_off size (unpowered sits.0) _ _ _ (c.in_ok-copy.ensures.runs size sits.0 sits.1)) in
-    let ran = c.in_ok-went.ensures.ran (unpowered sits.0) calm in
+    let ran = c.in-Ok.ensures.ran (unpowered sits.0) calm in
     let left = c.in_ok-next.ensures.runs size ran.bench ran.runs in
     (off ran.bench, left.2)
 
 pub returns-clause-took : goal.returns-clause-took
 returns-clause-took g c =
     let size = c.args.runner.now.setting.shape.now in
-    let lines = take c.in_ok-went.went.count c.args.runner.now.lines.now in
+    let lines = take c.in-Ok.count c.args.runner.now.lines.now in
     let sits = c.requires.sits in
     let begun = disk_at c.from-plain.result.power in
     let calm = c.from-plain.ensures.runs size (unpowered sits.0) (calm_off size (unpowered sits.0) _ _ _ (c.in_ok-copy.ensures.runs size sits.0 sits.1)) in
     let D : SimDisk → Type 0 = λ d. RunTook size lines begun d in
     took_since size lines c.args.site.now.off.disk begun _ (λ caller. ap (λ (d : SimDisk). calls_of caller d) c.from-plain.ensures.disk ∙ c.in_ok-copy.ensures.calls caller)
-    (subst D (sym c.in_ok-next.ensures.disk) (c.in_ok-went.ensures.took (unpowered sits.0) calm))
+    (subst D (sym c.in_ok-next.ensures.disk) (c.in-Ok.ensures.took (unpowered sits.0) calm))
 
 pub returns-in_err-copy-clause-few : goal.returns-in_err-copy-clause-few
 returns-in_err-copy-clause-few g c = IfOk-from_err c.from_residual.result _ c.from_residual.ensures.0
@@ -66,18 +66,3 @@ returns-in_err-next-clause-some g c = IfOk-from_err c.from_residual-in_err-next.
 
 pub returns-in_err-next-clause-took : goal.returns-in_err-next-clause-took
 returns-in_err-next-clause-took g c = IfOk-from_err c.from_residual-in_err-next.result _ c.from_residual-in_err-next.ensures.0
-
-pub returns-in_err-went-clause-few : goal.returns-in_err-went-clause-few
-returns-in_err-went-clause-few g c = IfOk-from_err c.from_residual-in_err-went.result _ c.from_residual-in_err-went.ensures.0
-
-pub returns-in_err-went-clause-lives : goal.returns-in_err-went-clause-lives
-returns-in_err-went-clause-lives g c = IfOk-from_err c.from_residual-in_err-went.result _ c.from_residual-in_err-went.ensures.0
-
-pub returns-in_err-went-clause-sits : goal.returns-in_err-went-clause-sits
-returns-in_err-went-clause-sits g c = IfOk-from_err c.from_residual-in_err-went.result _ c.from_residual-in_err-went.ensures.0
-
-pub returns-in_err-went-clause-some : goal.returns-in_err-went-clause-some
-returns-in_err-went-clause-some g c = IfOk-from_err c.from_residual-in_err-went.result _ c.from_residual-in_err-went.ensures.0
-
-pub returns-in_err-went-clause-took : goal.returns-in_err-went-clause-took
-returns-in_err-went-clause-took g c = IfOk-from_err c.from_residual-in_err-went.result _ c.from_residual-in_err-went.ensures.0

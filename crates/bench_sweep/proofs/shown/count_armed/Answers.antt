@@ -19,5 +19,5 @@ returns-clause-armed g c = λ b r.
     let kind = c.args.runner.now.bench in
     let run = c.args.run in
     let calm = c.armed-armed.ensures.runs size (unpowered b) (c.from-from.ensures.runs size (unpowered b) (calm_off size (unpowered b) _ _ _ (c.in_ok-copy.ensures.runs size b r))) in
-    let ran = c.in_ok-went.ensures.ran (armed_with (fault_at kind run.caller run.call) (unpowered b)) calm in
-    (runs_armed size kind run.caller run.call (unpowered b) c.args.runner.now.lines.now c.in_ok-went.went.count _ _ _ _ c.in_ok-went.ensures.few ran (c.in_ok-check_ended.ensures.ended size ran.bench ran.runs)).0
+    let ran = c.in-Ok.ensures.ran (armed_with (fault_at kind run.caller run.call) (unpowered b)) calm in
+    (runs_armed size kind run.caller run.call (unpowered b) c.args.runner.now.lines.now c.in-Ok.count _ _ _ _ c.in-Ok.ensures.few ran (c.in_ok-check_ended.ensures.ended size ran.bench ran.runs)).0

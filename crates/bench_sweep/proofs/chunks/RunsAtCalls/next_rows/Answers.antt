@@ -1,4 +1,5 @@
-use Rattle.std.proofs.lemmas.Result.{IfOk-from_err}
+use Rattle.std.proofs.lemmas.Result.{IfOk-weaker}
+use Rattle.std.proofs.Common.{arith}
 use Rattle.bench_sweep.proofs.chunks.RunsAtCalls.next_rows.Goals as goal
 
 pub run_to-requires-clause-sits : goal.run_to-requires-clause-sits
@@ -7,31 +8,13 @@ run_to-requires-clause-sits g c κs within = let sits = c.requires.sits in (sits
 pub rows_at-requires-clause-sits : goal.rows_at-requires-clause-sits
 rows_at-requires-clause-sits g c κs within =
     let sits = c.requires.sits in
-    (sits.0, c.in_ok-moment.ensures.came sits.0 c.args.self.now.site.now sits.1)
+    (sits.0, c.in_ok-run_to.ensures.came sits.0 c.args.self.now.site.now sits.1)
 
-pub returns-in-Ok-clause-came : goal.returns-in-Ok-clause-came
-returns-in-Ok-clause-came g c = λ b told. c.rows_at.ensures.stays b (c.in_ok-moment.ensures.came b c.args.self.now.site.now told)
+pub returns-clause-came : goal.returns-clause-came
+returns-clause-came g c = IfOk-weaker c.rows_at.result _ _ (λ rows did b told. c.rows_at.ensures.stays b (c.in_ok-run_to.ensures.came b c.args.self.now.site.now told)) c.rows_at.ensures.judged
 
-pub returns-in-Ok-clause-judged : goal.returns-in-Ok-clause-judged
-returns-in-Ok-clause-judged g c = λ b told. c.in-Ok.ensures.judged b (c.in_ok-moment.ensures.came b c.args.self.now.site.now told)
-
-pub returns-in-Err-clause-came : goal.returns-in-Err-clause-came
-returns-in-Err-clause-came g c = tt
-
-pub returns-in-Err-clause-few : goal.returns-in-Err-clause-few
-returns-in-Err-clause-few g c = tt
-
-pub returns-in-Err-clause-judged : goal.returns-in-Err-clause-judged
-returns-in-Err-clause-judged g c = tt
-
-pub returns-in_err-moment-clause-came : goal.returns-in_err-moment-clause-came
-returns-in_err-moment-clause-came g c = IfOk-from_err c.from_residual.result _ c.from_residual.ensures.0
-
-pub returns-in_err-moment-clause-few : goal.returns-in_err-moment-clause-few
-returns-in_err-moment-clause-few g c = IfOk-from_err c.from_residual.result _ c.from_residual.ensures.0
-
-pub returns-in_err-moment-clause-judged : goal.returns-in_err-moment-clause-judged
-returns-in_err-moment-clause-judged g c = IfOk-from_err c.from_residual.result _ c.from_residual.ensures.0
+pub returns-clause-judged : goal.returns-clause-judged
+returns-clause-judged g c = IfOk-weaker c.rows_at.result _ _ (λ rows did b told. did b (c.in_ok-run_to.ensures.came b c.args.self.now.site.now told)) c.rows_at.ensures.judged
 
 pub rows_at-requires-clause-few : goal.rows_at-requires-clause-few
 rows_at-requires-clause-few g c κs within = c.requires.few
@@ -44,3 +27,6 @@ rows_at-requires-clause-room g c κs within = c.requires.room
 
 pub run_to-requires-clause-lines : goal.run_to-requires-clause-lines
 run_to-requires-clause-lines g c κs within = c.requires.lines
+
+pub returns-clause-few : goal.returns-clause-few
+returns-clause-few g c = IfOk-weaker c.rows_at.result _ _ (λ rows did. omega (arith, c.rows_at.ensures.count, c.in_ok-run_to.ensures.few, c.line_of-next.ensures.few)) c.rows_at.ensures.judged

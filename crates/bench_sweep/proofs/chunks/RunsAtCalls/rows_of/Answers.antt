@@ -1,4 +1,4 @@
-use Rattle.std.proofs.Common.{◌≡◌, ◌≤◌, ◌∷◌, ◌++◌, [], List, length, ap, sym, subst, arith}
+use Rattle.std.proofs.Common.{◌≡◌, ◌≤◌, ◌∷◌, ◌++◌, [], List, length, ap, sym, subst, rules, arith}
 use Rattle.std.proofs.lemmas.List.{length-append}
 use Rattle.bench_report.specs.Happens.{unpowered}
 use Rattle.crew.specs.Handed.{AreRows}
@@ -31,10 +31,10 @@ loop-done-preserved g c =
     let runner = self.runner.now in
     let i = c.loop-done.invariant in
     let from = c.args.window.from in
-    let next = c.in_ok-next in
+    let next = c.in-Ok in
     let is = IsOfCall runner.setting.shape.now runner.bench self.caller self.before runner.lines.now self.site.now in
     let long = length-append c.loop-done.rows.items (next.made ∷ []) in
-    let items : c.push.new.self.items ≡ c.loop-done.rows.items ++ next.made ∷ [] = c.in-Ok.ensures.items in
+    let items : c.push.new.self.items ≡ c.loop-done.rows.items ++ next.made ∷ [] = search rules in
     let as_many : length c.push.new.self.items ≡ length (c.loop-done.rows.items ++ next.made ∷ []) = ap (λ (rows : List PointRows). length rows) items in
     let order : from ≤ c.loop-done.done = omega arith in
     let A : List PointRows → Type 0 = λ rows. AreRows is from rows in record {
@@ -50,11 +50,5 @@ next_rows-requires-clause-few g c κs within = c.requires.few
 pub next_rows-requires-clause-lines : goal.next_rows-requires-clause-lines
 next_rows-requires-clause-lines g c κs within = c.requires.lines
 
-pub returns-in-Err : goal.returns-in-Err
-returns-in-Err g c = record { rows = (tt) }
-
 pub returns-in_err-moment : goal.returns-in_err-moment
 returns-in_err-moment g c = record { rows = (IfOk-from_err c.from_residual.result _ c.from_residual.ensures.0) }
-
-pub returns-in_err-next : goal.returns-in_err-next
-returns-in_err-next g c = record { rows = (IfOk-from_err c.from_residual-in_err-next.result _ c.from_residual-in_err-next.ensures.0) }

@@ -1,0 +1,25 @@
+use Rattle.std.proofs.Common.{Option, refl, sym, subst}
+use Rattle.bench_report.specs.Bench.{BenchLife}
+use Rattle.bench_report.specs.Agree.{Agrees}
+use Rattle.bench_report.specs.Steps.{OnStep}
+use Rattle.bench_report.specs.declared.power.Power.{Power}
+use Rattle.bench_sweep.proofs.Left.{busy}
+use Rattle.bench_sweep.proofs.sites.powered.Goals as goal
+
+pub returns-in-Off : goal.returns-in-Off
+returns-in-Off c = record {
+  said = λ size b agrees same.
+      (let A : Power → Type 0 = λ p. Agrees size b p in
+      let off = subst A c.in-Off.is agrees in
+      let did = c.power_on-power.ensures.reported size b off same in
+      let S : Option BenchLife → Type 0 = λ p. OnStep size p c.args.asked.1 b c.power_on-power.result.1 did.0 in
+      (did.0, (subst S (sym off.0) did.1.0, did.1.1), did.2, did.3));
+}
+
+pub returns-in-On : goal.returns-in-On
+returns-in-On c = record {
+  said = λ size b agrees same.
+      (let A : Power → Type 0 = λ p. Agrees size b p in
+      let on = subst A c.in-On.is agrees in
+      (b, (busy size c.args.asked.1 b b.power c.in-On.board on.0, tt), on, refl));
+}
