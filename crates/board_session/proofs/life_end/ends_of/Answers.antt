@@ -1,4 +1,4 @@
-use Rattle.std.proofs.Common.{◌≡◌, ◌∙◌, ◌∷◌, ℕ, List, length, map, vec_len, arith, refl, sym, ap, subst, All}
+use Rattle.std.proofs.Common.{◌≡◌, ◌∙◌, ℕ, List, length, map, vec_len, arith, refl, sym, ap, subst, All}
 use Rattle.std.proofs.lemmas.List.Elements.{All-push}
 use Rattle.board_model.specs.declared.durable.Entry.{Entry}
 use Rattle.hart.specs.State.{ArchState}
@@ -9,7 +9,6 @@ use Rattle.hart_threads.specs.declared.ends.HartEnd.{HartEnd}
 use Rattle.hart_threads.specs.Begun.{AreFromLast}
 use Rattle.hart_threads.specs.Ends.{AreNumberedFrom, own_receipt}
 use Rattle.hart_threads.specs.Views.{bus_parts, parts_with}
-use Rattle.hart_threads.specs.declared.bus_turns.BusTurn.{BusTurn}
 use Rattle.board_session.specs.Backs.{AreBack}
 use Rattle.board_session.specs.Histories.{EndsWith}
 use Rattle.board_session.specs.Sessions.{IsOver}
