@@ -1,10 +1,10 @@
 -- A suspension to disk found every other hart STOPPED: what the log of the hart table has of the hart that asked for it.
 use Rattle.std.proofs.Common.{◌≡◌, ◌∙◌, ◌⊎◌, ◌<◌, ◌+◌, ◌==◌, ℕ, zero, suc, Bool, true, false, List, [], ◌∷◌, ◌++◌, All, Option, Some, None, length, drop, if◌then◌else◌, inl, inr, arith, refl, sym, ap, subst}
-use Rattle.std.specs.Prelude.{IfSome}
+use Rattle.std.specs.Prelude.{IfSome, slice_get}
 use Rattle.std.proofs.lemmas.Bool.Decides.{nat_tests}
 use Rattle.std.proofs.lemmas.List.Elements.{All-head, All-tail}
 use Rattle.std.proofs.Math.Logic.{∥∥₁_elim, ∥∥₁_map, ∥∥₁_prop}
-use Rattle.board_model.specs.Durable.{Change}
+use Rattle.board_model.specs.Durable.{Change, Suspend}
 use Rattle.board_model.specs.Shapes.{Size}
 use Rattle.board_model.specs.declared.durable.Entry.{Entry}
 use Rattle.hsm.specs.Words.{HartView}
@@ -19,7 +19,7 @@ use Rattle.machine.specs.Machine.{Machine}
 use Rattle.sbi.specs.Words.{life_goes_on}
 use Rattle.sbi.specs.declared.words.LifeEnd.TheVariants.{Asleep}
 use Rattle.sbi.specs.declared.words.Word.{Word}
-use Rattle.sbi.specs.declared.words.Word.TheVariants.{Goes, Over}
+use Rattle.sbi.specs.declared.words.Word.TheVariants.{Over}
 use Rattle.sbi_abi.specs.Calls.{call_of}
 use Rattle.sbi_abi.specs.declared.call.Call.{Call}
 use Rattle.sbi_calls.specs.declared.words.Turned.{Turned}
@@ -27,16 +27,16 @@ use Rattle.sbi_calls.specs.declared.words.Turned.TheVariants.{Made, Durable}
 use Rattle.susp.specs.Sleeps.{AreUnclaimed}
 use Rattle.susp.specs.declared.buses.Bus.{Bus}
 use Rattle.susp.specs.declared.buses.Doze.{Doze}
-use Rattle.tallies.specs.Books.{Each, part_view, told_by}
+use Rattle.tallies.specs.Books.{Each, told_by}
 use Rattle.tallies.specs.Logs.{Log, actions_in, log_places}
 use Rattle.tallies.specs.Notes.{HasNoted, hart_notes, noted}
 use Rattle.tallies.specs.declared.book_views.PartView.{PartView}
 use Rattle.turns.specs.Own.{StepsIf}
 use Rattle.turns.specs.declared.readies.Ready.{Ready}
 use Rattle.turns.specs.declared.readies.Ready.TheVariants as readies
-use Rattle.hart_threads.specs.Bused.{HasSlept, IsMoment, StepsBus, TakesBus, begun_bus, call_turn, held_call, part_of_hart, store_part}
+use Rattle.hart_threads.specs.Bused.{HasEnded, IsMoment, StepsBus, TakesBus, begun_bus, call_turn, held_call, part_of_hart, store_part}
 use Rattle.hart_threads.specs.Dozes.{is_woken}
-use Rattle.hart_threads.specs.Carried.{AllCarry}
+use Rattle.hart_threads.specs.LifeEnds.{AllEndAs, EndsAs}
 use Rattle.hart_threads.specs.Ends.{AnyAnswer, AnyWord, AreNumberedFrom, IsEnding, IsOfHart, own_receipt}
 use Rattle.hart_threads.specs.Threads.{ComesOnce, DozeOnce, HeldOnce, LoopOnce, Seated, TurnOnceBy, TurnsOn}
 use Rattle.hart_threads.specs.declared.bus_turns.BusTurn.{BusTurn}
@@ -44,7 +44,7 @@ use Rattle.hart_threads.specs.declared.bus_turns.HeldCall.{HeldCall}
 use Rattle.hart_threads.specs.declared.ends.HartEnd.{HartEnd}
 use Rattle.hart_threads.specs.declared.loops.Why.{Why}
 use Rattle.hart_threads.specs.declared.loops.Why.TheVariants as whys
-use Rattle.board_session.specs.Histories.{AreDriven, FoundAlone, IsHistory, harts_after, known_by, noted_by, took_by}
+use Rattle.board_session.specs.Histories.{AreDriven, FoundAlone, IsHistory, SleptAlone, harts_after, known_by, noted_by, took_by}
 use Rattle.board_session.specs.declared.talks.Left.{Left}
 
 -- ---- the calls of a hart's turns
@@ -220,28 +220,34 @@ ended P first (suc n) (e ∷ es) are all lt =
     (rest.0, (let at = rest.1 in omega (arith, at)), rest.2)
 
 module _ (size : Size) (machine : Machine) (turns : ℕ) (log : Log BusTurn) (starts : Log Action) (raises : Log IpiAction) (left : Left) (ends : List HartEnd) (driven : AreDriven size.harts machine turns log starts raises (Some left) ends) where
-  one_alone : (memory : List ℕ) (hart address opaque : ℕ) (image : List ℕ) → Each (λ e. e.0 < size.harts + 2) log → IsMoment HasSlept size log (begun_bus memory) hart address opaque image → FoundAlone machine.size.harts starts hart
+  one_alone : (memory : List ℕ) (hart address opaque : ℕ) (image : List ℕ) → Each (λ e. e.0 < size.harts + 2) log → IsMoment HasEnded size log (begun_bus memory) (Suspend hart address opaque image) → FoundAlone machine.size.harts starts hart
   one_alone memory hart address opaque image of moment =
       ∥∥₁_elim moment ∥∥₁_prop (λ is.
-      let who = part_of_hart hart in
+      let by = is.4.asked.id in
+      let who = part_of_hart by in
       let rest : Log BusTurn = (who, is.3) ∷ is.1 in
       let looks : Log BusTurn = (store_part, is.2) ∷ rest in
       let within = each_rest (λ e. e.0 < size.harts + 2) is.0 looks (subst (λ (l : Log BusTurn). Each (λ e. e.0 < size.harts + 2) l) is.6 of) in
-      let lt : hart + 2 < size.harts + 2 = within.1.0 in
+      let lt : by + 2 < size.harts + 2 = within.1.0 in
       let sleeps : Sleeps is.3 = (is.4, is.8, is.9.2) in
       let told : Slept (told_by who log) = subst (λ (l : Log BusTurn). Slept (told_by who l)) (sym is.6)
       (told_there who is.0 looks (there (store_part == who) (suc (length rest)) is.2 (told_by who rest) (here (who == who) (suc (length is.1)) is.3 (told_by who is.1) (self who) sleeps))) in
       let P : HartEnd → Type 0 = λ e. (stage : Stage) × IsEnding machine turns false (harts_after left) (took_by log e.hart.id) (known_by starts raises e.hart.id stage) e in
       let many = driven.0 in
-      let e = ended P 0 hart ends driven.1 driven.2 (omega (arith, lt, many)) in
-      let named : e.0.hart.id ≡ hart = (let at = e.1 in omega (arith, at)) in
+      let e = ended P 0 by ends driven.1 driven.2 (omega (arith, lt, many)) in
+      let named : e.0.hart.id ≡ by = (let at = e.1 in omega (arith, at)) in
       let of_end : P e.0 = e.2 in
       let slept : Slept (told_by (part_of_hart e.0.hart.id) log) = subst (λ (k : ℕ). Slept (told_by (part_of_hart k) log)) (sym named) told in
-      subst (λ (k : ℕ). FoundAlone machine.size.harts starts k) named
+      subst (λ (k : ℕ). FoundAlone machine.size.harts starts k) (named ∙ is.9.0)
       (∥∥₁_map of_end.1.1 (λ (h : IsOfHart machine turns (took_by log e.0.hart.id) (known_by starts raises e.0.hart.id of_end.0) e.0).
       has_alone machine turns (took_by log e.0.hart.id) starts raises of_end.0 e.0 h slept)))
 
-  -- so did the hart of each suspension of the journal
-  pub all_alone : (memory : List ℕ) (journal : List Change) (doubt : Option Change) (woken : ℕ) → ∥ IsHistory size memory journal doubt woken log ∥₁ → AllCarry (λ hart address opaque image. FoundAlone machine.size.harts starts hart) journal
-  all_alone memory journal doubt woken history = λ k c at hart address opaque image is.
-      ∥∥₁_elim history ∥∥₁_prop (λ (h : IsHistory size memory journal doubt woken log). one_alone memory hart address opaque image h.of (h.carried k c at hart address opaque image is))
+  -- so did the hart of a suspension of the journal
+  one_of : (memory : List ℕ) (journal : List Change) (doubt : Option Change) (woken : ℕ) → ∥ IsHistory size memory journal doubt woken log ∥₁ → (k : ℕ) (c : Change) → slice_get journal k ≡ Some c → EndsAs (SleptAlone machine.size.harts starts) c
+  one_of memory journal doubt woken history k (Suspend hart address opaque image) at = λ is.
+      ∥∥₁_elim history ∥∥₁_prop (λ (h : IsHistory size memory journal doubt woken log). one_alone memory hart address opaque image h.of (h.ended k (Suspend hart address opaque image) at is))
+  one_of memory journal doubt woken history k c at = λ is. tt
+
+  -- and of each
+  pub all_alone : (memory : List ℕ) (journal : List Change) (doubt : Option Change) (woken : ℕ) → ∥ IsHistory size memory journal doubt woken log ∥₁ → AllEndAs (SleptAlone machine.size.harts starts) journal
+  all_alone memory journal doubt woken history = λ k c at. one_of memory journal doubt woken history k c at

@@ -14,6 +14,7 @@ use Rattle.hsm.specs.declared.view.Stage.{Stage}
 use Rattle.ipi.specs.Ledger.{PendingView}
 use Rattle.ipi.specs.declared.view.IpiAction.{IpiAction}
 use Rattle.machine.specs.Machine.{Machine}
+use Rattle.sbi.specs.declared.words.LifeEnd.{LifeEnd}
 use Rattle.sbi_calls.specs.Both.{Known, known, pending_views, views}
 use Rattle.sbi_calls.specs.declared.tables.Seats.{Seats}
 use Rattle.store.specs.Lives.{Life}
@@ -23,29 +24,29 @@ use Rattle.tallies.specs.Logs.{IsOfLog, Log, actions_in, log_places}
 use Rattle.tallies.specs.Notes.{numbers}
 use Rattle.tallies.specs.declared.view.HartNotes.{HartNotes}
 use Rattle.tallies.specs.declared.book_views.PartView.{PartView}
-use Rattle.hart_threads.specs.Bused.{AreCalls, AreSaved, AreWakes, AsksSo, FoundSo, HasFailed, HasSlept, IsMoment, IsSaving, IsWaking, LooksFor, Makes, SavedBy, WasTold, begun_bus, console_part, count_of, part_of_hart, store_part}
+use Rattle.hart_threads.specs.Bused.{AreCalls, AreSaved, AreWakes, AsksSo, FoundSo, HasEnded, HasFailed, IsMoment, IsSaving, IsWaking, LooksFor, Makes, SavedBy, WasTold, begun_bus, console_part, count_of, part_of_hart, store_part}
 use Rattle.hart_threads.specs.Ends.{IsEnding, IsOfHart}
 use Rattle.hart_threads.specs.Seated.{AreOfHart}
 use Rattle.hart_threads.specs.declared.ends.HartEnd.{HartEnd}
-use Rattle.hart_threads.specs.Carried.{AllCarry, Carries, IsCarriedBy}
+use Rattle.hart_threads.specs.LifeEnds.{AllEndAs, EndsAs, IsEndedAs}
 use Rattle.hart_threads.specs.declared.bus_turns.BusTurn.{BusTurn}
 use Rattle.hart_threads.specs.declared.bus_turns.HeldCall.{HeldCall}
 use Rattle.hart_threads.specs.declared.closing.AfterConsole.{AfterConsole}
-use Rattle.hart_threads.proofs.Bussing.{carried_more}
+use Rattle.hart_threads.proofs.Bussing.{ended_more}
 use Rattle.hart_threads.proofs.Whose.{hart_whose}
-use Rattle.board_session.specs.Histories.{EndsHistory, EndsWith, HasTables, IsAmong, IsHistory, IsOneOf, IsUnsaved, known_by, noted_by, took_by}
+use Rattle.board_session.specs.Histories.{EndsHistory, EndsWith, HasTables, IsAmong, IsHistory, IsOneOf, IsUnended, known_by, noted_by, took_by}
 
--- ---- a life that carries no memory yet
-abbrev none : ℕ → ℕ → ℕ → List ℕ → Type 0
-none hart address opaque memory = ⊥
+-- ---- a life that no command was to end yet
+abbrev none : Change → Type 0
+none c = ⊥
 
-pub carries_none : (P Q : ℕ → ℕ → ℕ → List ℕ → Type 0) (life : Life) → IsUnsaved life → IsCarriedBy P Q life
-carries_none P Q life is = carried_more none P none Q life (λ h a o m no. absurd no) (λ h a o m no. absurd no) is
+pub ends_none : (P Q : Change → Type 0) (life : Life) → IsUnended life → IsEndedAs P Q life
+ends_none P Q life is = ended_more none P none Q life (λ c no. absurd no) (λ c no. absurd no) is
 
 -- nothing was done with its bus
-pub no_history : (size : Size) (memory : List ℕ) (life : Life) (journal : List Change) (doubt : Option Change) → journal ≡ life.journal → doubt ≡ life.doubt → IsUnsaved life → ∥ IsHistory size memory journal doubt 0 [] ∥₁
-no_history size memory life journal doubt issued down unsaved =
-    let carried = carries_none (IsMoment HasSlept size [] (begun_bus memory)) (IsMoment HasFailed size [] (begun_bus memory)) life unsaved in
+pub no_history : (size : Size) (memory : List ℕ) (life : Life) (journal : List Change) (doubt : Option Change) → journal ≡ life.journal → doubt ≡ life.doubt → IsUnended life → ∥ IsHistory size memory journal doubt 0 [] ∥₁
+no_history size memory life journal doubt issued down unended =
+    let by_life = ends_none (IsMoment HasEnded size [] (begun_bus memory)) (IsMoment HasFailed size [] (begun_bus memory)) life unended in
     ∣ record {
       left = begun_bus memory;
       made = refl;
@@ -54,8 +55,8 @@ no_history size memory life journal doubt issued down unsaved =
       saves = tt;
       wakes = tt;
       often = refl;
-      carried = subst (λ (cs : List Change). AllCarry (IsMoment HasSlept size [] (begun_bus memory)) cs) (sym issued) carried.journal;
-      doubted = subst (λ (o : Option Change). (c : Change) → o ≡ Some c → Carries (IsMoment HasFailed size [] (begun_bus memory)) c) (sym down) carried.doubt;
+      ended = subst (λ (cs : List Change). AllEndAs (IsMoment HasEnded size [] (begun_bus memory)) cs) (sym issued) by_life.journal;
+      doubted = subst (λ (o : Option Change). (c : Change) → o ≡ Some c → EndsAs (IsMoment HasFailed size [] (begun_bus memory)) c) (sym down) by_life.doubt;
     } ∣₁
 
 -- ---- what is among what came back
@@ -166,27 +167,26 @@ no_steps harts = record { first = 0; started = tt; raised = tt }
 equal : (a b : ℕ) → (a == b) ≡ true → a ≡ b
 equal a b is = grind (arith, nat_tests)
 
-module _ (Answered : HeldCall → Type 0) (size : Size) (begun : Bus) (hart address opaque : ℕ) (memory : List ℕ) where
+module _ (Answered : LifeEnd → HeldCall → Type 0) (size : Size) (begun : Bus) (c : Change) where
   abbrev HasMoment : Log BusTurn → Type 0
   HasMoment log =
       (later earlier : Log BusTurn) × (look turn : BusTurn) × (call : HeldCall) × (left : Bus)
-      × (log ≡ later ++ (store_part, look) ∷ (part_of_hart hart, turn) ∷ earlier)
-      × (look.call ≡ Some call) × (turn.call ≡ Some call) × AsksSo Answered size hart address opaque call
-      × Makes ((part_of_hart hart, turn) ∷ earlier) begun left × (memory ≡ left.ram)
+      × (log ≡ later ++ (store_part, look) ∷ (part_of_hart call.asked.id, turn) ∷ earlier)
+      × (look.call ≡ Some call) × (turn.call ≡ Some call) × AsksSo Answered size c call left.ram
+      × Makes ((part_of_hart call.asked.id, turn) ∷ earlier) begun left
 
   abbrev Looked : List (ℕ × BusTurn) → Type 0
-  Looked told = FoundSo Answered size told hart address opaque memory
+  Looked told = FoundSo Answered size told c
 
   moment_later : (e : ℕ × BusTurn) (l : Log BusTurn) → HasMoment l → HasMoment (e ∷ l)
-  moment_later e l m = (e ∷ m.0, m.1, m.2, m.3, m.4, m.5, ap (λ (x : Log BusTurn). e ∷ x) m.6, m.7, m.8, m.9, m.10, m.11)
+  moment_later e l m = (e ∷ m.0, m.1, m.2, m.3, m.4, m.5, ap (λ (x : Log BusTurn). e ∷ x) m.6, m.7, m.8, m.9, m.10)
 
   -- a look, directly after the turn of the hart that asked
-  here : (e : ℕ × BusTurn) (l : Log BusTurn) (n : Bus) (call : HeldCall) → e.0 ≡ store_part → e.1.call ≡ Some call → AreCalls (Some call) l → Makes (e ∷ l) begun n → AsksSo Answered size hart address opaque call → memory ≡ e.1.found.ram → HasMoment (e ∷ l)
-  here e [] n call own is calls row so same = absurd calls
-  here e (f ∷ l) n call own is calls row so same =
+  here : (e : ℕ × BusTurn) (l : Log BusTurn) (n : Bus) (call : HeldCall) → e.0 ≡ store_part → e.1.call ≡ Some call → AreCalls (Some call) l → Makes (e ∷ l) begun n → AsksSo Answered size c call e.1.found.ram → HasMoment (e ∷ l)
+  here e [] n call own is calls row so = absurd calls
+  here e (f ∷ l) n call own is calls row so =
       let looked : e ≡ (store_part, e.1) = λ i. (own i, e.1) in
-      let whose : f.0 ≡ part_of_hart hart = calls.0 ∙ ap part_of_hart so.0 in
-      let turned : f ≡ (part_of_hart hart, f.1) = λ i. (whose i, f.1) in (
+      let turned : f ≡ (part_of_hart call.asked.id, f.1) = λ i. (calls.0 i, f.1) in (
         [],
         l,
         e.1,
@@ -198,11 +198,10 @@ module _ (Answered : HeldCall → Type 0) (size : Size) (begun : Bus) (hart addr
         calls.1,
         so,
         subst (λ (x : ℕ × BusTurn). Makes (x ∷ l) begun e.1.found) turned row.1,
-        same,
       )
 
   -- a turn more, of the store or of another
-  moment_if : (own : Bool) (e : ℕ × BusTurn) (l : Log BusTurn) → (LooksFor Answered size hart address opaque memory e.1 → HasMoment (e ∷ l)) → (Looked (told_by store_part l) → HasMoment l)
+  moment_if : (own : Bool) (e : ℕ × BusTurn) (l : Log BusTurn) → (LooksFor Answered size c e.1 → HasMoment (e ∷ l)) → (Looked (told_by store_part l) → HasMoment l)
       → Looked (if own then (suc (length l), e.1) ∷ told_by store_part l else told_by store_part l) → HasMoment (e ∷ l)
   moment_if true e l now rest (inl look) = now look
   moment_if true e l now rest (inr so) = moment_later e l (rest so)
@@ -218,11 +217,11 @@ module _ (Answered : HeldCall → Type 0) (size : Size) (begun : Bus) (hart addr
   moment (Some call) [] n calls row so = absurd calls
   moment None (e ∷ l) n calls row so =
       moment_if (e.0 == store_part) e l
-      (λ look. here e l n look.0 (subst (λ (o : Option HeldCall). IfSome o (λ call. e.0 ≡ store_part)) look.1 calls.0) look.1 (subst (λ (o : Option HeldCall). AreCalls o l) look.1 calls.1) row look.2 look.3)
+      (λ look. here e l n look.0 (subst (λ (o : Option HeldCall). IfSome o (λ call. e.0 ≡ store_part)) look.1 calls.0) look.1 (subst (λ (o : Option HeldCall). AreCalls o l) look.1 calls.1) row look.2)
       (λ told. moment e.1.call l e.1.found calls.1 row.1 told) so
   moment (Some call) (e ∷ l) n calls row so = moment_later e l (moment None l e.1.found calls.2 row.1 (not_own (e.0 == store_part) call.asked.id e l refl calls.0 so))
 
-  moment_told : (log : Log BusTurn) (n : Bus) → AreCalls None log → Makes log begun n → WasTold Answered size (told_by store_part log) hart address opaque memory → IsMoment Answered size log begun hart address opaque memory
+  moment_told : (log : Log BusTurn) (n : Bus) → AreCalls None log → Makes log begun n → WasTold Answered size (told_by store_part log) c → IsMoment Answered size log begun c
   moment_told log n calls row was = ∥∥₁_map was (λ (so : Looked (told_by store_part log)). moment None log n calls row so)
 
 -- ---- the whole history
@@ -235,9 +234,9 @@ module _ (size : Size) (memory : List ℕ) (log : Log BusTurn) (store console : 
       let own = told_of store store_part ends.told.1.0 saved.0 in
       let woke = told_of console console_part ends.told.0 wakes.0 in
       let looks = subst (λ (ts : List (ℕ × BusTurn)). Each (λ t. IsSaving t.1) ts) own saved.1 in
-      let told = λ (Answered : HeldCall → Type 0) (h a o : ℕ) (m : List ℕ) (was : WasTold Answered size store.told h a o m).
-      moment_told Answered size (begun_bus memory) h a o m log ends.left calls made (subst (λ (ts : List (ℕ × BusTurn)). WasTold Answered size ts h a o m) own was) in
-      let carried = carried_more (WasTold HasSlept size store.told) (IsMoment HasSlept size log (begun_bus memory)) (WasTold HasFailed size store.told) (IsMoment HasFailed size log (begun_bus memory)) life (told HasSlept) (told HasFailed) saved.2 in
+      let told = λ (Answered : LifeEnd → HeldCall → Type 0) (c : Change) (was : WasTold Answered size store.told c).
+      moment_told Answered size (begun_bus memory) c log ends.left calls made (subst (λ (ts : List (ℕ × BusTurn)). WasTold Answered size ts c) own was) in
+      let by_life = ended_more (WasTold HasEnded size store.told) (IsMoment HasEnded size log (begun_bus memory)) (WasTold HasFailed size store.told) (IsMoment HasFailed size log (begun_bus memory)) life (told HasEnded) (told HasFailed) saved.2 in
       record {
         left = ends.left;
         made = made;
@@ -246,8 +245,8 @@ module _ (size : Size) (memory : List ℕ) (log : Log BusTurn) (store console : 
         saves = looks;
         wakes = subst (λ (ts : List (ℕ × BusTurn)). Each (λ t. IsWaking t.1) ts) woke wakes.1;
         often = wakes.2 ∙ ap count_of woke;
-        carried = carried.journal;
-        doubted = carried.doubt;
+        ended = by_life.journal;
+        doubted = by_life.doubt;
       }
 
   pub history : (life : Life) (woken : ℕ) → AreSaved size life store → AreWakes woken console → ∥ IsHistory size memory life.journal life.doubt woken log ∥₁

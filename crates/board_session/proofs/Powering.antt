@@ -4,7 +4,6 @@ use Rattle.std.proofs.Common.{◌≡◌, ◌⊎◌, ◌≤◌, ◌&&◌, inl, in
 use Rattle.std.proofs.lemmas.List.{take-append-drop}
 use Rattle.std.specs.Prelude.{is_none, is_some, if◌then◌else◌}
 use Rattle.board_model.specs.Durable.{DurableState, Change, Attempt, Consume, Discard, after, fold, formatted}
-use Rattle.board_model.specs.declared.durable.Command.TheVariants as commands
 use Rattle.board_model.specs.Shapes.{Size}
 use Rattle.board_model.specs.declared.boot_mode.BootMode.{BootMode}
 use Rattle.board_model.specs.declared.durable.Command.{Command}
@@ -28,8 +27,8 @@ use Rattle.board_model.specs.declared.boot_mode.BootMode.TheVariants as modes
 use Rattle.store.specs.Lives.{Life, now_of}
 use Rattle.store.specs.Taken.{are_taken}
 use Rattle.hart_threads.specs.Legal.{BeginsWith}
-use Rattle.hart_threads.specs.Carried.{AllCarry, IsCarriedBy}
-use Rattle.hart_threads.proofs.Carrying.{none_carry, more_carry, change_carries}
+use Rattle.hart_threads.specs.LifeEnds.{AllEndAs, IsEndedAs}
+use Rattle.hart_threads.proofs.LifeEnding.{none_end, more_end, going_on}
 use Rattle.board.specs.Boots.{boot_refusal, life_after}
 use Rattle.board.specs.Moments.{MayLeave, attempts_of, commands_by}
 use Rattle.board.proofs.Few.{few_commands, left_at}
@@ -179,19 +178,19 @@ life_issued mode life is = ap (λ (x : Life). x.journal) is
 pub life_few : (mode : BootMode) (life : Life) → life ≡ life_after mode life.found → length life.journal ≤ 2
 life_few mode life is = subst (λ (cs : List Change). length cs ≤ 2) (sym (life_issued mode life is)) (few_commands mode life.found)
 
--- no command of a boot is a suspension
-attempts_carried : (P : ℕ → ℕ → ℕ → List ℕ → Type 0) (trial : Option Trial) → AllCarry P (attempts_of trial)
-attempts_carried P None = none_carry P
-attempts_carried P (Some trial) = more_carry P Attempt [] (change_carries P commands.Attempt Attempt refl) (none_carry P)
+-- no command of a boot ends its life
+attempts_end : (P : Change → Type 0) (trial : Option Trial) → AllEndAs P (attempts_of trial)
+attempts_end P None = none_end P
+attempts_end P (Some trial) = more_end P Attempt [] (going_on P Attempt refl) (none_end P)
 
-commands_carried : (P : ℕ → ℕ → ℕ → List ℕ → Type 0) (mode : BootMode) (s : DurableState) → AllCarry P (commands_by mode s)
-commands_carried P modes.Fresh s = attempts_carried P s.trial
-commands_carried P modes.Keep s = attempts_carried P s.trial
-commands_carried P modes.Discard s = more_carry P Discard (attempts_of s.trial) (change_carries P commands.Discard Discard refl) (attempts_carried P s.trial)
-commands_carried P modes.Resume s = more_carry P Consume [] (change_carries P commands.Consume Consume refl) (none_carry P)
+commands_end : (P : Change → Type 0) (mode : BootMode) (s : DurableState) → AllEndAs P (commands_by mode s)
+commands_end P modes.Fresh s = attempts_end P s.trial
+commands_end P modes.Keep s = attempts_end P s.trial
+commands_end P modes.Discard s = more_end P Discard (attempts_of s.trial) (going_on P Discard refl) (attempts_end P s.trial)
+commands_end P modes.Resume s = more_end P Consume [] (going_on P Consume refl) (none_end P)
 
-pub life_carried : (P Q : ℕ → ℕ → ℕ → List ℕ → Type 0) (mode : BootMode) (life : Life) → life ≡ life_after mode life.found → IsCarriedBy P Q life
-life_carried P Q mode life is = subst (λ (x : Life). IsCarriedBy P Q x) (sym is) (record { journal = commands_carried P mode life.found; doubt = λ c e. let no : ⊥ = cc in absurd no })
+pub life_ends : (P Q : Change → Type 0) (mode : BootMode) (life : Life) → life ≡ life_after mode life.found → IsEndedAs P Q life
+life_ends P Q mode life is = subst (λ (x : Life). IsEndedAs P Q x) (sym is) (record { journal = commands_end P mode life.found; doubt = λ c e. let no : ⊥ = cc in absurd no })
 
 -- of which none is in doubt
 pub life_up : (mode : BootMode) (life : Life) → life ≡ life_after mode life.found → life.doubt ≡ None

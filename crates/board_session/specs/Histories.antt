@@ -1,7 +1,7 @@
 -- The one history of the bus of a session, and what it has of each hart, of the store and of the console; and the one log of each of its
 -- two tables, and what it has of each hart. Source: docs/THREADS.md, "The bus"; docs/TABLES.md, "Words"; docs/CONSOLE.md.
 use Rattle.std.specs.Prelude.{◌≡◌, ◌⊎◌, ◌<◌, ◌+◌, ℕ, Bool, false, List, [], ◌∷◌, All, Option, Some, None, length}
-use Rattle.board_model.specs.Durable.{Change}
+use Rattle.board_model.specs.Durable.{Change, Suspend}
 use Rattle.board_model.specs.Shapes.{Size}
 use Rattle.hsm.specs.Rule.{reading as start_reading, first_word as start_words}
 use Rattle.hsm.specs.Words.{HartView}
@@ -20,10 +20,10 @@ use Rattle.tallies.specs.Logs.{Log, IsTrueLog, actions_in, log_places}
 use Rattle.tallies.specs.Notes.{hart_notes, numbers}
 use Rattle.tallies.specs.declared.view.HartNotes.{HartNotes}
 use Rattle.tallies.specs.declared.book_views.PartView.{PartView}
-use Rattle.hart_threads.specs.Bused.{AreCalls, HasCalls, HasFailed, HasSlept, IsMoment, IsSaving, IsWaking, Made, Makes, begun_bus, console_part, count_of, part_of_hart, store_part}
+use Rattle.hart_threads.specs.Bused.{AreCalls, HasCalls, HasEnded, HasFailed, IsMoment, IsSaving, IsWaking, Made, Makes, begun_bus, console_part, count_of, part_of_hart, store_part}
 use Rattle.hart_threads.specs.Ends.{AreNumberedFrom, IsEnding}
 use Rattle.hart_threads.specs.declared.ends.HartEnd.{HartEnd}
-use Rattle.hart_threads.specs.Carried.{AllCarry, Carries, IsCarriedBy}
+use Rattle.hart_threads.specs.LifeEnds.{AllEndAs, EndsAs, IsEndedAs}
 use Rattle.hart_threads.specs.declared.bus_turns.BusTurn.{BusTurn}
 use Rattle.hart_threads.specs.declared.closing.AfterConsole.{AfterConsole}
 use Rattle.hart_threads.specs.declared.closing.AfterConsole.TheVariants.{RunOut, Halt}
@@ -64,17 +64,23 @@ FoundAlone harts starts hart =
     ∥ ((found last : ℕ) × (before : List Action) × (actions_in hart starts ≡ Looked last ∷ Quieted found ∷ before)
     × AreUnclaimed harts hart found) ∥₁
 
--- where the console was begun, so did the hart of each suspension of the journal
+-- so did the hart of a suspension
+abbrev pub SleptAlone : ℕ → Log Action → Change → Type 0
+SleptAlone harts starts (Suspend hart address opaque memory) = FoundAlone harts starts hart
+SleptAlone harts starts c = Unit {0}
+
+-- where the console was begun, that of each suspension of the journal did
 abbrev pub AreAlone : ℕ → Log Action → Option Left → List Change → Type 0
 AreAlone harts starts None journal = Unit {0}
-AreAlone harts starts (Some left) journal = AllCarry (λ hart address opaque memory. FoundAlone harts starts hart) journal
+AreAlone harts starts (Some left) journal = AllEndAs (SleptAlone harts starts) journal
 
 -- ---- the bus
 -- There is one history of the bus of a session. Its turns made what the bus was at the end, one after another, of the memory that the
 -- power-on left. Each is of a hart, of the store or of the console. Directly after each durable call of a hart the store looked for that
 -- very call, and at no other time. The store's leave the bus as it was. The console's wake a board that dozes, and there are as many as it
--- was told. A suspension of the journal carries the memory of one moment of this history: its hart had just made the call that asked for
--- it, and with that call the board fell asleep. So does one that is in doubt, whose hart was answered -1 there.
+-- was told. A reset or a suspension of the journal has one moment in this history: a hart had just made the call that asked for it, and with
+-- that call the life ended. So has one that is in doubt, whose hart was answered -1 there. A suspension is of that hart, and carries the
+-- memory of that moment.
 pub record IsHistory (size : Size) (memory : List ℕ) (journal : List Change) (doubt : Option Change) (woken : ℕ) (log : Log BusTurn) : Type 0 where
   pub left : Bus
   pub made : Makes log (begun_bus memory) left
@@ -83,8 +89,8 @@ pub record IsHistory (size : Size) (memory : List ℕ) (journal : List Change) (
   pub saves : Each (λ t. IsSaving t.1) (told_by store_part log)
   pub wakes : Each (λ t. IsWaking t.1) (told_by console_part log)
   pub often : woken ≡ count_of (told_by console_part log)
-  pub carried : AllCarry (IsMoment HasSlept size log (begun_bus memory)) journal
-  pub doubted : (c : Change) → doubt ≡ Some c → Carries (IsMoment HasFailed size log (begun_bus memory)) c
+  pub ended : AllEndAs (IsMoment HasEnded size log (begun_bus memory)) journal
+  pub doubted : (c : Change) → doubt ≡ Some c → EndsAs (IsMoment HasFailed size log (begun_bus memory)) c
 
 -- Each hart of that board had a loop, and there is an end of each, from hart 0 on. It went from where the power-on left it by just the
 -- turns that its loop made, and what the history has of it is what those turns did with the bus. What the logs of the two tables have of it
@@ -107,9 +113,9 @@ HasHistory size machine turns journal doubt woken left ends =
     × AreAlone machine.size.harts starts left journal
     × ∥ IsHistory size machine.memory journal doubt woken log ∥₁
 
--- a life in which no suspension was asked for
-abbrev pub IsUnsaved : Life → Type 0
-IsUnsaved life = IsCarriedBy (λ hart address opaque memory. ⊥) (λ hart address opaque memory. ⊥) life
+-- a life in which no reset and no suspension was asked for
+abbrev pub IsUnended : Life → Type 0
+IsUnended life = IsEndedAs (λ c. ⊥) (λ c. ⊥) life
 
 -- ---- while its parts come back
 -- a part is one of these

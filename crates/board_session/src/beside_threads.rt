@@ -17,7 +17,7 @@ ghost use Rattle.store.specs.Taken.{are_taken};
 ghost use Rattle.store.specs.Views.{disk_of, doubt_of, failures_at_open, found_state, journal_of, life_of, size_of_store};
 ghost use Rattle.board_session.specs.Commands.{party};
 ghost use Rattle.board_session.specs.Dialogues.{Talks, dialogue_ends, output_of};
-ghost use Rattle.board_session.specs.Histories.{HasHistory, IsUnsaved, harts_after};
+ghost use Rattle.board_session.specs.Histories.{HasHistory, IsUnended, harts_after};
 ghost use Rattle.board_session.specs.Sessions.{AreOfLife, IsOfLife, TalksIf, outcome_of};
 
 use crate::gate::{Open, harts_after};
@@ -151,7 +151,7 @@ pub(crate) fn run_board<
     requires bus { hardware.bus ≡ begun_bus J.memory }
     requires machine { J.machine ≡ board_of hardware.shape J.memory on.doze on.harts.items on.seats }
     requires tables { AreNamed J.starts J.raises hardware.tables }
-    requires unsaved { IsUnsaved (life_of store) }
+    requires unended { IsUnended (life_of store) }
     requires turns { on.turns ≡ J.turns }
     requires lock { provisions.lock.id ≡ J.parting }
     requires halt { (provisions.halt ≡ J.halt) × (provisions.first ≡ watched J.halt true 0 None) }

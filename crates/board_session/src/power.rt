@@ -12,7 +12,7 @@ ghost use Rattle.store.specs.Views.{disk_of, doubt_of, failures_at_open, found_s
 ghost use Rattle.board.specs.Begins.{IsBegun};
 ghost use Rattle.board.specs.Moments.{commands_by};
 ghost use Rattle.board.specs.Views.{machine_of, store_of};
-ghost use Rattle.board_session.specs.Histories.{IsUnsaved};
+ghost use Rattle.board_session.specs.Histories.{IsUnended};
 ghost use Rattle.board_session.specs.Sessions.{Begins, IsBooted, RefusesDisk, RunsOver, TakesFormat};
 
 use crate::given::Options;
@@ -65,7 +65,7 @@ pub(crate) fn powered<D: Disk + Drop>(
         ≡ commands_by options.now.mode (found_state (store_of b))) }
     ensures taken { IfOk result (λ b. (are_taken (found_state (store_of b)) (journal_of (store_of b)) ≡ true)
         × (length (journal_of (store_of b)) ≤ 2)) }
-    ensures unsaved { IfOk result (λ b. IsUnsaved (life_of (store_of b))) }
+    ensures unended { IfOk result (λ b. IsUnended (life_of (store_of b))) }
     ensures up { IfOk result (λ b. doubt_of (store_of b) ≡ None) }
     ensures opened { IfOk result (λ b. failures_at_open (store_of b) ≡ (D.facts disk).failures) }
     ensures moments { IfOk result (λ b. IsBooted options.now.new (D.facts disk) (size_of_store (store_of b))

@@ -74,8 +74,9 @@ pub fn session<R: Threads + Wait + Sync, D: Disk + Drop + Send, I: Read + Drop, 
     // A refusal is the first of the format's, the open's and the boot's, before any line is read or answered; or
     // the board was on over the disk that was given, and the disk given back is that of its life, to which what
     // was read and answered belongs: each command of its journal was acknowledged to the boot, the console or a
-    // hart, and no other was; and the memory of its suspension was a moment of the one history of its bus. A
-    // command is in doubt only where the disk failed, and it was asked for by the console, which was answered 6, or by a hart.
+    // hart, and no other was. A command is in doubt only where the disk failed, and it was asked for by the console, which was
+    // answered 6, or by a hart. A reset or a suspension of the life has its moment in the one history of its bus, at which a hart had
+    // just made the call that asked for it; that of one in doubt was answered -1.
     // Each hart went from where the power-on left it by its own turns: it made all of them, or one of them ended the life
     // by the last command of its journal, whose receipt it was told, or the console left so that they were halted. It is then
     // refused by why the console left alone. The moments given back are those at which its boot was over and its receipts were made: from each on a crash has

@@ -2,10 +2,8 @@
 use Rattle.std.proofs.Common.{◌≡◌, ⊎_elim, ℕ, Bool, true, false, List, ◌∷◌, Option, None, Result, Ok, Err, refl, sym, ap, subst, inl, inr}
 use Rattle.std.specs.Prelude.{IfSome}
 use Rattle.std.proofs.Math.Logic.{∥∥₁_map, ∥∥₁_map₂}
-use Rattle.board_model.specs.Durable.{Change}
+use Rattle.board_model.specs.Durable.{Change, ends_life}
 use Rattle.board_model.specs.Shapes.{Size}
-use Rattle.board_model.specs.Views.{change_of}
-use Rattle.board_model.specs.declared.durable.Command.{Command}
 use Rattle.board_model.specs.declared.refusal.Refusal.{Refusal}
 use Rattle.disk.specs.declared.device.Disk.{Ghosts}
 use Rattle.disk.specs.declared.device.Lane.{Ghosts as Lanes}
@@ -31,16 +29,17 @@ use Rattle.susp.specs.declared.buses.Bus.{Bus}
 use Rattle.susp.specs.declared.sleeps.Sleep.{Sleep}
 use Rattle.susp.specs.declared.sleeps.Sleep.TheVariants.{ToRam, ToDisk}
 use Rattle.sbi.specs.Helds.{EndsSleep, MakesHeld}
+use Rattle.sbi.specs.declared.words.LifeEnd.{LifeEnd}
 use Rattle.sbi.specs.declared.words.Word.{Word}
 use Rattle.sbi.specs.declared.words.Word.TheVariants.{Goes, Over}
 use Rattle.turns.specs.Own.{StepsIf, TurnAsOwn, TurnOwn}
 use Rattle.turns.specs.declared.readies.Ready.{Ready}
 use Rattle.turns.specs.declared.readies.Ready.TheVariants as readies
-use Rattle.hart_threads.specs.Bused.{AreCalls, AreSaved, CalledIf, FoundSo, HasCalls, HasFailed, HasSlept, IsCalled, Made, Makes, SavedBy, StepsBus, Takes, TurnsBus, WasTold, call_turn, held_call, part_of_hart, store_part}
-use Rattle.hart_threads.specs.Carried.{Carries, IsCarriedBy}
+use Rattle.hart_threads.specs.Bused.{AreCalls, AreSaved, CalledIf, FoundSo, HasCalls, HasEnded, HasFailed, IsCalled, Made, Makes, SavedBy, StepsBus, Takes, TurnsBus, WasTold, call_turn, held_call, part_of_hart, store_part}
+use Rattle.hart_threads.specs.LifeEnds.{IsEndedAs}
 use Rattle.hart_threads.specs.declared.bus_turns.BusTurn.{BusTurn}
 use Rattle.hart_threads.specs.declared.bus_turns.HeldCall.{HeldCall}
-use Rattle.hart_threads.proofs.Carrying.{asked_carried, asks_so, held_keeps}
+use Rattle.hart_threads.proofs.LifeEnding.{Answers, asked_ends, held_keeps}
 
 -- ---- one turn more
 pub more : (count who : ℕ) (x : BusTurn) (l : Log BusTurn) (ds : List (PartView BusTurn)) (v : BookView BusTurn) (m n left : Bus) → Made l m n → x.found ≡ n → x.left ≡ left
@@ -106,20 +105,17 @@ call_more count size call found left l ds v life caller store calls saved is vie
     more))
 
 -- ---- what the store's part was told
-carries_more : (P Q : ℕ → ℕ → ℕ → List ℕ → Type 0) (c : Change) → ((h a o : ℕ) (m : List ℕ) → P h a o m → Q h a o m) → Carries P c → Carries Q c
-carries_more P Q c on is hart address opaque memory e = on hart address opaque memory (is hart address opaque memory e)
+pub ended_more : (P P' Q Q' : Change → Type 0) (life : Life) → ((c : Change) → P c → P' c) → ((c : Change) → Q c → Q' c) → IsEndedAs P Q life → IsEndedAs P' Q' life
+ended_more P P' Q Q' life on up is = record { journal = λ k c e ends. on c (is.journal k c e ends); doubt = λ c e ends. up c (is.doubt c e ends) }
 
-pub carried_more : (P P' Q Q' : ℕ → ℕ → ℕ → List ℕ → Type 0) (life : Life) → ((h a o : ℕ) (m : List ℕ) → P h a o m → P' h a o m) → ((h a o : ℕ) (m : List ℕ) → Q h a o m → Q' h a o m) → IsCarriedBy P Q life → IsCarriedBy P' Q' life
-carried_more P P' Q Q' life on up is = record { journal = λ k c e. carries_more P P' c on (is.journal k c e); doubt = λ c e. carries_more Q Q' c up (is.doubt c e) }
-
-told_more : (Answered : HeldCall → Type 0) (size : Size) (told : List (ℕ × BusTurn)) (t : ℕ × BusTurn) (h a o : ℕ) (m : List ℕ) → WasTold Answered size told h a o m → WasTold Answered size (t ∷ told) h a o m
-told_more Answered size told t h a o m was = ∥∥₁_map was (λ (so : FoundSo Answered size told h a o m). let more : FoundSo Answered size (t ∷ told) h a o m = inr so in more)
+told_more : (Answered : LifeEnd → HeldCall → Type 0) (size : Size) (told : List (ℕ × BusTurn)) (t : ℕ × BusTurn) (c : Change) → WasTold Answered size told c → WasTold Answered size (t ∷ told) c
+told_more Answered size told t c was = ∥∥₁_map was (λ (so : FoundSo Answered size told c). let more : FoundSo Answered size (t ∷ told) c = inr so in more)
 
 module _ {D L : Type 0} {g : Ghosts D L} {l : Lanes L} where
-  -- once a command was asked for that is no suspension
-  pub saved_still : (size : Size) (d : PartView BusTurn) (old new : Store D L g l) (command : Command) (r : Result ℕ Refusal) → AreSaved size (life_of old) d → Asked Applied old (change_of command) r new → AreSaved size (life_of new) d
-  saved_still size d old new command r saved asked =
-      ∥∥₁_map saved (λ (by : SavedBy size (life_of old) d). let still : SavedBy size (life_of new) d = (by.0, by.1, asked_carried (WasTold HasSlept size d.told) (WasTold HasFailed size d.told) old new command r by.2 asked) in still)
+  -- once a command was asked for after which the life goes on
+  pub saved_still : (size : Size) (d : PartView BusTurn) (old new : Store D L g l) (c : Change) (r : Result ℕ Refusal) → ends_life c ≡ false → AreSaved size (life_of old) d → Asked Applied old c r new → AreSaved size (life_of new) d
+  saved_still size d old new c r goes saved asked =
+      ∥∥₁_map saved (λ (by : SavedBy size (life_of old) d). let still : SavedBy size (life_of new) d = (by.0, by.1, asked_ends (WasTold HasEnded size d.told) (WasTold HasFailed size d.told) old new c r goes by.2 asked) in still)
 
   -- once a durable call was made, directly after which it looked
   pub saved_held : (harts : ℕ) (size : Size) (s t : ArchState) (k k' : Known) (bus bus' : Bus) (old new : Store D L g l) (word : Word) (d d' : PartView BusTurn)
@@ -127,12 +123,17 @@ module _ {D L : Type 0} {g : Ghosts D L} {l : Lanes L} where
   saved_held harts size s t k k' bus bus' old new word d d' board takes saved same made =
       let turn = call_turn (held_call s t word) bus' bus' in
       let told = (takes.0, turn) ∷ d.told in
-      let Slept : ℕ → ℕ → ℕ → List ℕ → Type 0 = WasTold HasSlept size told in
-      let Failing : ℕ → ℕ → ℕ → List ℕ → Type 0 = WasTold HasFailed size told in
-      let so = asks_so Slept Failing size (call_of s) s t bus.ram word
-      (λ site opaque asks is. ∣ inl (held_call s t word, refl, (refl, asks, is), sym same) ∣₁) (λ site opaque asks is. ∣ inl (held_call s t word, refl, (refl, asks, is), sym same) ∣₁) in
+      let Ended : Change → Type 0 = WasTold HasEnded size told in
+      let Failing : Change → Type 0 = WasTold HasFailed size told in
+      let call = held_call s t word in
+      let so : Answers Ended Failing size s t bus.ram word (call_of s) = record {
+        reset = λ type cause asks is. ∣ inl (call, refl, (type, asks, is)) ∣₁;
+        refused = λ type cause asks is. ∣ inl (call, refl, (type, asks, is)) ∣₁;
+        slept = λ site opaque asks is. ∣ inl (call, refl, (refl, asks, is, sym same)) ∣₁;
+        failed = λ site opaque asks is. ∣ inl (call, refl, (refl, asks, is, sym same)) ∣₁;
+      } in
       subst (AreSaved size (life_of new)) (sym takes.1) (∥∥₁_map saved (λ (by : SavedBy size (life_of old) d).
-      let was = carried_more (WasTold HasSlept size d.told) Slept (WasTold HasFailed size d.told) Failing (life_of old) (told_more HasSlept size d.told (takes.0, turn)) (told_more HasFailed size d.told (takes.0, turn)) by.2 in
-      let carried = held_keeps Slept Failing harts size (call_of s) s t k k' bus bus' old new word board was so made in
-      let still : SavedBy size (life_of new) (told_after takes.0 turn d) = (by.0, (refl, by.1), carried.carried) in
+      let was = ended_more (WasTold HasEnded size d.told) Ended (WasTold HasFailed size d.told) Failing (life_of old) (told_more HasEnded size d.told (takes.0, turn)) (told_more HasFailed size d.told (takes.0, turn)) by.2 in
+      let kept = held_keeps Ended Failing harts size (call_of s) s t k k' bus bus' old new word board was so made in
+      let still : SavedBy size (life_of new) (told_after takes.0 turn d) = (by.0, (refl, by.1), kept.ended) in
       still))

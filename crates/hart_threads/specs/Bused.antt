@@ -1,12 +1,15 @@
 -- The history of a bus: what was done with it in each hold of it, one hold after another. Source: docs/THREADS.md, "The bus".
 use Rattle.std.specs.Prelude.{◌≡◌, ◌⊎◌, ◌+◌, ℕ, Bool, true, false, List, [], ◌∷◌, ◌++◌, Option, Some, None, Err, IfSome}
+use Rattle.board_model.specs.Durable.{Change, Reset, Suspend}
 use Rattle.board_model.specs.Shapes.{Size}
 use Rattle.hart.specs.State.{ArchState, answered}
 use Rattle.sbi_abi.specs.Answers.{error_of}
 use Rattle.sbi_abi.specs.Calls.{call_of}
 use Rattle.sbi_abi.specs.declared.ret.SbiError.TheVariants.{Failed}
 use Rattle.sbi_calls.specs.Words.{is_doze}
-use Rattle.sbi.specs.declared.words.LifeEnd.TheVariants.{Asleep}
+use Rattle.sbi.specs.declared.resets.ResetType.{ResetType}
+use Rattle.sbi.specs.declared.words.LifeEnd.{LifeEnd}
+use Rattle.sbi.specs.declared.words.LifeEnd.TheVariants as ends
 use Rattle.sbi.specs.declared.words.Word.{Word}
 use Rattle.sbi.specs.declared.words.Word.TheVariants.{Goes, Over}
 use Rattle.susp.specs.Dozes.{can_wake, after_wake}
@@ -18,10 +21,10 @@ use Rattle.tallies.specs.declared.book_views.PartView.{PartView}
 use Rattle.turns.specs.Own.{StepsIf}
 use Rattle.turns.specs.declared.readies.Ready.{Ready}
 use Rattle.store.specs.Lives.{Life}
-use Rattle.hart_threads.specs.Called.{AsksSleep}
+use Rattle.hart_threads.specs.Called.{AsksReset, AsksSleep}
 use Rattle.hart_threads.specs.Heard.{one_more}
 use Rattle.hart_threads.specs.Looks.{doze_by}
-use Rattle.hart_threads.specs.Carried.{IsCarriedBy}
+use Rattle.hart_threads.specs.LifeEnds.{IsEndedAs}
 use Rattle.hart_threads.specs.declared.bus_turns.BusTurn.{BusTurn}
 use Rattle.hart_threads.specs.declared.bus_turns.HeldCall.{HeldCall}
 
@@ -76,27 +79,31 @@ AreCalls (Some call) (e ∷ l) = (e.0 ≡ part_of_hart call.asked.id) × (e.1.ca
 abbrev pub HasCalls : Log BusTurn → Type 0
 HasCalls log = ∥ AreCalls None log ∥₁
 
--- how a suspension to disk was answered: its board sleeps
-abbrev pub HasSlept : HeldCall → Type 0
-HasSlept call = call.word ≡ Over Asleep
+-- how a call was answered that was to end the life so: it did
+abbrev pub HasEnded : LifeEnd → HeldCall → Type 0
+HasEnded end call = call.word ≡ Over end
 
 -- or it was answered -1
-abbrev pub HasFailed : HeldCall → Type 0
-HasFailed call = call.answered ≡ answered call.asked (error_of (Err Failed)) 0
+abbrev pub HasFailed : LifeEnd → HeldCall → Type 0
+HasFailed end call = call.answered ≡ answered call.asked (error_of (Err Failed)) 0
 
--- the hart of that number asked for that suspension to disk, and was answered so
-abbrev pub AsksSo : (HeldCall → Type 0) → Size → ℕ → ℕ → ℕ → HeldCall → Type 0
-AsksSo Answered size hart address opaque call =
-    (call.asked.id ≡ hart) × AsksSleep size (call_of call.asked) address opaque × Answered call
+-- This call, which found that memory, asked for that command and was answered so: for a reset for that reason, or for that suspension to
+-- disk, of the hart that asked and with the memory that it found. No call asks for another command.
+abbrev pub AsksSo : (LifeEnd → HeldCall → Type 0) → Size → Change → HeldCall → List ℕ → Type 0
+AsksSo Answered size (Reset cause) call found =
+    (type : ResetType) × AsksReset (call_of call.asked) type cause × Answered (ends.Reset type) call
+AsksSo Answered size (Suspend hart address opaque memory) call found =
+    (call.asked.id ≡ hart) × AsksSleep size (call_of call.asked) address opaque × Answered ends.Asleep call × (memory ≡ found)
+AsksSo Answered size c call found = ⊥
 
--- The moment of an image: its hart asked for that suspension, was answered so, and directly after it the store looked for that very call.
--- The memory is what the turns up to there had made.
-abbrev pub IsMoment : (HeldCall → Type 0) → Size → Log BusTurn → Bus → ℕ → ℕ → ℕ → List ℕ → Type 0
-IsMoment Answered size log begun hart address opaque memory =
+-- The moment of a command that ends a life: a hart's call asked for it and was answered so, and directly after it the store looked for that
+-- very call. What the call found is the memory that the turns up to there had made.
+abbrev pub IsMoment : (LifeEnd → HeldCall → Type 0) → Size → Log BusTurn → Bus → Change → Type 0
+IsMoment Answered size log begun c =
     ∥ ((later earlier : Log BusTurn) × (look turn : BusTurn) × (call : HeldCall) × (left : Bus)
-    × (log ≡ later ++ (store_part, look) ∷ (part_of_hart hart, turn) ∷ earlier)
-    × (look.call ≡ Some call) × (turn.call ≡ Some call) × AsksSo Answered size hart address opaque call
-    × Makes ((part_of_hart hart, turn) ∷ earlier) begun left × (memory ≡ left.ram)) ∥₁
+    × (log ≡ later ++ (store_part, look) ∷ (part_of_hart call.asked.id, turn) ∷ earlier)
+    × (look.call ≡ Some call) × (turn.call ≡ Some call) × AsksSo Answered size c call left.ram
+    × Makes ((part_of_hart call.asked.id, turn) ∷ earlier) begun left) ∥₁
 
 -- ---- one turn more of a part
 abbrev pub Takes : BusTurn → PartView BusTurn → PartView BusTurn → Type 0
@@ -156,27 +163,25 @@ abbrev pub HoldsWakes : Option (PartView BusTurn) → ℕ → Type 0
 HoldsWakes None n = ⊥
 HoldsWakes (Some d) n = AreWakes n d
 
--- in this turn it looked for a call of that hart, which asked for that suspension and was answered so, and found that memory
-abbrev pub LooksFor : (HeldCall → Type 0) → Size → ℕ → ℕ → ℕ → List ℕ → BusTurn → Type 0
-LooksFor Answered size hart address opaque memory t =
-    (call : HeldCall) × (t.call ≡ Some call) × AsksSo Answered size hart address opaque call × (memory ≡ t.found.ram)
+-- in this turn it looked for a call, which asked for that command and was answered so
+abbrev pub LooksFor : (LifeEnd → HeldCall → Type 0) → Size → Change → BusTurn → Type 0
+LooksFor Answered size c t = (call : HeldCall) × (t.call ≡ Some call) × AsksSo Answered size c call t.found.ram
 
 -- in one of these it did
-abbrev pub FoundSo : (HeldCall → Type 0) → Size → List (ℕ × BusTurn) → ℕ → ℕ → ℕ → List ℕ → Type 0
-FoundSo Answered size [] hart address opaque memory = ⊥
-FoundSo Answered size (t ∷ ts) hart address opaque memory =
-    LooksFor Answered size hart address opaque memory t.1 ⊎ FoundSo Answered size ts hart address opaque memory
+abbrev pub FoundSo : (LifeEnd → HeldCall → Type 0) → Size → List (ℕ × BusTurn) → Change → Type 0
+FoundSo Answered size [] c = ⊥
+FoundSo Answered size (t ∷ ts) c = LooksFor Answered size c t.1 ⊎ FoundSo Answered size ts c
 
-abbrev pub WasTold : (HeldCall → Type 0) → Size → List (ℕ × BusTurn) → ℕ → ℕ → ℕ → List ℕ → Type 0
-WasTold Answered size told hart address opaque memory = ∥ FoundSo Answered size told hart address opaque memory ∥₁
+abbrev pub WasTold : (LifeEnd → HeldCall → Type 0) → Size → List (ℕ × BusTurn) → Change → Type 0
+WasTold Answered size told c = ∥ FoundSo Answered size told c ∥₁
 
 -- such a life
 abbrev pub IsSavedIn : Size → List (ℕ × BusTurn) → Life → Type 0
-IsSavedIn size told life = IsCarriedBy (WasTold HasSlept size told) (WasTold HasFailed size told) life
+IsSavedIn size told life = IsEndedAs (WasTold HasEnded size told) (WasTold HasFailed size told) life
 
--- The store's: each time that it looked. What a suspension of its life carries is the memory that it found as it looked for the very call
--- that asked for it: of one that was acknowledged, the call with which the board fell asleep, and of one in doubt, a call that was
--- answered -1.
+-- The store's: each time that it looked. It looked for the very call of a hart that asked for a command which ends its life: for a reset or
+-- a suspension that was acknowledged, the call with which the life ended, and for one in doubt, a call that was answered -1. A suspension
+-- carries the memory that it then found.
 abbrev pub SavedBy : Size → Life → PartView BusTurn → Type 0
 SavedBy size life d = (d.who ≡ store_part) × Each (λ t. IsSaving t.1) d.told × IsSavedIn size d.told life
 

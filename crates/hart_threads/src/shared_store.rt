@@ -1,6 +1,7 @@
 //! A store that knows of which life its journal is.
 
-ghost use Rattle.std.specs.Prelude.{◌≡◌, ◌≤◌, ◌<◌, length, true, None, Err, IfOk, IfSome, IsTrue, is_some};
+ghost use Rattle.std.specs.Prelude.{◌≡◌, ◌≤◌, ◌<◌, length, true, false, None, Err, IfOk, IfSome, IsTrue, is_some};
+ghost use Rattle.board_model.specs.Durable.{ends_life};
 ghost use Rattle.board_model.specs.Views.{change_of, durable_of};
 ghost use Rattle.store.specs.Lives.{Applied};
 ghost use Rattle.std.specs.Option.{option_to_list};
@@ -39,10 +40,10 @@ use tallies::{Book, BookPart, Journal, Keeper};
 
 /// A store whose journal is J's: its open found what J says, its board has that size, its journal begins with
 /// what the boot issued, and its state now is what the journal makes of what was found. The table of commands
-/// (docs/DURABLE.md) refuses none of them, one after another. Each suspension of it carries the memory
-/// that the store found on the bus as it looked for the call that asked for it. At each moment since its boot was over, within a command and within a call of its disk too, a
-/// crash has left what some first commands of the journal make, all of those among them of which a receipt had been made by
-/// then, or these and the one in doubt.
+/// (docs/DURABLE.md) refuses none of them, one after another. Each reset and each suspension of it, also one in doubt, was asked for by a
+/// call of a hart, for which the store looked; a suspension carries the memory that it then found on the bus. At each moment since its
+/// boot was over, within a command and within a call of its disk too, a crash has left what some first commands of the journal make, all
+/// of those among them of which a receipt had been made by then, or these and the one in doubt.
 ///
 /// A type keeps that, and a lock keeps its value's type: so it holds of every store that a lock of this type
 /// gives, whatever other threads did.
@@ -136,13 +137,14 @@ impl<D: Disk + Drop, J: Journal> SharedStore<D, J> {
     }
 
     /// Issues a command, as `Store::apply`, for the holder of that part, which is told its receipt, or hears of its
-    /// refusal.
+    /// refusal. It is one after which the life goes on: what ends a life only a hart asks for (`call`).
     pub fn apply(
         &mut self,
         part: BookPart<J, Entry>,
         heard: &mut Heard<J>,
         command: Command,
     ) -> (BookPart<J, Entry>, Result<CommandReceipt<J>, Refusal>)
+        requires { ends_life (change_of command) ≡ false }
         ensures asked { Asked Applied (store_in self.old) (change_of command) (number_told result.1)
             (store_in self.new) }
         ensures may { MayAnswer J.found (change_of command) (number_told result.1) }

@@ -73,7 +73,7 @@ impl<D: Disk + Drop, J: Journal> Unshared<D, J> {
         requires issued { journal_of store ≡ J.issued }
         requires taken { are_taken J.found J.issued ≡ true }
         requires few { length J.issued ≤ 4096 }
-        requires unsaved { (told : List (ℕ × TurnView)) → IsSavedIn J.size told (life_of store) }
+        requires unended { (told : List (ℕ × TurnView)) → IsSavedIn J.size told (life_of store) }
         requires bus { bus_parts bus.old ≡ fresh_from 0 (J.size.harts + 2) }
         requires book { id_of book ≡ J.book }
         requires parts { parts_of book ≡ J.parts }
@@ -189,8 +189,8 @@ impl<D: Disk + Drop, J: Journal> Unshared<D, J> {
     /// command at the place of its receipt; and where all parts are back, their receipts are those of the journal's
     /// commands, one for each. What its console heard is back too: where a command is in doubt, it was the console's, which
     /// was told 6 for it, or a durable call of a hart asks for it. The moments at which its receipts were made come with it, and what the
-    /// store and the console did with the bus: each suspension of the life carries the memory that the store found there as it looked for
-    /// the call that asked for it.
+    /// store and the console did with the bus: for each reset and each suspension of the life, also one in doubt, the store looked for the
+    /// call of a hart that asked for it, and a suspension carries the memory that the store then found there.
     pub fn close(self, heard: Heard<J>) -> (Store<D>, Moments, (BusPart<J>, BusPart<J>))
         ensures named { IsNamed J.found J.size result.0 }
         ensures issued { BeginsWith J.issued (journal_of result.0) }

@@ -16,7 +16,7 @@ ghost use Rattle.tests.specs.Begun.{IsBegun};
 use crate::dozing::UntilWoken;
 use crate::fixtures::{NEVER, formatted};
 use board::{Board, BoardParts, Payloads};
-use board_model::{BootMode, Command, Entry, Refusal, Shape, Slot};
+use board_model::{BootMode, ConsoleCommand, Entry, Refusal, Shape, Slot};
 use board_session::console;
 use disk::ArmedFault;
 use hart_threads::{
@@ -91,7 +91,7 @@ pub struct BoardTrial<'a> {
     /// How many turns a hart makes at most.
     pub turns: u64,
     /// What is issued before the harts run, whatever it is answered under that fault of the disk.
-    pub commands: &'a [Command],
+    pub commands: &'a [ConsoleCommand],
     pub fault: ArmedFault,
     /// What the console reads; it waits for this gate first, and tells it when it has left.
     pub input: &'a [u8],
@@ -143,11 +143,11 @@ fn issue<J: Journal>(
     store: &mut SharedStore<SimDisk, J>,
     part: BookPart<J, Entry>,
     heard: &mut Heard<J>,
-    commands: &[Command],
+    commands: &[ConsoleCommand],
 ) {
     let mut part = part;
     for command in commands {
-        let (told, _answered) = store.apply(part, heard, *command);
+        let (told, _answered) = store.apply(part, heard, command.command());
         part = told;
     }
 }
@@ -232,7 +232,7 @@ fn shared<J: Threaded>(
     begun: (Store<SimDisk>, (NewBook<Entry>, NewBook<Entry>)),
     bus: &mut SharedBus<J>,
     harts: usize,
-    commands: &[Command],
+    commands: &[ConsoleCommand],
 ) -> (
     SharedStore<SimDisk, J>,
     BookPart<J, Entry>,

@@ -3,7 +3,7 @@
 use crate::boards::{BoardTrial, ENDLESS, driven};
 use crate::fixtures::{NEVER, has_come, same};
 use crate::many::CountingGate;
-use board_model::{Command, HartId, RAM_BASE, Reason};
+use board_model::{ConsoleCommand, HartId, RAM_BASE};
 use disk::ArmedFault;
 use hart_threads::{Gate, Why};
 use std::sync::atomic::{AtomicBool, AtomicU64, Ordering};
@@ -97,17 +97,16 @@ const DOZER: [u8; 28] = [
 const ASKS: u64 = RAM_BASE + 24;
 
 /// As many commands as a life acknowledges.
-const FULL: [Command; 4096] = [Command::Slot(1); 4096];
+const FULL: [ConsoleCommand; 4096] = [ConsoleCommand::Slot(1); 4096];
 
-/// What is issued before the board dozes, under a fault of its disk: a store takes commands, is over, full or down.
-static STORES: [(&[Command], ArmedFault); 4] = [
+/// What is issued before the board dozes, under a fault of its disk: a store takes commands, is full or down.
+static STORES: [(&[ConsoleCommand], ArmedFault); 3] = [
     (&[], NEVER),
-    (&[Command::Reset(Reason::NoReason)], NEVER),
     (&FULL, NEVER),
-    (&[Command::Slot(1)], ArmedFault::FailAt(3)),
+    (&[ConsoleCommand::Slot(1)], ArmedFault::FailAt(3)),
 ];
 
-/// A store that is over, full or down, and so refuses every command: the board dozes, and no receipt is told.
+/// A store that is full or down, and so refuses every command: the board dozes, and no receipt is told.
 #[test]
 fn a_board_dozes_whatever_its_store_would_refuse(rt: HostRuntime) {
     for &(commands, fault) in &STORES {

@@ -5,7 +5,7 @@ use Rattle.board.specs.Moments.{MayLeave, commands_by}
 use Rattle.store.specs.Views.{view_of, life_of, disk_of, size_of_store, found_state}
 use Rattle.board.specs.Views.{store_of, machine_of}
 use Rattle.board.specs.PowersOn.{IsUnpowered}
-use Rattle.board_session.proofs.Powering.{begins, life_carried, life_few, life_issued, life_taken, life_up, booted, format_refuses, kept_off, refuses_disk, runs_over}
+use Rattle.board_session.proofs.Powering.{begins, life_ends, life_few, life_issued, life_taken, life_up, booted, format_refuses, kept_off, refuses_disk, runs_over}
 use Rattle.board_session.proofs.power.powered.Goals as goal
 
 pub returns-in-Err-clause-refused : goal.returns-in-Err-clause-refused
@@ -65,9 +65,9 @@ pub returns-in-Ok-power_on-clause-issued : goal.returns-in-Ok-power_on-clause-is
 returns-in-Ok-power_on-clause-issued g c =
     life_issued c.args.options.now.mode (life_of (store_of c.in-Ok-power_on.board)) c.in-Ok-power_on.ensures.on.life
 
-pub returns-in-Ok-power_on-clause-unsaved : goal.returns-in-Ok-power_on-clause-unsaved
-returns-in-Ok-power_on-clause-unsaved g c =
-    life_carried (λ hart address opaque memory. ⊥) (λ hart address opaque memory. ⊥) c.args.options.now.mode (life_of (store_of c.in-Ok-power_on.board)) c.in-Ok-power_on.ensures.on.life
+pub returns-in-Ok-power_on-clause-unended : goal.returns-in-Ok-power_on-clause-unended
+returns-in-Ok-power_on-clause-unended g c =
+    life_ends (λ c. ⊥) (λ c. ⊥) c.args.options.now.mode (life_of (store_of c.in-Ok-power_on.board)) c.in-Ok-power_on.ensures.on.life
 
 pub returns-in-Ok-power_on-clause-up : goal.returns-in-Ok-power_on-clause-up
 returns-in-Ok-power_on-clause-up g c =

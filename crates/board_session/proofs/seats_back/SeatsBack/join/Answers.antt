@@ -1,4 +1,4 @@
-use Rattle.std.proofs.Common.{◌≡◌, ◌<◌, ℕ, List, sym, subst}
+use Rattle.std.proofs.Common.{◌<◌, ℕ, List, sym, subst}
 use Rattle.atomic_table.specs.Seated.{TableId}
 use Rattle.hsm.specs.Rule.{HasSteps}
 use Rattle.hsm.specs.Seating.{started_in}

@@ -7,7 +7,7 @@ use Rattle.susp.specs.declared.buses.Bus.{Bus}
 use Rattle.tallies.specs.Books.{keeper_view}
 use Rattle.hart_threads.specs.Bused.{Takes, begun_bus, call_turn, held_call}
 use Rattle.hart_threads.proofs.Bussing.{call_more, held_called, more, saved_held}
-use Rattle.hart_threads.proofs.Carrying.{held_stays}
+use Rattle.hart_threads.proofs.LifeEnding.{held_stays}
 use Rattle.hart_threads.proofs.buses.SharedBus.call.Goals as goal
 
 pub invariant_of-self : goal.invariant_of-self

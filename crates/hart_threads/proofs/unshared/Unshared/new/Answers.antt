@@ -93,7 +93,7 @@ invariant_of-whole g c = record {
   there = refl;
   saved =
       let own = c.hand_out-own.ensures.part ∙ ap (λ (ds : List (PartView BusTurn)). first_of ds) (c.requires.bus ∙ two_more g.J.Journal.size.harts) in
-      subst (λ (d : PartView BusTurn). AreSaved g.J.Journal.size (life_of c.args.store) d) (sym own) ∣ (refl, tt, c.requires.unsaved []) ∣₁;
+      subst (λ (d : PartView BusTurn). AreSaved g.J.Journal.size (life_of c.args.store) d) (sym own) ∣ (refl, tt, c.requires.unended []) ∣₁;
   counted = c.note_journal-part.ensures.count;
   few = omega (arith, c.note_journal-part.ensures.count, ap (λ (l : List Change). length l) c.requires.issued, c.requires.few);
   tied = c.note_journal-part.ensures.tied;
