@@ -8,7 +8,7 @@ ghost use Rattle.std.specs.Io.KnownBytes.{Appends};
 ghost use Rattle.bench_sweep.specs.Swept.{IsBenchOf};
 ghost use Rattle.bench_sweep.specs.declared.judges.Sweep.{Sweep as Counts};
 ghost use Rattle.bench_program.specs.Digests.{part_tag, with_tag};
-ghost use Rattle.bench_program.specs.Written.{HasOneOrder, HasOrders, IsAnyRefusal, IsBenchRefusal, IsCompared, IsMade, IsPut, IsRefusedWith, IsReported, is_kept, put_text, shown_by, tested_text};
+ghost use Rattle.bench_program.specs.Written.{HasOneOrder, HasOrders, IsBenchRefusal, IsCompared, IsMade, IsPut, IsRefusedWith, is_kept, put_text, shown_by, tested_text};
 
 use crate::digests::{is_part, part_tag, with_tag};
 use crate::orders::{has_orders, is_shown};
@@ -110,31 +110,6 @@ fn judge<R: Threads + Sync, P: Progress, W: Write>(
     }
 }
 
-/// Writes the report of the script, whose lanes are written so.
-fn report<R: Threads + Sync, W: Write>(
-    alloc: Global,
-    threads: &R,
-    savers: Savers,
-    payloads: Payloads,
-    script: &[u8],
-    out: &mut W,
-) -> Result<u64, Refusal>
-    ensures made { IfOk result (λ differ. (differ ≡ 0)
-        × IsReported payloads script.now (W.contents out.old) (W.contents out.new)) }
-    ensures refused { IfErr result (IsAnyRefusal script.now) }
-{
-    match savers {
-        Savers::Threads => {
-            let savers = crew::Threads::new(threads);
-            reported(run_left_with(alloc, script, &savers, payloads, out))
-        }
-        Savers::Turns => {
-            let crew = lane_by_lane::<R>();
-            reported(run_left_with(alloc, script, &crew, payloads, out))
-        }
-    }
-}
-
 /// Makes what the work makes of the script, with these payloads in the slots. Of a long run it is told how far that is.
 pub fn make<R: Threads + Sync, P: Progress + Drop, W: Write>(
     alloc: Global,
@@ -152,7 +127,14 @@ pub fn make<R: Threads + Sync, P: Progress + Drop, W: Write>(
 {
     let jobs = Jobs::telling(threads, jobs_of(threads, options.jobs), progress);
     match options.work {
-        Work::Report(savers) => report(alloc, threads, savers, payloads, script, out),
+        Work::Report(Savers::Threads) => {
+            let savers = crew::Threads::new(threads);
+            reported(run_left_with(alloc, script, &savers, payloads, out))
+        }
+        Work::Report(Savers::Turns) => {
+            let crew = lane_by_lane::<R>();
+            reported(run_left_with(alloc, script, &crew, payloads, out))
+        }
         Work::Judge(plan) => judge(&jobs, alloc, plan, script, payloads, out),
         Work::ShowRow(row) => all_well(show_row::<R, W>(alloc, row, script, payloads, out)),
         Work::Compare(plan) => compare(&jobs, alloc, plan, script, &payloads, out),

@@ -1,14 +1,28 @@
 use Rattle.bench_program.specs.declared.usage.Work.TheVariants as works
+use Rattle.bench_report.specs.declared.runs.StoppedRun.{StoppedRun}
 use Rattle.board_model.specs.declared.refusal.Refusal.{Refusal}
-use Rattle.bench_program.proofs.ByWork.{made_as, refused_as, refused_by, well_made}
+use Rattle.bench_program.proofs.ByWork.{made_as, made_by, refused_as, refused_by, well_made}
 use Rattle.bench_program.proofs.works.make.Goals as goal
 
-pub returns-in-Report-clause-made : goal.returns-in-Report-clause-made
-returns-in-Report-clause-made g c =
-    made_as c.args.options.now.work (works.Report c.in-Report.savers) c.args.payloads c.args.script.now c.report.result (g.W.Write.contents c.args.out.now) (g.W.Write.contents c.report.new.out) c.in-Report.is c.report.ensures.made
+pub returns-in-Report-Threads-clause-made : goal.returns-in-Report-Threads-clause-made
+returns-in-Report-Threads-clause-made g c =
+    made_as c.args.options.now.work (works.Report c.in-Report-Threads.field-0) c.args.payloads c.args.script.now c.reported.result (g.W.Write.contents c.args.out.now) (g.W.Write.contents c.run_left_with.new.out) c.in-Report-Threads.is
+    (made_by c.run_left_with.result c.reported.result (λ (s : StoppedRun). s.refusal) _ _ c.reported.ensures (λ left was. (was.0, was.1, was.2, was.3, was.4, was.5.text, was.7.prefix)) c.run_left_with.ensures.report)
 
-pub returns-in-Report-clause-refused : goal.returns-in-Report-clause-refused
-returns-in-Report-clause-refused g c = refused_as c.args.options.now.work (works.Report c.in-Report.savers) c.args.payloads c.args.script.now c.report.result c.in-Report.is c.report.ensures.refused
+pub returns-in-Report-Threads-clause-refused : goal.returns-in-Report-Threads-clause-refused
+returns-in-Report-Threads-clause-refused g c =
+    refused_as c.args.options.now.work (works.Report c.in-Report-Threads.field-0) c.args.payloads c.args.script.now c.reported.result c.in-Report-Threads.is
+    (refused_by c.run_left_with.result c.reported.result (λ (s : StoppedRun). s.refusal) _ _ c.reported.ensures (λ s h. h) c.run_left_with.ensures.refused)
+
+pub returns-in-Report-Turns-clause-made : goal.returns-in-Report-Turns-clause-made
+returns-in-Report-Turns-clause-made g c =
+    made_as c.args.options.now.work (works.Report c.in-Report-Turns.field-0) c.args.payloads c.args.script.now c.reported-in-Report-Turns.result (g.W.Write.contents c.args.out.now) (g.W.Write.contents c.run_left_with-in-Report-Turns.new.out) c.in-Report-Turns.is
+    (made_by c.run_left_with-in-Report-Turns.result c.reported-in-Report-Turns.result (λ (s : StoppedRun). s.refusal) _ _ c.reported-in-Report-Turns.ensures (λ left was. (was.0, was.1, was.2, was.3, was.4, was.5.text, was.7.prefix)) c.run_left_with-in-Report-Turns.ensures.report)
+
+pub returns-in-Report-Turns-clause-refused : goal.returns-in-Report-Turns-clause-refused
+returns-in-Report-Turns-clause-refused g c =
+    refused_as c.args.options.now.work (works.Report c.in-Report-Turns.field-0) c.args.payloads c.args.script.now c.reported-in-Report-Turns.result c.in-Report-Turns.is
+    (refused_by c.run_left_with-in-Report-Turns.result c.reported-in-Report-Turns.result (λ (s : StoppedRun). s.refusal) _ _ c.reported-in-Report-Turns.ensures (λ s h. h) c.run_left_with-in-Report-Turns.ensures.refused)
 
 pub returns-in-Judge-clause-made : goal.returns-in-Judge-clause-made
 returns-in-Judge-clause-made g c =
@@ -38,9 +52,9 @@ returns-in-Show-clause-made g c =
 pub returns-in-Show-clause-refused : goal.returns-in-Show-clause-refused
 returns-in-Show-clause-refused g c = refused_as c.args.options.now.work (works.Show c.in-Show.drawn) c.args.payloads c.args.script.now c.all_well-in-Show.result c.in-Show.is (refused_by c.show.result c.all_well-in-Show.result (λ (e : Refusal). e) _ _ c.all_well-in-Show.ensures (λ e h. h) c.show.ensures.refused)
 
-pub returns-in-Shrink-clause-made : goal.returns-in-Shrink-clause-made
-returns-in-Shrink-clause-made g c =
+pub returns-clause-made : goal.returns-clause-made
+returns-clause-made g c =
     made_as c.args.options.now.work (works.Shrink c.in-Shrink.drawn) c.args.payloads c.args.script.now c.all_well-in-Shrink.result (g.W.Write.contents c.args.out.now) (g.W.Write.contents c.shrink.new.out) c.in-Shrink.is (well_made c.shrink.result c.all_well-in-Shrink.result _ c.all_well-in-Shrink.ensures c.shrink.ensures.shrunk)
 
-pub returns-in-Shrink-clause-refused : goal.returns-in-Shrink-clause-refused
-returns-in-Shrink-clause-refused g c = refused_as c.args.options.now.work (works.Shrink c.in-Shrink.drawn) c.args.payloads c.args.script.now c.all_well-in-Shrink.result c.in-Shrink.is (refused_by c.shrink.result c.all_well-in-Shrink.result (λ (e : Refusal). e) _ _ c.all_well-in-Shrink.ensures (λ e h. h) c.shrink.ensures.refused)
+pub returns-clause-refused : goal.returns-clause-refused
+returns-clause-refused g c = refused_as c.args.options.now.work (works.Shrink c.in-Shrink.drawn) c.args.payloads c.args.script.now c.all_well-in-Shrink.result c.in-Shrink.is (refused_by c.shrink.result c.all_well-in-Shrink.result (λ (e : Refusal). e) _ _ c.all_well-in-Shrink.ensures (λ e h. h) c.shrink.ensures.refused)
