@@ -49,3 +49,4 @@ pub mod Idles
 pub mod IdleRows
 pub mod InPlace
 pub mod Lives
+pub mod Still

@@ -20,6 +20,7 @@ mod rows;
 mod runs;
 mod setting;
 mod steps;
+mod uncut;
 
 pub use copies::{arm_power, copy_power, disk_of};
 pub use laws::{
@@ -27,12 +28,9 @@ pub use laws::{
 };
 pub use live::LiveBench;
 pub use off_lines::power_on;
-pub use on_lines::{after, console};
 pub use power::{OffDisk, Power};
 pub use row_laws::{idle_turns_change_nothing, rows_join};
 pub use rows::{TurnRow, is_idle};
 pub use runs::{StoppedRun, run, run_left, run_left_with, run_with};
 pub use setting::{Setting, lane_by_lane};
-pub use steps::{
-    arm_disk, cut, disk_left, line_alone, refused_suspension, says_refused_memory, struck,
-};
+pub use steps::{arm_disk, cut, disk_left, refused_suspension, says_refused_memory, struck};

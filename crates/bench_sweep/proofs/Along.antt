@@ -22,7 +22,7 @@ use Rattle.bench_sweep.specs.Made.{RunsWith}
 use Rattle.bench_sweep.specs.Reports.{RunsAlong}
 use Rattle.bench_sweep.specs.Resumes.{line_resumes, lines_resume, Resumes}
 use Rattle.bench_sweep.specs.Runs.{RanTo, RunsCalm}
-use Rattle.bench_sweep.specs.Took.{RunTook, disk_at}
+use Rattle.bench_sweep.specs.Took.{RunTook, own_disk}
 use Rattle.bench_sweep.proofs.Made.{take_plus}
 use Rattle.bench_sweep.proofs.Took.{disk_is, has_disk, took_both}
 
@@ -48,7 +48,7 @@ lines_on k n to lines few =
 
 -- the lines were run on
 pub came_on : (size : Size) (b : Bench) (lines : List Line) (first : Site) (old new : Moment) (to n : ℕ) (told : CameTold size b lines first old)
-    → (r : RanTo size told.came.at (take n (take (to - old.count) (drop old.count lines))) new.going.power new.going.payloads old.going.ledger new.going.ledger) → RunTook size (take n (take (to - old.count) (drop old.count lines))) (disk_at old.going.power) (disk_at new.going.power) → r.bench.fault_state.struck ≡ false
+    → (r : RanTo size told.came.at (take n (take (to - old.count) (drop old.count lines))) old.going new.going) → RunTook size (take n (take (to - old.count) (drop old.count lines))) (own_disk old.going) (own_disk new.going) → r.bench.fault_state.struck ≡ false
     → n ≤ length (take (to - old.count) (drop old.count lines)) → new.count ≡ old.count + n → CameTold size b lines first new
 came_on size b lines first old new to n told r took calm few count =
     let c = told.came in
@@ -60,7 +60,7 @@ came_on size b lines first old new to n told r took calm few count =
     let A : Bench → Type 0 = λ x. Run size c.at slice r.answers x in
     let L : List Line → Type 0 = λ ls. Run size b ls (c.answers ++ r.answers) r.bench in
     let S : List Line → Type 0 = λ ls. Resumes first.ledger new.going.ledger (lines_resume ls (c.answers ++ r.answers)) in
-    let T : List Line → Type 0 = λ ls. RunTook size ls first.off.disk (disk_at new.going.power) in
+    let T : List Line → Type 0 = λ ls. RunTook size ls first.off.disk (own_disk new.going) in
     let serials : S (front ++ slice) =
     r.resumed ∙ ap (λ (xs : List Answer). old.going.ledger.resumed.items ++ lines_resume slice xs) (r.told calm) ∙ ap (λ (xs : List ℕ). xs ++ lines_resume slice r.answers) told.resumed
     ∙ append_assoc first.ledger.resumed.items (lines_resume front c.answers) (lines_resume slice r.answers)
@@ -73,27 +73,27 @@ came_on size b lines first old new to n told r took calm few count =
         runs = record { agrees = r.runs.agrees; same = r.runs.same; follows = r.runs.follows; calm = calm };
       };
       resumed = subst S all serials;
-      took = subst T all (took_both size front slice first.off.disk (disk_at old.going.power) (disk_at new.going.power) told.took took);
+      took = subst T all (took_both size front slice first.off.disk (own_disk old.going) (own_disk new.going) told.took took);
     }
 
 -- the moment's board is another that stands as it
 pub came_again : (size : Size) (b : Bench) (lines : List Line) (first : Site) (old new : Moment) (told : CameTold size b lines first old) → new.count ≡ old.count → new.going.ledger ≡ old.going.ledger
-    → RunsCalm size told.came.at new.going.power new.going.payloads new.going.ledger → ((d : SimDisk) → HasDisk old.going.power d → HasDisk new.going.power d) → CameTold size b lines first new
+    → RunsCalm size told.came.at new.going → ((d : SimDisk) → HasDisk old.going.bench.power d → HasDisk new.going.bench.power d) → CameTold size b lines first new
 came_again size b lines first old new told count ledger runs same =
     let c = told.came in
     let N : ℕ → Type 0 = λ k. Run size b (take k lines) c.answers c.at in
     let S : ℕ → Type 0 = λ k. Resumes first.ledger old.going.ledger (lines_resume (take k lines) c.answers) in
     let L : RunLedger → Type 0 = λ l. Resumes first.ledger l (lines_resume (take new.count lines) c.answers) in
-    let K : ℕ → Type 0 = λ k. RunTook size (take k lines) first.off.disk (disk_at old.going.power) in
+    let K : ℕ → Type 0 = λ k. RunTook size (take k lines) first.off.disk (own_disk old.going) in
     let D : SimDisk → Type 0 = λ d. RunTook size (take new.count lines) first.off.disk d in record {
       came = record { few = omega (arith, count, c.few); answers = c.answers; at = c.at; run = subst N (sym count) c.run; runs = runs };
       resumed = subst L (sym ledger) (subst S (sym count) told.resumed);
-      took = subst D (disk_is new.going.power (disk_at old.going.power) (same (disk_at old.going.power) (has_disk old.going.power))) (subst K (sym count) told.took);
+      took = subst D (disk_is new.going.bench.power (own_disk old.going) (same (own_disk old.going) (has_disk old.going.bench.power))) (subst K (sym count) told.took);
     }
 
 -- ---- a row from there
 pub along : (size : Size) (kind : BenchKind) (site : Site) (before : ℕ) (b : Bench) (lines ls : List Line) (moment : Moment) (told : CameTold size b lines site moment) (d : SimDisk) (caller : Caller) (made : ℕ)
-    → HasDisk moment.going.power d → MadeCalls site.off.disk d caller made → ls ≡ drop moment.count lines → (row : Row) → row.caller ≡ caller → RunsWith size kind (before + made) told.came.at ls row → RunsAlong size kind caller site before b lines row
+    → HasDisk moment.going.bench.power d → MadeCalls site.off.disk d caller made → ls ≡ drop moment.count lines → (row : Row) → row.caller ≡ caller → RunsWith size kind (before + made) told.came.at ls row → RunsAlong size kind caller site before b lines row
 along size kind site before b lines ls moment told d caller made has counts is row who runs =
     let c = told.came in
     let D : SimDisk → Type 0 = λ x. RunTook size (take moment.count lines) site.off.disk x in
@@ -104,8 +104,8 @@ along size kind site before b lines ls moment told d caller made has counts is r
       at = c.at;
       along = c.run;
       disk = d;
-      stands = (moment.going.power, c.runs.agrees, has);
-      took = subst D (sym (disk_is moment.going.power d has)) told.took;
+      stands = (moment.going.bench.power, c.runs.agrees, has);
+      took = subst D (sym (disk_is moment.going.bench.power d has)) told.took;
       made = made;
       counts = counts;
       runs = subst R is runs;

@@ -6,7 +6,6 @@ use Rattle.board_model.specs.Shapes.{Size}
 use Rattle.script_lang.specs.declared.line.Line.{Line}
 use Rattle.script_lang.specs.declared.line.Line.TheVariants as lines
 use Rattle.bench_report.specs.declared.power.OffDisk.{OffDisk}
-use Rattle.bench_report.specs.declared.power.Power.TheVariants.{Off}
 use Rattle.report_lines.specs.declared.printed.Answer.{Answer}
 use Rattle.report_lines.specs.declared.printed.Printed.{Printed}
 use Rattle.report_lines.specs.declared.printed.Printed.TheVariants as printed
@@ -21,7 +20,7 @@ use Rattle.bench_report.specs.declared.live.LiveBench.{LiveBench}
 use Rattle.bench_sweep.specs.declared.ledgers.RunLedger.{RunLedger}
 use Rattle.bench_sweep.specs.Ledgers.{Tells}
 use Rattle.bench_sweep.specs.Made.{IsFormatted}
-use Rattle.bench_sweep.specs.Runs.{TellsWhole, Runs, Begins, Begun, Formats}
+use Rattle.bench_sweep.specs.Runs.{TellsWhole, RunsAt, Begins, Begun, Formats}
 
 -- ---- the line that formats the disk
 abbrev Fresh : Bench → Bench → Type 0
@@ -91,7 +90,7 @@ begins_more size start lines i line d live b new answers a less is run moves sho
 
 -- ---- the site after it
 pub site_runs : (size : Size) (start : List (List ℕ)) (lines : List Line) (live : LiveBench) (disk : OffDisk) (ledger : RunLedger) → Begun size start lines live → ((z : Size) (b : Bench) → Agrees z b live.power → OffIs z (off b) disk.disk) → Tells ledger nothing_kept
-    → (b : Bench) × IsFormatted size start lines b × Runs size (off b) (Off disk) live.payloads ledger
+    → (b : Bench) × IsFormatted size start lines b × RunsAt size (off b) (record { off = disk; payloads = live.payloads; ledger = ledger })
 site_runs size start lines live disk ledger g ends tells =
     let P : Kept → Type 0 = λ k. TellsWhole size ledger k in
     let doubt : (c : Change) → None ≡ Some c → CarriesWhole size c = λ c e. absurd (let no : ⊥ = cc in no) in

@@ -1,6 +1,6 @@
 -- What a run leaves, and what a power-on that keeps its image finds of it.
 use Rattle.std.proofs.Common.{◌≡◌, ◌≤◌, ◌⊎◌, ℕ, inl, inr, true, false, List, [], ◌∷◌, Option, None, Some, Result, Ok, Err, OnOk, refl, sym, ◌∙◌, ap, subst, arith, length}
-use Rattle.std.specs.Prelude.{IfSome, IfOk, MatchResult, is_some, if◌then◌else◌, length}
+use Rattle.std.specs.Prelude.{IfSome, is_some, if◌then◌else◌, length}
 use Rattle.board_model.proofs.Attempts.{attempt_image}
 use Rattle.board_model.specs.Durable.{DurableState, Image, Change, Attempt, IsWhole, after, refusal_of}
 use Rattle.board_model.specs.Kept.{Kept, MayKeep, found_of}
@@ -13,7 +13,6 @@ use Rattle.board_model.specs.declared.durable.Durable.{Durable}
 use Rattle.board_model.specs.declared.durable.ImageHead.{ImageHead}
 use Rattle.board_model.specs.declared.durable.Trial.{Trial}
 use Rattle.board_model.specs.declared.plain.Plain.{Plain}
-use Rattle.std.specs.declared.alloc.AllocError.{AllocError}
 use Rattle.disk.specs.Facts.{IsLeft}
 use Rattle.disk.specs.FaultState.{Armed, Unarmed, FaultArmed, CutArmed, FaultState, Cause, fault_state_left}
 use Rattle.disk.specs.declared.device.ArmedFault.{ArmedFault}
@@ -32,9 +31,12 @@ use Rattle.bench_report.specs.Views.{SimBoard, store_in, facts, fault_state, sto
 use Rattle.bench_report.specs.Bench.{DiskState, Formatted, BenchLife, Bench, no_payloads}
 use Rattle.bench_report.specs.Happens.{FailsByFault, acknowledged, armed_with, in_doubt, off, on_with, says, settled, unpowered, has_machine}
 use Rattle.bench_report.specs.Commands.{Writes, Issued, IssuesAll}
-use Rattle.bench_report.specs.Steps.{OnStep, Step}
+use Rattle.bench_report.specs.Uncut.{TellsIts}
+use Rattle.bench_report.specs.Lives.{Shows}
+use Rattle.bench_report.specs.Steps.{Step}
+use Rattle.bench_report.specs.declared.live.LiveBench.{LiveBench}
 use Rattle.bench_report.specs.PowerOns.{life_begun, IsBooted, Boots, Opens, ShowsFound, IsOpenRefusal, PowersOn}
-use Rattle.bench_report.specs.Agree.{BoardIs, OffIs, OnIs, Agrees, IsBench, IsUnstruck, Matches}
+use Rattle.bench_report.specs.Agree.{BoardIs, OffIs, OnIs, Agrees, IsUnstruck, Matches}
 use Rattle.bench_report.proofs.Determined.{found_as}
 use Rattle.bench_report.proofs.Ended.{left_on, cut_leaves}
 use Rattle.bench_report.proofs.KeptDisks.{GoesOn as KeepsOn, less}
@@ -48,9 +50,11 @@ use Rattle.bench_report.specs.Prefix.{AskedLine, Boot, asked_by}
 use Rattle.bench_sweep.specs.Lines.{LineMoves}
 use Rattle.bench_sweep.specs.Resumes.{asked_resumes, line_resumes, Resumes}
 use Rattle.bench_sweep.specs.Made.{shows}
-use Rattle.bench_sweep.specs.Runs.{TellsWhole, Runs, RunsCalm, LeftOff, IsSpoilt, FindsState, Finds, PowerFinds}
+use Rattle.bench_sweep.specs.declared.site.Going.{Going}
+use Rattle.bench_sweep.specs.declared.site.Site.{Site}
+use Rattle.bench_sweep.specs.Runs.{TellsWhole, Follows, Runs, RunsAt, RunsCalm, LeftAt, LeftOff, IsSpoilt, FindsState, Finds, PowerFinds}
 use Rattle.bench_sweep.specs.Swept.{IsPlainLine}
-use Rattle.bench_sweep.specs.Told.{ShowsEnoughMemory, is_boot, moves_harts, powers_on, LineTold, TellsAsked, TellsIts}
+use Rattle.bench_sweep.specs.Told.{ShowsEnoughMemory, is_boot, moves_harts, powers_on, LineTold}
 use Rattle.bench_sweep.proofs.Followed.{whole_found}
 use Rattle.bench_sweep.proofs.Fed.{line_grows}
 use Rattle.bench_sweep.proofs.Told.{line_tells}
@@ -63,51 +67,46 @@ left_off goes_on size b old new off left m = (
   (ap fault_state_left off.2.0 ∙ sym m, omega (arith, off.2.1, left.failures), omega (arith, off.2.2), sides_stay size b (facts old) (facts new) (cut_leaves old new left) off.2.3),
 )
 
--- of the disk of a run, with a ledger that tells the same
-pub left_by : (size : Size) (b : Bench) (old new : OffDisk) (slots now : List (List ℕ)) (was ledger : RunLedger) → Runs size b (Off old) slots was → OffIs size (unpowered b) new.disk → now ≡ slots → ((kept : Kept) → Tells was kept → Tells ledger kept)
-    → LeftOff size (unpowered b) new now ledger
-left_by size b old new slots now was ledger r cut same tells = record {
-  off = cut;
-  same = same ∙ r.same;
-  follows = record {
-    formatted = r.follows.formatted;
-    kept = record { tells = tells b.kept r.follows.kept.tells; whole = r.follows.kept.whole; doubt = r.follows.kept.doubt };
-    enough = r.follows.enough;
-  };
-  left = refl;
+-- a ledger that tells the same
+tells_on : (size : Size) (b : Bench) (was ledger : RunLedger) → Follows size b was → ((kept : Kept) → Tells was kept → Tells ledger kept) → Follows size b ledger
+tells_on size b was ledger f tells = record {
+  formatted = f.formatted;
+  kept = record { tells = tells b.kept f.kept.tells; whole = f.kept.whole; doubt = f.kept.doubt };
+  enough = f.enough;
 }
 
--- nothing has struck it
-pub calm_off : (size : Size) (b : Bench) (disk : OffDisk) (slots : List (List ℕ)) (ledger : RunLedger) → LeftOff size b disk slots ledger → RunsCalm size b (Off disk) slots ledger
-calm_off size b disk slots ledger l = record { agrees = l.off; same = l.same; follows = l.follows; calm = ap (λ (m : FaultState). m.struck) l.left }
+-- what a cut leaves of a site's disk, with a ledger that tells the same
+pub left_by : (size : Size) (b : Bench) (site : Site) (disk : OffDisk) (slots : List (List ℕ)) (ledger : RunLedger) → RunsAt size b site → OffIs size (unpowered b) disk.disk → slots ≡ site.payloads → ((kept : Kept) → Tells site.ledger kept → Tells ledger kept)
+    → LeftOff size (unpowered b) disk slots ledger
+left_by size b site disk slots ledger r cut same tells =
+    let f = tells_on size b site.ledger ledger r.follows tells in
+    record { off = cut; same = same ∙ r.same; follows = record { formatted = f.formatted; kept = f.kept; enough = f.enough }; left = refl }
 
-pub off_sits : (size : Size) (b : Bench) (disk : OffDisk) (slots : List (List ℕ)) (ledger : RunLedger) → LeftOff size b disk slots ledger → Runs size b (Off disk) slots ledger
-off_sits size b disk slots ledger l = record { agrees = l.off; same = l.same; follows = l.follows }
+-- nothing has struck it
+pub calm_off : (size : Size) (b : Bench) (site : Site) (going : Going) → going.bench.power ≡ Off site.off → going.bench.payloads ≡ site.payloads → going.ledger ≡ site.ledger → LeftAt size b site → RunsCalm size b going
+calm_off size b site going power slots ledger l =
+    let P : Power → Type 0 = λ p. Agrees size b p in
+    let L : RunLedger → Type 0 = λ x. Follows size b x in
+    record { agrees = subst P (sym power) l.off; same = slots ∙ l.same; follows = subst L (sym ledger) l.follows; calm = ap (λ (m : FaultState). m.struck) l.left }
+
+pub off_sits : (size : Size) (b : Bench) (site : Site) → LeftAt size b site → RunsAt size b site
+off_sits size b site l = record { agrees = l.off; same = l.same; follows = l.follows }
 
 -- a cut or a failure is armed
-pub armed_runs : (size : Size) (b : Bench) (old new : Power) (fault is : ArmedFault) (slots : List (List ℕ)) (ledger : RunLedger) → fault ≡ is → RunsCalm size b old slots ledger
-    → ((z : Size) (c : Bench) → Agrees z c old → Agrees z (armed_with fault c) new) → RunsCalm size (armed_with is b) new slots ledger
-armed_runs size b old new fault is slots ledger e r arms =
-    let B : ArmedFault → Type 0 = λ f. Agrees size (armed_with f b) new in record {
+pub armed_runs : (size : Size) (b : Bench) (old new : Going) (fault is : ArmedFault) → fault ≡ is → RunsCalm size b old → ((z : Size) (c : Bench) → Agrees z c old.bench.power → Agrees z (armed_with fault c) new.bench.power) → new.bench.payloads ≡ old.bench.payloads
+    → new.ledger ≡ old.ledger → RunsCalm size (armed_with is b) new
+armed_runs size b old new fault is e r arms slots ledger =
+    let B : ArmedFault → Type 0 = λ f. Agrees size (armed_with f b) new.bench.power in
+    let L : RunLedger → Type 0 = λ l. TellsWhole size l b.kept in record {
       agrees = subst B e (arms size b r.agrees);
-      same = r.same;
-      follows = record { formatted = r.follows.formatted; kept = r.follows.kept; enough = r.follows.enough };
+      same = slots ∙ r.same;
+      follows = record { formatted = r.follows.formatted; kept = subst L (sym ledger) r.follows.kept; enough = r.follows.enough };
       calm = r.calm;
     }
 
 -- the board was copied, with its payloads and the ledger
-pub copied_runs : (size : Size) (b : Bench) (old new : Power) (slots now : List (List ℕ)) (was ledger : RunLedger) → RunsCalm size b old slots was → Agrees size b new → now ≡ slots → ((kept : Kept) → Tells was kept → Tells ledger kept)
-    → RunsCalm size b new now ledger
-copied_runs size b old new slots now was ledger r agrees same tells = record {
-  agrees = agrees;
-  same = same ∙ r.same;
-  follows = record {
-    formatted = r.follows.formatted;
-    kept = record { tells = tells b.kept r.follows.kept.tells; whole = r.follows.kept.whole; doubt = r.follows.kept.doubt };
-    enough = r.follows.enough;
-  };
-  calm = r.calm;
-}
+pub copied_runs : (size : Size) (b : Bench) (old new : Going) → RunsCalm size b old → Agrees size b new.bench.power → new.bench.payloads ≡ old.bench.payloads → ((kept : Kept) → Tells old.ledger kept → Tells new.ledger kept) → RunsCalm size b new
+copied_runs size b old new r agrees same tells = record { agrees = agrees; same = same ∙ r.same; follows = tells_on size b old.ledger new.ledger r.follows tells; calm = r.calm }
 
 -- no cut has struck the board's own disk either
 pub unstruck : (size : Size) (b : Bench) (power : Power) → Agrees size b power → b.fault_state.struck ≡ false → IsUnstruck power
@@ -115,12 +114,10 @@ unstruck size b (Off off) agrees calm = refl
 unstruck size b (On board) agrees calm = ap (λ (m : FaultState). m.struck) (sym agrees.1.0) ∙ calm
 
 -- the board is off
-pub off_runs : (size : Size) (b : Bench) (power : Power) (disk : OffDisk) (slots : List (List ℕ)) (ledger : RunLedger) → Runs size b power slots ledger → ((z : Size) (c : Bench) → Agrees z c power → OffIs z (off c) disk.disk) → Runs size (off b) (Off disk) slots ledger
-off_runs size b power disk slots ledger r ends = record {
-  agrees = ends size b r.agrees;
-  same = r.same;
-  follows = record { formatted = r.follows.formatted; kept = r.follows.kept; enough = r.follows.enough };
-}
+pub off_runs : (size : Size) (b : Bench) (going : Going) (site : Site) → Runs size b going → OffIs size (off b) site.off.disk → site.payloads ≡ going.bench.payloads → site.ledger ≡ going.ledger → RunsAt size (off b) site
+off_runs size b going site r agrees same ledger =
+    let L : RunLedger → Type 0 = λ l. TellsWhole size l b.kept in
+    record { agrees = agrees; same = same ∙ r.same; follows = record { formatted = r.follows.formatted; kept = subst L (sym ledger) r.follows.kept; enough = r.follows.enough } }
 
 sound_of : (size : Size) (b : Bench) (power : Power) → b.disk_state ≡ Formatted → Agrees size b power → IsSound b
 sound_of size b power formatted agrees = (formatted, by power agrees)
@@ -150,50 +147,26 @@ no_serials line a was ledger unasked same =
     let P : List ℕ → Type 0 = λ xs. Resumes was ledger xs in subst P (sym (still_resumes (asked_by line) a unasked)) (same_serials was ledger same)
 
 -- a line that moves no hart, as far as no armed cut strikes, and what it says of the state
-abbrev pub Said : Size → Line → Power → List (List ℕ) → Answer → Option Durable → Power → List (List ℕ) → Type 0
-Said size line old slots answer now new left = (b : Bench) → IsBench size b old slots → (x : Bench) × Step size line b answer x × TellsIts line answer now x × Matches size x new left
+abbrev pub Said : Size → Line → LiveBench → Answer → Option Durable → LiveBench → Type 0
+Said size line old answer now new = (b : Bench) → Shows size b old → (x : Bench) × Step size line b answer x × TellsIts line answer now x × Matches size x new.power new.payloads
 
-line_runs : (size : Size) (line : Line) (b : Bench) (old new : Power) (slots left : List (List ℕ)) (answer : Answer) (now : Option Durable) (was ledger : RunLedger) → IsPlainLine line → moves_harts line ≡ false → RunsCalm size b old slots was
-    → ShowsEnoughMemory answer.line → ((x : Bench) × Step size line b answer x × TellsIts line answer now x × Matches size x new left)
-    → ((z : Size) (k n : Kept) → TellsWhole z was k → LineTold line answer now k n → TellsWhole z ledger n)
-    → ((z : Size) (k n : Kept) → TellsWhole z was k → LineTold line answer now k n → Resumes was ledger (line_resumes line answer)) → LineMoves size line b new left was ledger
-line_runs size line b old new slots left answer now was ledger plain none r enough (x, step, tells, matches) follows serial =
-    let told = line_tells size line b answer now x plain none (sound_of size b old r.follows.formatted r.agrees) step tells in record {
+line_runs : (size : Size) (line : Line) (b : Bench) (old new : Going) (answer : Answer) (now : Option Durable) → IsPlainLine line → moves_harts line ≡ false → RunsCalm size b old
+    → ShowsEnoughMemory answer.line → ((x : Bench) × Step size line b answer x × TellsIts line answer now x × Matches size x new.bench.power new.bench.payloads)
+    → ((z : Size) (k n : Kept) → TellsWhole z old.ledger k → LineTold line answer now k n → TellsWhole z new.ledger n)
+    → ((z : Size) (k n : Kept) → TellsWhole z old.ledger k → LineTold line answer now k n → Resumes old.ledger new.ledger (line_resumes line answer)) → LineMoves size line b old new
+line_runs size line b old new answer now plain none r enough (x, step, tells, matches) follows serial =
+    let told = line_tells size line b answer now x plain none (sound_of size b old.bench.power r.follows.formatted r.agrees) step tells in record {
       bench = x;
       does = (answer, step);
       resumed = serial size b.kept x.kept r.follows.kept told.0;
       runs = record { agrees = matches.0; same = matches.1; follows = record { formatted = told.1 ∙ r.follows.formatted; kept = follows size b.kept x.kept r.follows.kept told.0; enough = line_grows size line b answer x (inr none) enough step ∙ r.follows.enough } };
     }
 
-pub said_runs : {E : Type 0} (r : Result (Unit {0}) E) (size : Size) (line : Line) (old new : Power) (slots left : List (List ℕ)) (answer : Answer) (now : Option Durable) (was ledger : RunLedger) → IsPlainLine line → moves_harts line ≡ false
-    → Said size line old slots answer now new left → OnOk r (ShowsEnoughMemory answer.line) → OnOk r ((z : Size) (k n : Kept) → TellsWhole z was k → LineTold line answer now k n → TellsWhole z ledger n)
-    → OnOk r ((z : Size) (k n : Kept) → TellsWhole z was k → LineTold line answer now k n → Resumes was ledger (line_resumes line answer)) → OnOk r ((b : Bench) → RunsCalm size b old slots was → LineMoves size line b new left was ledger)
-said_runs (Err e) size line old new slots left answer now was ledger plain none said enough follows serial = tt
-said_runs (Ok u) size line old new slots left answer now was ledger plain none said enough follows serial = λ b r.
-    line_runs size line b old new slots left answer now was ledger plain none r enough (said b (r.agrees, r.same, r.calm)) follows serial
-
--- a line that powers no board on, by what it answers
-unsaid : (asked : AskedLine) (a : Answer) (now : Option Durable) (x : Bench) → is_boot asked ≡ false → TellsAsked asked a now x
-unsaid (Boot mode) a now x unasked = absurd (let no : ⊥ = cc in no)
-unsaid asked a now x unasked = tt
-
-pub said_on : (size : Size) (line : Line) (old new : Power) (slots left : List (List ℕ)) (r : Result Answer AllocError)
-    → ((b : Bench) → IsBench size b old slots → MatchResult r (λ a. (x : Bench) × Step size line b a x × Matches size x new left) (λ e. Matches size b new left))
-    → IfOk r (λ a. (b : Bench) → IsBench size b old slots → (x : Bench) × Step size line b a x × Matches size x new left)
-said_on size line old new slots left (Ok a) reported = reported
-said_on size line old new slots left (Err e) reported = tt
-
-pub said_still : (size : Size) (line : Line) (old new : Power) (slots left : List (List ℕ)) (a : Answer) → powers_on line ≡ false → ((b : Bench) → IsBench size b old slots → (x : Bench) × Step size line b a x × Matches size x new left)
-    → Said size line old slots a None new left
-said_still size line old new slots left a unasked did b was = by (did b was)
-  where
-    by : ((x : Bench) × Step size line b a x × Matches size x new left) → (x : Bench) × Step size line b a x × TellsIts line a None x × Matches size x new left
-    by (x, step, matches) = (x, step, unsaid (asked_by line) a None x unasked, matches)
-
--- a board that is on is not powered on
-pub busy : (size : Size) (mode : BootMode) (b : Bench) (p : Option BenchLife) (board : SimBoard) → BoardIs size b.disk_state b.kept p board → OnStep size p mode b (says printed.Busy) b
-busy size mode b None board at = absurd at
-busy size mode b (Some life) board at = (refl, refl)
+pub said_runs : {E : Type 0} (r : Result (Unit {0}) E) (size : Size) (line : Line) (old new : Going) (answer : Answer) (now : Option Durable) → IsPlainLine line → moves_harts line ≡ false → Said size line old.bench answer now new.bench
+    → OnOk r (ShowsEnoughMemory answer.line) → OnOk r ((z : Size) (k n : Kept) → TellsWhole z old.ledger k → LineTold line answer now k n → TellsWhole z new.ledger n)
+    → OnOk r ((z : Size) (k n : Kept) → TellsWhole z old.ledger k → LineTold line answer now k n → Resumes old.ledger new.ledger (line_resumes line answer)) → OnOk r ((b : Bench) → RunsCalm size b old → LineMoves size line b old new)
+said_runs (Err e) size line old new answer now plain none said enough follows serial = tt
+said_runs (Ok u) size line old new answer now plain none said enough follows serial = λ b r. line_runs size line b old new answer now plain none r enough (said b (r.agrees, r.same, r.calm)) follows serial
 
 -- ---- a disk with nothing armed fails by itself alone
 differ : {A : Type 0} (a b c : Armed) → a ≡ b → a ≡ c → (b ≡ c → ⊥) → A

@@ -19,6 +19,7 @@ use Rattle.bench_sweep.specs.declared.points.BenchKind.TheVariants.{Cuts, Fails}
 use Rattle.bench_sweep.specs.declared.points.Caller.{Caller}
 use Rattle.bench_sweep.specs.declared.points.Point.{Point}
 use Rattle.bench_sweep.specs.declared.rows.Row.{Row}
+use Rattle.bench_sweep.specs.declared.site.Going.{Going}
 use Rattle.bench_sweep.specs.declared.site.Site.{Site}
 use Rattle.bench_sweep.specs.Made.{Lives, ComesTo, IsEnded, IsPlainRun, IsRunOf, RunsArmed, RunsWith}
 use Rattle.bench_sweep.specs.Points.{fault_at, MadeCalls}
@@ -30,10 +31,10 @@ use Rattle.bench_sweep.proofs.Took.{took_both}
 
 -- ---- a run with a fault armed
 -- by how it ended
-pub runs_armed : (size : Size) (kind : BenchKind) (caller : Caller) (call : ℕ) (b : Bench) (those : List Line) (count : ℕ) (power : Power) (slots : List (List ℕ)) (first ledger : RunLedger) → count ≤ length those
-    → (ran : RanTo size (armed_with (fault_at kind caller call) b) (take count those) power slots first ledger) → IsEnded kind count (length those) ran.bench
+pub runs_armed : (size : Size) (kind : BenchKind) (caller : Caller) (call : ℕ) (b : Bench) (those : List Line) (count : ℕ) (first new : Going) → count ≤ length those
+    → (ran : RanTo size (armed_with (fault_at kind caller call) b) (take count those) first new) → IsEnded kind count (length those) ran.bench
     → (r : RunsArmed size kind caller call b those count) × (unpowered ran.bench ≡ unpowered r.end)
-runs_armed size Cuts caller call b those count power slots first ledger few ran (hit, none) =
+runs_armed size Cuts caller call b those count first new few ran (hit, none) =
     let s = ran.struck hit in (
       record {
         few = few;
@@ -45,7 +46,7 @@ runs_armed size Cuts caller call b those count power slots first ledger few ran 
       },
       ap (λ (x : Bench). unpowered x) s.0,
     )
-runs_armed size Fails caller call b those count power slots first ledger few ran (all, calm, none, struck) =
+runs_armed size Fails caller call b those count first new few ran (all, calm, none, struck) =
     let same = ran.calm calm in (
       record {
         few = few;
@@ -59,11 +60,11 @@ runs_armed size Fails caller call b those count power slots first ledger few ran
     )
 
 -- and its row
-pub runs_with : (size : Size) (kind : BenchKind) (at : Point) (b : Bench) (lines : List Line) (count : ℕ) (power : Power) (slots : List (List ℕ)) (first ledger : RunLedger) → count ≤ length lines
-    → (ran : RanTo size (armed_with (fault_at kind at.caller at.call) b) (take count lines) power slots first ledger) → IsEnded kind count (length lines) ran.bench
+pub runs_with : (size : Size) (kind : BenchKind) (at : Point) (b : Bench) (lines : List Line) (count : ℕ) (first new : Going) → count ≤ length lines
+    → (ran : RanTo size (armed_with (fault_at kind at.caller at.call) b) (take count lines) first new) → IsEnded kind count (length lines) ran.bench
     → (disk : SimDisk) (row : Row) → row.caller ≡ at.caller → row.number ≡ at.number → IsLeftBy size (off ran.bench) disk row → RunsWith size kind at.before b lines row
-runs_with size kind at b lines count power slots first ledger few ran ended disk row caller number left =
-    let r = runs_armed size kind at.caller at.call b lines count power slots first ledger few ran ended in
+runs_with size kind at b lines count first new few ran ended disk row caller number left =
+    let r = runs_armed size kind at.caller at.call b lines count first new few ran ended in
     let Q : Caller → Type 0 = λ who. (a : RunsArmed size kind who at.call b lines count) × (unpowered ran.bench ≡ unpowered a.end) in
     let armed = subst Q (sym caller) r in
     record { call = at.call; counts = number ∙ at.counts; count = count; armed = armed.0; at = off ran.bench; ended = off_ended kind ended; same = armed.1; disk = disk; left = left }

@@ -11,7 +11,7 @@ use Rattle.bench_report.specs.declared.power.Power.{Power}
 use Rattle.report_lines.specs.declared.printed.Answer.{Answer}
 use Rattle.report_lines.specs.declared.printed.Printed.TheVariants as printed
 use Rattle.script_lang.specs.declared.line.Line.{Line}
-use Rattle.bench_sweep.specs.declared.ledgers.RunLedger.{RunLedger}
+use Rattle.bench_sweep.specs.declared.site.Going.{Going}
 use Rattle.bench_sweep.specs.declared.site.Site.{Site}
 use Rattle.bench_sweep.specs.Lines.{LineMoves}
 use Rattle.bench_sweep.specs.Resumes.{line_resumes, lines_resume, Resumes}
@@ -26,20 +26,20 @@ lines_more (k ∷ ls) (x ∷ ys) l a e =
     ap (λ zs. line_resumes k x ++ zs) (lines_more ls ys l a (let f : length ys ≡ length ls = omega (arith, e) in f)) ∙ sym (append_assoc (line_resumes k x) (lines_resume ls ys) (line_resumes l a))
 
 -- the lines so far were run to their end, and no armed cut has struck
-pub record Runs_to (size : Size) (b : Bench) (lines : List Line) (power : Power) (slots : List (List ℕ)) (first ledger : RunLedger) : Type 0 where
+pub record Runs_to (size : Size) (b : Bench) (lines : List Line) (first new : Going) : Type 0 where
   pub bench : Bench
   pub answers : List Answer
   pub run : Run size b lines answers bench
-  pub runs : RunsCalm size bench power slots ledger
+  pub runs : RunsCalm size bench new
   pub long : length answers ≡ length lines
-  pub resumed : Resumes first ledger (lines_resume lines answers)
+  pub resumed : Resumes first.ledger new.ledger (lines_resume lines answers)
 
-pub ran_none : (size : Size) (b : Bench) (power : Power) (slots : List (List ℕ)) (first ledger : RunLedger) → ledger ≡ first → RunsCalm size b power slots ledger → Runs_to size b [] power slots first ledger
-ran_none size b power slots first ledger same r = record { bench = b; answers = []; run = refl; runs = r; long = refl; resumed = ap (λ (l : RunLedger). l.resumed.items) same ∙ sym (append-nil first.resumed.items) }
+pub ran_none : (size : Size) (b : Bench) (first : Going) → RunsCalm size b first → Runs_to size b [] first first
+ran_none size b first r = record { bench = b; answers = []; run = refl; runs = r; long = refl; resumed = sym (append-nil first.ledger.resumed.items) }
 
 -- that is where they may end
-pub ran_calm : (size : Size) (b : Bench) (lines : List Line) (power : Power) (slots : List (List ℕ)) (first ledger : RunLedger) → Runs_to size b lines power slots first ledger → RanTo size b lines power slots first ledger
-ran_calm size b lines power slots first ledger r = record {
+pub ran_calm : (size : Size) (b : Bench) (lines : List Line) (first new : Going) → Runs_to size b lines first new → RanTo size b lines first new
+ran_calm size b lines first new r = record {
   answers = r.answers;
   end = r.bench;
   run = r.run;
@@ -53,8 +53,8 @@ ran_calm size b lines power slots first ledger r = record {
   resumed = r.resumed;
 }
 
-module _ (size : Size) (b : Bench) (lines : List Line) (i : ℕ) (line d : Line) (old power : Power) (before slots : List (List ℕ)) (first was ledger : RunLedger) (less : i < length lines) (is : line ≡ get_or lines i d) (so_far : Runs_to size b (take i lines) old before first was)
-    (moves : LineMoves size line so_far.bench power slots was ledger) where
+module _ (size : Size) (b : Bench) (lines : List Line) (i : ℕ) (line d : Line) (first old new : Going) (less : i < length lines) (is : line ≡ get_or lines i d) (so_far : Runs_to size b (take i lines) first old)
+    (moves : LineMoves size line so_far.bench old new) where
   abbrev mid : Bench
   mid = so_far.bench
 
@@ -65,13 +65,13 @@ module _ (size : Size) (b : Bench) (lines : List Line) (i : ℕ) (line d : Line)
   more : take i lines ++ line ∷ [] ≡ take (i + 1) lines
   more = ap (λ (l : Line). take i lines ++ l ∷ []) is ∙ sym (take_more lines i d less)
 
-  resumed : Resumes first ledger (lines_resume (take (i + 1) lines) (so_far.answers ++ moves.does.0 ∷ []))
+  resumed : Resumes first.ledger new.ledger (lines_resume (take (i + 1) lines) (so_far.answers ++ moves.does.0 ∷ []))
   resumed =
       moves.resumed ∙ ap (λ (xs : List ℕ). xs ++ line_resumes line moves.does.0) so_far.resumed
-      ∙ append_assoc first.resumed.items (lines_resume (take i lines) so_far.answers) (line_resumes line moves.does.0)
-      ∙ ap (λ (xs : List ℕ). first.resumed.items ++ xs) (sym (lines_more (take i lines) so_far.answers line moves.does.0 so_far.long) ∙ ap (λ (ls : List Line). lines_resume ls (so_far.answers ++ moves.does.0 ∷ [])) more)
+      ∙ append_assoc first.ledger.resumed.items (lines_resume (take i lines) so_far.answers) (line_resumes line moves.does.0)
+      ∙ ap (λ (xs : List ℕ). first.ledger.resumed.items ++ xs) (sym (lines_more (take i lines) so_far.answers line moves.does.0 so_far.long) ∙ ap (λ (ls : List Line). lines_resume ls (so_far.answers ++ moves.does.0 ∷ [])) more)
 
-  pub ran_more : moves.bench.fault_state.struck ≡ false → Runs_to size b (take (i + 1) lines) power slots first ledger
+  pub ran_more : moves.bench.fault_state.struck ≡ false → Runs_to size b (take (i + 1) lines) first new
   ran_more calm = record {
     bench = moves.bench;
     answers = so_far.answers ++ moves.does.0 ∷ [];
@@ -82,7 +82,7 @@ module _ (size : Size) (b : Bench) (lines : List Line) (i : ℕ) (line d : Line)
   }
 
   -- a cut struck in the last of them
-  ran_struck : moves.bench.fault_state.struck ≡ true → RanTo size b (take (i + 1) lines) power slots first ledger
+  ran_struck : moves.bench.fault_state.struck ≡ true → RanTo size b (take (i + 1) lines) first new
   ran_struck hit = record {
     answers = so_far.answers ++ says printed.PowerLost ∷ [];
     end = unpowered moves.bench;
@@ -98,17 +98,17 @@ module _ (size : Size) (b : Bench) (lines : List Line) (i : ℕ) (line d : Line)
   }
 
   -- one or the other
-  pub ran_line : RanTo size b (take (i + 1) lines) power slots first ledger
+  pub ran_line : RanTo size b (take (i + 1) lines) first new
   ran_line = by moves.bench.fault_state.struck refl
     where
-      by : (struck : Bool) → moves.bench.fault_state.struck ≡ struck → RanTo size b (take (i + 1) lines) power slots first ledger
+      by : (struck : Bool) → moves.bench.fault_state.struck ≡ struck → RanTo size b (take (i + 1) lines) first new
       by true hit = ran_struck hit
-      by false calm = ran_calm size b (take (i + 1) lines) power slots first ledger (ran_more calm)
+      by false calm = ran_calm size b (take (i + 1) lines) first new (ran_more calm)
 
 -- the board was turned off after lines in which nothing was armed
-pub life_of : (size : Size) (b : Bench) (lines : List Line) (count : ℕ) (power : Power) (slots : List (List ℕ)) (first ledger : RunLedger) (site : Site) → (r : RanTo size (unpowered b) (take count lines) power slots first ledger)
-    → (r.bench.fault_state.struck ≡ false) × RunsAt size (off r.bench) site → (count < length lines → StopsOff power) → IsLife size b lines count site
-life_of size b lines count power slots first ledger site r (calm, left) stops =
+pub life_of : (size : Size) (b : Bench) (lines : List Line) (count : ℕ) (first new : Going) (site : Site) → (r : RanTo size (unpowered b) (take count lines) first new)
+    → (r.bench.fault_state.struck ≡ false) × RunsAt size (off r.bench) site → (count < length lines → StopsOff new.bench.power) → IsLife size b lines count site
+life_of size b lines count first new site r (calm, left) stops =
     let P : Bench → Type 0 = λ x. RunsAt size (off x) site in
     let same = r.calm calm in record {
       answers = r.answers;

@@ -15,6 +15,7 @@ use Rattle.board_model.specs.ConsoleCommands.{console_change}
 use Rattle.report_lines.specs.declared.printed.Printed.{Printed}
 use Rattle.report_lines.specs.declared.printed.Printed.TheVariants as printed
 use Rattle.report_lines.specs.declared.printed.Answer.{Answer}
+use Rattle.bench_report.specs.Uncut.{TellsAsked, TellsIts}
 use Rattle.bench_report.specs.Bench.{DiskState, Formatted, BenchLife, Bench}
 use Rattle.bench_report.specs.Deeds as deeds
 use Rattle.bench_report.specs.Deeds.{WritePast, Deed, Beside, IsByFirmwareAlone, deed_of}
@@ -26,7 +27,7 @@ use Rattle.bench_report.specs.Steps.{console_reported, FormatStep, OnStep, Conso
 use Rattle.bench_report.proofs.Issues.{GoesOn, IsSound, issued_back}
 use Rattle.bench_report.proofs.Table.{table_not_six, of_modes}
 use Rattle.bench_sweep.specs.Swept.{IsSweptDeed, IsPlainLine}
-use Rattle.bench_sweep.specs.Told.{is_guest, moves_harts, IssuedTold, CommandTold, AllTold, BootSaid, PowerTold, AskedTold, LineTold, TellsAsked, TellsIts, commands_told}
+use Rattle.bench_sweep.specs.Told.{is_guest, moves_harts, IssuedTold, CommandTold, AllTold, BootSaid, PowerTold, AskedTold, LineTold, commands_told}
 use Rattle.bench_report.specs.Asides.{Effect, Stays, WritesPast, aside, affected}
 use Rattle.bench_report.proofs.Beside.{OfFirmware, is_aside}
 use Rattle.bench_report.proofs.Questions.{IsAsked, is_asked}

@@ -8,10 +8,10 @@ use Rattle.bench_report.specs.Agree.{HasDisk}
 use Rattle.bench_report.specs.Bench.{Bench}
 use Rattle.bench_report.specs.declared.power.Power.{Power}
 use Rattle.bench_report.specs.declared.power.Power.TheVariants.{Off, On}
-use Rattle.bench_sweep.specs.declared.ledgers.RunLedger.{RunLedger}
+use Rattle.bench_sweep.specs.declared.site.Going.{Going}
 use Rattle.bench_sweep.specs.Lines.{LineMoves}
 use Rattle.bench_sweep.specs.Runs.{RunsCalm}
-use Rattle.bench_sweep.specs.Took.{CountsAlike, LineTook, RunTook, disk_at}
+use Rattle.bench_sweep.specs.Took.{CountsAlike, LineTook, RunTook, disk_at, own_disk}
 
 -- ---- the disk of a board
 pub has_disk : (power : Power) → HasDisk power (disk_at power)
@@ -24,9 +24,9 @@ disk_is (On board) disk has = has
 
 -- ---- lines
 -- a line's step was made
-pub moved_took : (size : Size) (line : Line) (b : Bench) (old now : Power) (before slots : List (List ℕ)) (was ledger : RunLedger) → RunsCalm size b old before was → LineMoves size line b now slots was ledger → LineTook size line (disk_at old) (disk_at now)
-moved_took size line b old now before slots was ledger r m =
-    (b, m.bench, m.does.0, (old, r.agrees, has_disk old), m.does.1, (now, m.runs.agrees, has_disk now))
+pub moved_took : (size : Size) (line : Line) (b : Bench) (old new : Going) → RunsCalm size b old → LineMoves size line b old new → LineTook size line (own_disk old) (own_disk new)
+moved_took size line b old new r m =
+    (b, m.bench, m.does.0, (old.bench.power, r.agrees, has_disk old.bench.power), m.does.1, (new.bench.power, m.runs.agrees, has_disk new.bench.power))
 
 -- from a disk that has counted the same
 pub took_since : (size : Size) (lines : List Line) (old mid new : SimDisk) → CountsAlike old mid → RunTook size lines mid new → RunTook size lines old new

@@ -47,6 +47,7 @@ use Rattle.bench_report.proofs.Lines.{stands_by}
 use Rattle.bench_report.specs.declared.power.Power.{Power}
 use Rattle.bench_report.specs.declared.power.Power.TheVariants.{Off, On}
 use Rattle.bench_sweep.specs.declared.ledgers.RunLedger.{RunLedger}
+use Rattle.bench_sweep.specs.declared.site.Going.{Going}
 use Rattle.bench_sweep.specs.Runs.{Follows, RunsCalm, HartMoves}
 use Rattle.bench_sweep.specs.Lines.{TurnsOnce, TurnsMany, DoesLine, HartGoes, LineGoes, LineMoves}
 use Rattle.bench_report.specs.Prefix.{AskedLine, Boot, asked_by}
@@ -361,18 +362,18 @@ pub still_on : (size : Size) (said : Option Word) (board : SimBoard) → ((word 
 still_on size None board none = λ n on. on
 still_on size (Some word) board none = absurd (none word refl)
 
-line_left : (size : Size) (line : Line) (b : Bench) (said : Option Word) (board : SimBoard) (now : Power) (slots : List (List ℕ)) (l m : RunLedger) → moves_harts line ≡ true → m.resumed ≡ l.resumed → slots ≡ b.payloads → LeavesBy size said board now
-    → LineGoes size b (DoesLine size line b) said board m → LineMoves size line b now slots l m
-line_left size line b None board now slots l m of_harts serials same leaves (n, does, kept, on, follows) = record { bench = n; does = does; resumed = no_serials line does.0 l m (no_boot line of_harts) serials; runs = record { agrees = leaves n on; same = same ∙ sym kept; follows = follows } }
-line_left size line b (Some word) board now slots l m of_harts serials same leaves r = record { bench = r.bench; does = r.does; resumed = no_serials line r.does.0 l m (no_boot line of_harts) serials; runs = record { agrees = leaves r.bench r.after; same = same ∙ sym r.slots; follows = r.follows } }
+line_left : (size : Size) (line : Line) (b : Bench) (said : Option Word) (board : SimBoard) (old new : Going) → moves_harts line ≡ true → new.ledger.resumed ≡ old.ledger.resumed → new.bench.payloads ≡ b.payloads → LeavesBy size said board new.bench.power
+    → LineGoes size b (DoesLine size line b) said board new.ledger → LineMoves size line b old new
+line_left size line b None board old new of_harts serials same leaves (n, does, kept, on, follows) = record { bench = n; does = does; resumed = no_serials line does.0 old.ledger new.ledger (no_boot line of_harts) serials; runs = record { agrees = leaves n on; same = same ∙ sym kept; follows = follows } }
+line_left size line b (Some word) board old new of_harts serials same leaves r = record { bench = r.bench; does = r.does; resumed = no_serials line r.does.0 old.ledger new.ledger (no_boot line of_harts) serials; runs = record { agrees = leaves r.bench r.after; same = same ∙ sym r.slots; follows = r.follows } }
 
 -- on a board that is on
-pub line_on : (size : Size) (line : Line) (b : Bench) (power now : Power) (old new : SimBoard) (said is_said : Option Word) (slots : List (List ℕ)) (l m : RunLedger) → moves_harts line ≡ true → m.resumed ≡ l.resumed → power ≡ On old → said ≡ is_said → LeavesBy size is_said new now
-    → ((c : Bench) → OnIs size c old → Follows size c l → LineGoes size c (DoesLine size line c) said new m) → RunsCalm size b power slots l → LineMoves size line b now slots l m
-line_on size line b power now old new said is_said slots l m of_harts serials is e leaves goes r =
+pub line_on : (size : Size) (line : Line) (b : Bench) (was now : SimBoard) (said is_said : Option Word) (old new : Going) → moves_harts line ≡ true → new.ledger.resumed ≡ old.ledger.resumed → new.bench.payloads ≡ old.bench.payloads → old.bench.power ≡ On was → said ≡ is_said
+    → LeavesBy size is_said now new.bench.power → ((c : Bench) → OnIs size c was → Follows size c old.ledger → LineGoes size c (DoesLine size line c) said now new.ledger) → RunsCalm size b old → LineMoves size line b old new
+line_on size line b was now said is_said old new of_harts serials same is e leaves goes r =
     let P : Power → Type 0 = λ p. Agrees size b p in
-    let L : Option Word → Type 0 = λ o. LeavesBy size o new now in
-    line_left size line b said new now slots l m of_harts serials r.same (subst L (sym e) leaves) (goes b (subst P is r.agrees) r.follows)
+    let L : Option Word → Type 0 = λ o. LeavesBy size o now new.bench.power in
+    line_left size line b said now old new of_harts serials (same ∙ r.same) (subst L (sym e) leaves) (goes b (subst P is r.agrees) r.follows)
 
 -- on one that is off nothing is done
 off_does : (size : Size) (line : Line) (b : Bench) → moves_harts line ≡ true → b.power ≡ None → DoesLine size line b b
@@ -380,8 +381,11 @@ off_does size (lines.Turn h n) b of_harts off = let P : Option BenchLife → Typ
 off_does size (lines.Call h asked) b of_harts off = let P : Option BenchLife → Type 0 = λ p. CallStep p h asked b (shows shown.Off) b in (shows shown.Off, subst P (sym off) (refl, refl))
 off_does size line b of_harts off = absurd (let no : ⊥ = cc in no)
 
-pub line_off : (size : Size) (line : Line) (b : Bench) (power : Power) (slots : List (List ℕ)) (l : RunLedger) → moves_harts line ≡ true → ((board : SimBoard) → power ≡ On board → ⊥) → RunsCalm size b power slots l → LineMoves size line b power slots l l
-line_off size line b (On board) slots l of_harts not r = absurd (not board refl)
-line_off size line b (Off disk) slots l of_harts not r =
-    let does = off_does size line b of_harts r.agrees.0 in
-    record { bench = b; does = does; resumed = no_serials line does.0 l l (no_boot line of_harts) refl; runs = record { agrees = r.agrees; same = r.same; follows = r.follows } }
+is_off : (size : Size) (b : Bench) (power : Power) → ((board : SimBoard) → power ≡ On board → ⊥) → Agrees size b power → b.power ≡ None
+is_off size b (Off disk) none is = is.0
+is_off size b (On board) none is = absurd (none board refl)
+
+pub line_off : (size : Size) (line : Line) (b : Bench) (going : Going) → moves_harts line ≡ true → ((board : SimBoard) → going.bench.power ≡ On board → ⊥) → RunsCalm size b going → LineMoves size line b going going
+line_off size line b going of_harts none r =
+    let does = off_does size line b of_harts (is_off size b going.bench.power none r.agrees) in
+    record { bench = b; does = does; resumed = no_serials line does.0 going.ledger going.ledger (no_boot line of_harts) refl; runs = record { agrees = r.agrees; same = r.same; follows = r.follows } }

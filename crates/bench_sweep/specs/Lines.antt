@@ -1,16 +1,16 @@
 -- What a line that moves harts does, by the steps of the model, and that the ledger follows it.
-use Rattle.std.specs.Prelude.{◌≡◌, ℕ, List, Option, None, Some}
+use Rattle.std.specs.Prelude.{◌≡◌, ℕ, Option, None, Some}
 use Rattle.board_model.specs.Shapes.{Size}
 use Rattle.sbi.specs.declared.words.Word.{Word}
 use Rattle.script_lang.specs.declared.line.Line.{Line}
 use Rattle.report_lines.specs.declared.printed.Answer.{Answer}
-use Rattle.bench_report.specs.declared.power.Power.{Power}
 use Rattle.bench_report.specs.Bench.{BenchLife, Bench}
 use Rattle.bench_report.specs.Steps.{Step}
 use Rattle.bench_report.specs.Turns.{GuestTurn, GuestTurns}
 use Rattle.bench_report.specs.Agree.{OnIs, BoardAfter}
 use Rattle.bench_report.specs.Views.{SimBoard}
 use Rattle.bench_sweep.specs.declared.ledgers.RunLedger.{RunLedger}
+use Rattle.bench_sweep.specs.declared.site.Going.{Going}
 use Rattle.bench_sweep.specs.Resumes.{line_resumes, Resumes}
 use Rattle.bench_sweep.specs.Runs.{Follows, Runs}
 
@@ -41,10 +41,9 @@ LineGoes size b Does None board ledger =
     (new : Bench) × Does new × (new.payloads ≡ b.payloads) × OnIs size new board × Follows size new ledger
 LineGoes size b Does (Some word) board ledger = HartGoes size b Does word board ledger
 
--- The line's step was made, and the ledger has the serial of the image that it resumed besides those of the old one.
-pub record LineMoves (size : Size) (line : Line) (b : Bench) (power : Power) (slots : List (List ℕ)) (old ledger : RunLedger)
-    : Type 0 where
+-- The line's step was made, and the run's ledger has the serial of the image that it resumed besides those of the old one.
+pub record LineMoves (size : Size) (line : Line) (b : Bench) (old new : Going) : Type 0 where
   pub bench : Bench
   pub does : DoesLine size line b bench
-  pub resumed : Resumes old ledger (line_resumes line does.0)
-  pub runs : Runs size bench power slots ledger
+  pub resumed : Resumes old.ledger new.ledger (line_resumes line does.0)
+  pub runs : Runs size bench new

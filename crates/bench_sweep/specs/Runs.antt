@@ -47,22 +47,22 @@ pub record Follows (size : Size) (b : Bench) (ledger : RunLedger) : Type 0 where
   pub kept : TellsWhole size ledger b.kept
   pub enough : b.growths ≡ 0
 
--- The board with its payloads stands for that bench, and the ledger follows it.
-pub record Runs (size : Size) (b : Bench) (power : Power) (slots : List (List ℕ)) (ledger : RunLedger) : Type 0 where
-  pub agrees : Agrees size b power
-  pub same : slots ≡ b.payloads
-  pub follows : Follows size b ledger
+-- The run's board with its payloads stands for that bench, and its ledger follows it.
+pub record Runs (size : Size) (b : Bench) (going : Going) : Type 0 where
+  pub agrees : Agrees size b going.bench.power
+  pub same : going.bench.payloads ≡ b.payloads
+  pub follows : Follows size b going.ledger
 
 -- and no armed cut has struck
-pub record RunsCalm (size : Size) (b : Bench) (power : Power) (slots : List (List ℕ)) (ledger : RunLedger) : Type 0 where
-  pub agrees : Agrees size b power
-  pub same : slots ≡ b.payloads
-  pub follows : Follows size b ledger
+pub record RunsCalm (size : Size) (b : Bench) (going : Going) : Type 0 where
+  pub agrees : Agrees size b going.bench.power
+  pub same : going.bench.payloads ≡ b.payloads
+  pub follows : Follows size b going.ledger
   pub calm : b.fault_state.struck ≡ false
 
 -- the same for some bench
 abbrev pub SitsCalm : Size → Going → Type 0
-SitsCalm size going = (b : Bench) × RunsCalm size b going.power going.payloads going.ledger
+SitsCalm size going = (b : Bench) × RunsCalm size b going
 
 -- The first lines from that bench on were run as they are, up to that moment: the board with its payloads stands for the bench
 -- then, the ledger follows it, and nothing has struck.
@@ -71,7 +71,7 @@ pub record CameAlong (size : Size) (b : Bench) (lines : List Line) (moment : Mom
   pub answers : List Answer
   pub at : Bench
   pub run : Run size b (take moment.count lines) answers at
-  pub runs : RunsCalm size at moment.going.power moment.going.payloads moment.going.ledger
+  pub runs : RunsCalm size at moment.going
 
 -- the same of a disk that a power cut has left: nothing is armed
 pub record LeftOff (size : Size) (b : Bench) (disk : OffDisk) (slots : List (List ℕ)) (ledger : RunLedger) : Type 0 where
@@ -81,8 +81,10 @@ pub record LeftOff (size : Size) (b : Bench) (disk : OffDisk) (slots : List (Lis
   pub left : b.fault_state ≡ fault_state_left b.fault_state
 
 -- a site stands for that bench
-abbrev pub RunsAt : Size → Bench → Site → Type 0
-RunsAt size b site = Runs size b (Off site.off) site.payloads site.ledger
+pub record RunsAt (size : Size) (b : Bench) (site : Site) : Type 0 where
+  pub agrees : OffIs size b site.off.disk
+  pub same : site.payloads ≡ b.payloads
+  pub follows : Follows size b site.ledger
 
 -- the same of one that a power cut has left
 abbrev pub LeftAt : Size → Bench → Site → Type 0
@@ -108,19 +110,18 @@ pub record LostIn (size : Size) (b : Bench) (lines : List Line) (answers would :
 -- Lines were run from that bench: to their end, or an armed cut struck in the last of them, and power is still to be
 -- taken. The ledger has the serials of the images that they resumed besides those of the old one, by what they answered, and the
 -- last of them by what it would have answered had no cut struck.
-pub record RanTo (size : Size) (b : Bench) (lines : List Line) (power : Power) (slots : List (List ℕ)) (old ledger : RunLedger)
-    : Type 0 where
+pub record RanTo (size : Size) (b : Bench) (lines : List Line) (old new : Going) : Type 0 where
   pub answers : List Answer
   pub end : Bench
   pub run : Run size b lines answers end
   pub bench : Bench
-  pub runs : Runs size bench power slots ledger
+  pub runs : Runs size bench new
   pub calm : bench.fault_state.struck ≡ false → bench ≡ end
   pub struck : bench.fault_state.struck ≡ true → (unpowered bench ≡ end) × EndsAs Cuts lines 0 answers end
   pub would : List Answer
   pub told : bench.fault_state.struck ≡ false → would ≡ answers
   pub lost : bench.fault_state.struck ≡ true → LostIn size b lines answers would bench
-  pub resumed : Resumes old ledger (lines_resume lines would)
+  pub resumed : Resumes old.ledger new.ledger (lines_resume lines would)
 
 -- The first of some lines were run from that site on, with nothing armed, up to the first that left the board off, or to
 -- the last; and then the board was turned off.

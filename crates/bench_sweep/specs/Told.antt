@@ -1,5 +1,5 @@
 -- What a line's answer tells of the commands that a disk keeps. Source: docs/DURABLE.md, "What an open finds".
-use Rattle.std.specs.Prelude.{◌≡◌, ◌≢◌, ◌⊎◌, ⊤, ℕ, Bool, true, false, List, [], ◌∷◌, Option, None, Some, length}
+use Rattle.std.specs.Prelude.{◌≡◌, ◌≢◌, ◌⊎◌, ℕ, Bool, true, false, List, [], ◌∷◌, Option, None, Some, length}
 use Rattle.board_model.specs.Durable.{Change, Reset, Suspend, Consume, Discard, refusal_of}
 use Rattle.board_model.specs.Kept.{Kept, MayKeep, found_of}
 use Rattle.board_model.specs.Shapes.{Size, ram_bytes_of}
@@ -15,9 +15,7 @@ use Rattle.sbi.specs.declared.words.Word.{Word}
 use Rattle.sbi.specs.declared.words.Word.TheVariants as words
 use Rattle.sbi.specs.declared.words.LifeEnd.TheVariants as life_ends
 use Rattle.sbi_calls.specs.Words.{is_answered}
-use Rattle.bench_report.specs.Bench.{Bench}
 use Rattle.bench_report.specs.Happens.{SaysEnough}
-use Rattle.bench_report.specs.PowerOns.{TellsNow}
 use Rattle.bench_report.specs.Prefix.{AskedLine, Boot, Command, Guest, asked_by}
 use Rattle.report_lines.specs.declared.printed.Printed.{Printed}
 use Rattle.report_lines.specs.declared.printed.Printed.TheVariants as printed
@@ -113,14 +111,6 @@ AskedTold asked a now old new = new ≡ old
 
 abbrev pub LineTold : Line → Answer → Option Durable → Kept → Kept → Type 0
 LineTold line a now old new = AskedTold (asked_by line) a now old new
-
--- where the line powers a board on, that is the state which the power-on left
-abbrev pub TellsAsked : AskedLine → Answer → Option Durable → Bench → Type 0
-TellsAsked (Boot mode) a now new = TellsNow a.found now new
-TellsAsked asked a now new = ⊤
-
-abbrev pub TellsIts : Line → Answer → Option Durable → Bench → Type 0
-TellsIts line a now new = TellsAsked (asked_by line) a now new
 
 -- a command that a hart makes, where that is the memory
 abbrev pub IsOfHart : Size → List ℕ → Change → Type 0

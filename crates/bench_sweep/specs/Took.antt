@@ -11,12 +11,16 @@ use Rattle.bench_report.specs.Views.{disk_in}
 use Rattle.bench_report.specs.declared.power.Power.{Power}
 use Rattle.bench_report.specs.declared.power.Power.TheVariants.{Off, On}
 use Rattle.bench_sweep.specs.declared.points.Caller.{Caller}
+use Rattle.bench_sweep.specs.declared.site.Going.{Going}
 use Rattle.bench_sweep.specs.Points.{calls_of}
 
 -- the disk of a board, on or off
 abbrev pub disk_at : Power → SimDisk
 disk_at (Off off) = off.disk
 disk_at (On board) = disk_in board
+
+abbrev pub own_disk : Going → SimDisk
+own_disk going = disk_at going.bench.power
 
 -- a board, on or off, that stands for that bench, has that disk
 abbrev pub StandsOn : Size → Bench → SimDisk → Type 0

@@ -7,8 +7,7 @@ ghost use Rattle.script_lang.specs.declared.line.Line.TheVariants as lines;
 ghost use Rattle.bench_report.specs.Views.{machine_in, store_in};
 ghost use Rattle.store.specs.Views.{was_refused_memory};
 ghost use Rattle.bench_report.specs.Bench.{Bench};
-ghost use Rattle.bench_report.specs.Agree.{Agrees, OnIs};
-ghost use Rattle.bench_report.specs.Lives.{IsAfter};
+ghost use Rattle.bench_report.specs.Agree.{OnIs};
 ghost use Rattle.bench_sweep.specs.Runs.{Follows, RunsCalm};
 ghost use Rattle.bench_sweep.specs.Lines.{TurnsOnce, TurnsMany, DoesLine, HartGoes, LineGoes, LineMoves};
 ghost use Rattle.bench_sweep.specs.Told.{moves_harts};
@@ -16,10 +15,9 @@ ghost use Rattle.bench_sweep.specs.Told.{moves_harts};
 use crate::follows::record_hart;
 use crate::ledgers::RunLedger;
 use crate::site::Going;
-use bench_report::{Power, Setting, after};
+use bench_report::{Power, Setting};
 use board::Board;
 use board_model::{CallWords, HartId};
-use core::mem::replace_with;
 use crew::Crew;
 use machine::Word;
 use script_lang::Line;
@@ -159,16 +157,6 @@ fn run_in_place<C: Crew>(
     }
 }
 
-/// A board that was on, after a turn or a call with that word.
-fn ended(power: Power, word: Word) -> (Power, ())
-    ensures after { (size : Size) (b : Bench) → IsAfter size word b power → Agrees size b result.0 }
-{
-    match power {
-        Power::On(board) => (after(board, word), ()),
-        Power::Off(off) => (Power::Off(off), ()),
-    }
-}
-
 impl Going {
     /// Runs a line of harts, and the ledger follows each turn of it. On a board that is off it does nothing. Where that is refused the
     /// run is of no use.
@@ -179,14 +167,14 @@ impl Going {
     ) -> Result<(), AllocError>
         requires range { IsLineInRange setting.now.shape.now line.now }
         requires of_harts { moves_harts line.now ≡ true }
-        ensures runs { OnOk result ((b : Bench) → RunsCalm setting.now.shape.now b self.old.power self.old.payloads self.old.ledger
-            → LineMoves setting.now.shape.now line.now b self.new.power self.new.payloads self.old.ledger self.new.ledger) }
+        ensures runs { OnOk result ((b : Bench) → RunsCalm setting.now.shape.now b self.old
+            → LineMoves setting.now.shape.now line.now b self.old self.new) }
     {
-        let Power::On(board) = &mut self.power else {
+        let Power::On(board) = &mut self.bench.power else {
             return Ok(());
         };
         if let Some(word) = run_in_place(setting, board, line, &mut self.ledger)? {
-            replace_with(&mut self.power, word, ended);
+            self.bench.end(word);
         }
         Ok(())
     }

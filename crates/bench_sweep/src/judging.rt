@@ -15,7 +15,7 @@ ghost use Rattle.bench_sweep.specs.Runs.{LeftOff, Runs, RunsAt, RunsCalm, Sits, 
 ghost use Rattle.bench_sweep.specs.Swept.{AreSwept, cell, runs_of};
 ghost use Rattle.bench_sweep.specs.Reports.{again, Keeps, Judged, IsFoundOn, IsLeftBy};
 ghost use Rattle.bench_sweep.specs.Made.{cut_content, RunsWith};
-ghost use Rattle.bench_sweep.specs.Took.{disk_at};
+ghost use Rattle.bench_sweep.specs.Took.{own_disk};
 
 use crate::finds::count_run;
 use crate::judges::Sweep;
@@ -193,7 +193,7 @@ fn run_to_cut<C: Crew>(
     requires lines { AreSwept runner.now.setting.shape.now runner.now.lines.now }
     requires sits { SitsCalm runner.now.setting.shape.now from }
     ensures judged { IfOk result (λ made. (b : Bench)
-        → RunsCalm runner.now.setting.shape.now b from.power from.payloads from.ledger
+        → RunsCalm runner.now.setting.shape.now b from
         → Judged (RunsWith runner.now.setting.shape.now BenchKind.Cuts point.before b runner.now.lines.now) made
         (runs_of BenchKind.Cuts point.caller point.number)) }
 {
@@ -216,7 +216,7 @@ fn run_past_failure<C: Crew>(
     requires lines { AreSwept runner.now.setting.shape.now runner.now.lines.now }
     requires sits { SitsCalm runner.now.setting.shape.now from }
     ensures judged { IfOk result (λ made. (b : Bench)
-        → RunsCalm runner.now.setting.shape.now b from.power from.payloads from.ledger
+        → RunsCalm runner.now.setting.shape.now b from
         → Judged (RunsWith runner.now.setting.shape.now BenchKind.Fails point.before b runner.now.lines.now) made
         (runs_of BenchKind.Fails point.caller point.number)) }
 {
@@ -235,9 +235,9 @@ fn run_past_failure<C: Crew>(
 /// where the disk's record found no memory.
 pub fn turn_off(going: Going, struck: bool) -> Result<Site, AllocError>
     ensures runs { IfOk result (λ site. (size : Size) (b : Bench)
-        → Runs size b going.power going.payloads going.ledger
+        → Runs size b going
         → (b.fault_state.struck ≡ struck) × (b.fault_state.own ≡ 0) × RunsAt size (off b) site) }
-    ensures disk { IfOk result (λ site. site.off.disk ≡ disk_at going.power) }
+    ensures disk { IfOk result (λ site. site.off.disk ≡ own_disk going) }
 {
     if going.is_struck() != struck {
         going.release();
@@ -256,7 +256,7 @@ pub fn turn_off(going: Going, struck: bool) -> Result<Site, AllocError>
 pub fn turn_off_failed(going: Going, count: usize, all: usize) -> Result<Site, AllocError>
     ensures whole { OnOk result (all ≤ count) }
     ensures runs { IfOk result (λ site. (size : Size) (b : Bench)
-        → Runs size b going.power going.payloads going.ledger
+        → Runs size b going
         → (b.fault_state.struck ≡ false) × (b.fault_state.own ≡ 0) × (b.fault_state.armed ≡ Unarmed) × RunsAt size (off b) site) }
 {
     // No cut is armed that could end the run before its last line.
@@ -283,7 +283,7 @@ pub fn run_at_point<C: Crew>(
     requires lines { AreSwept runner.now.setting.shape.now runner.now.lines.now }
     requires sits { SitsCalm runner.now.setting.shape.now from }
     ensures judged { IfOk result (λ made. (b : Bench)
-        → RunsCalm runner.now.setting.shape.now b from.power from.payloads from.ledger
+        → RunsCalm runner.now.setting.shape.now b from
         → Judged (RunsWith runner.now.setting.shape.now runner.now.bench point.before b runner.now.lines.now) made
         (runs_of runner.now.bench point.caller point.number)) }
 {

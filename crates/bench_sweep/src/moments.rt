@@ -15,7 +15,7 @@ ghost use Rattle.simdisk.specs.declared.SimDisk.{SimDisk};
 
 use crate::points::{BenchKind, Caller, Point};
 use crate::site::{Going, Site};
-use bench_report::{Setting, arm_power, copy_power, disk_of};
+use bench_report::{LiveBench, Setting, arm_power, copy_power, disk_of};
 use crew::Crew;
 use script_lang::Line;
 use std::alloc::{AllocError, Global};
@@ -30,52 +30,60 @@ pub struct Moment {
 impl Going {
     /// A run that has come as far as this one, with a board and a disk of its own. This one stays as it is.
     pub fn copy(&mut self, alloc: Global) -> Result<Going, AllocError>
-        ensures stays { (size : Size) (b : Bench) → RunsCalm size b self.old.power self.old.payloads self.old.ledger
-            → RunsCalm size b self.new.power self.new.payloads self.new.ledger }
-        ensures same { (d : SimDisk) → HasDisk self.old.power d → HasDisk self.new.power d }
+        ensures stays { (size : Size) (b : Bench) → RunsCalm size b self.old
+            → RunsCalm size b self.new }
+        ensures same { (d : SimDisk) → HasDisk self.old.bench.power d → HasDisk self.new.bench.power d }
         ensures ledger { self.new.ledger ≡ self.old.ledger }
         ensures runs { IfOk result (λ copy. (size : Size) (b : Bench)
-            → RunsCalm size b self.old.power self.old.payloads self.old.ledger
-            → RunsCalm size b copy.power copy.payloads copy.ledger) }
-        ensures alike { IfOk result (λ copy. (d e : SimDisk) → HasDisk self.old.power d → HasDisk copy.power e → IsCopyOf d e) }
+            → RunsCalm size b self.old
+            → RunsCalm size b copy) }
+        ensures alike { IfOk result (λ copy. (d e : SimDisk) → HasDisk self.old.bench.power d → HasDisk copy.bench.power e → IsCopyOf d e) }
         ensures resumed { IfOk result (λ copy. copy.ledger.resumed.items ≡ self.old.ledger.resumed.items) }
     {
-        let payloads = self.payloads.copy()?;
+        let payloads = self.bench.payloads.copy()?;
         let ledger = self.ledger.copy(alloc)?;
-        let power = copy_power(alloc, &mut self.power)?;
-        Ok(Going {
+        let power = copy_power(alloc, &mut self.bench.power)?;
+        let bench = LiveBench {
             power,
             payloads,
-            ledger,
-        })
+            fill: self.bench.fill,
+            refused: self.bench.refused,
+        };
+        Ok(Going { bench, ledger })
     }
 
     /// The run with what a bench of that kind does at the point armed on its disk.
     pub fn armed(self, bench: BenchKind, point: Point) -> Going
-        ensures runs { (size : Size) (b : Bench) → RunsCalm size b self.power self.payloads self.ledger
-            → RunsCalm size (armed_with (fault_at bench point.caller point.call) b) result.power result.payloads result.ledger }
+        ensures runs { (size : Size) (b : Bench) → RunsCalm size b self
+            → RunsCalm size (armed_with (fault_at bench point.caller point.call) b) result }
         ensures ledger { result.ledger ≡ self.ledger }
-        ensures arms { IsArmed (fault_at bench point.caller point.call) result.power }
+        ensures arms { IsArmed (fault_at bench point.caller point.call) result.bench.power }
     {
-        let Going {
+        let LiveBench {
             power,
             payloads,
-            ledger,
-        } = self;
+            fill,
+            refused,
+        } = self.bench;
         let fault = bench.fault_at(point.caller, point.call);
-        Going {
+        let bench = LiveBench {
             power: arm_power(power, fault),
             payloads,
-            ledger,
+            fill,
+            refused,
+        };
+        Going {
+            bench,
+            ledger: self.ledger,
         }
     }
 
     /// How many calls that caller has made since that site. Refused where a disk counted back.
     pub fn calls_since(&self, site: &Site, caller: Caller) -> Result<u64, AllocError>
-        ensures calls { IfOk result (λ n. (d : SimDisk) × HasDisk self.now.power d × MadeCalls site.now.off.disk d caller n) }
+        ensures calls { IfOk result (λ n. (d : SimDisk) × HasDisk self.now.bench.power d × MadeCalls site.now.off.disk d caller n) }
     {
         let before = caller.calls(&site.off.disk);
-        let after = caller.calls(disk_of(&self.power));
+        let after = caller.calls(disk_of(&self.bench.power));
         if after < before {
             return Err(AllocError);
         }

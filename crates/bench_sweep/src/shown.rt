@@ -188,7 +188,7 @@ fn arming_of(shape: &Shape, bench: BenchKind, run: RunAt) -> Result<Arming, Refu
 fn check_ended(bench: BenchKind, going: Going, count: usize, all: usize) -> Result<(), AllocError>
     requires few { count ≤ all }
     ensures ended { OnOk result ((size : Size) (b : Bench)
-        → Runs size b going.power going.payloads going.ledger → IsEnded bench count all b) }
+        → Runs size b going → IsEnded bench count all b) }
 {
     match bench {
         BenchKind::Cuts => {

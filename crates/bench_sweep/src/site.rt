@@ -1,10 +1,10 @@
-//! A bench between two lines of its script.
+//! A run between two lines of its script, and what runs go on from.
 
 use crate::ledgers::RunLedger;
-use bench_report::{OffDisk, Power};
+use bench_report::{LiveBench, OffDisk};
 use board::Payloads;
 
-/// A board that is off, with all that a run goes on from.
+/// A board that is off, with all that a run goes on from. Threads share one, as they could not share a board that may be on.
 #[derive(Drop)]
 pub struct Site {
     pub off: OffDisk,
@@ -17,11 +17,10 @@ impl Site {
     pub fn release(self) {}
 }
 
-/// A run that is under way.
+/// A run that is under way: its bench, and the ledger that follows it.
 #[derive(Drop)]
 pub struct Going {
-    pub power: Power,
-    pub payloads: Payloads,
+    pub bench: LiveBench,
     pub ledger: RunLedger,
 }
 

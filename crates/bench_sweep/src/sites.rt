@@ -7,31 +7,22 @@ ghost use Rattle.script_lang.specs.Lines.{IsLineInRange};
 ghost use Rattle.disk.specs.Facts.{Only};
 ghost use Rattle.simdisk.specs.Views.{left_by_fill};
 ghost use Rattle.disk.specs.WriteLog.{synced};
-ghost use Rattle.bench_report.specs.declared.power.Power.TheVariants.{Off};
-ghost use Rattle.bench_report.specs.Agree.{Agrees, IsBench, IsUnstruck, Matches, OffIs, StepsTo};
+ghost use Rattle.bench_report.specs.Agree.{Agrees, IsUnstruck, OffIs};
 ghost use Rattle.bench_report.specs.Bench.{Bench};
 ghost use Rattle.bench_report.specs.Happens.{off, unpowered};
-ghost use Rattle.bench_report.specs.PowerOns.{TellsNow};
-ghost use Rattle.bench_report.specs.Steps.{OnStep, Step};
 ghost use Rattle.bench_report.specs.Views.{facts, sim_log_of};
 ghost use Rattle.bench_sweep.specs.Lines.{LineMoves};
 ghost use Rattle.bench_sweep.specs.Points.{calls_of};
 ghost use Rattle.bench_sweep.specs.Runs.{Runs, RunsAt, RunsCalm, LeftAt, RanTo, StopsOff};
 ghost use Rattle.bench_sweep.specs.Swept.{IsPlainLine};
-ghost use Rattle.bench_sweep.specs.Told.{TellsIts};
-ghost use Rattle.bench_sweep.specs.Took.{disk_at, RunTook};
+ghost use Rattle.bench_sweep.specs.Took.{own_disk, RunTook};
 ghost use Rattle.bench_sweep.specs.declared.points.Caller.{Caller};
-ghost use denote.Param.Send.{IsSync};
 
 use crate::follows::record_line;
 use crate::harts::is_of_harts;
 use crate::site::{Going, Site};
-use bench_report::{OffDisk, Power, Setting, console, disk_left, line_alone, power_on, struck};
-use board::Payloads;
-use board_model::{BootMode, Durable};
-use core::mem::replace_with;
+use bench_report::{LiveBench, OffDisk, Power, Setting, disk_left, struck};
 use crew::Crew;
-use report_lines::{Answer, Printed};
 use script_lang::Line;
 use simdisk::{Fill, SimDisk};
 use std::alloc::{AllocError, Global};
@@ -112,82 +103,63 @@ impl Site {
 impl Going {
     /// The run that begins at that site.
     pub fn from(site: Site) -> Going
-        ensures calm { IsUnstruck result.power }
-        ensures disk { disk_at result.power ≡ site.off.disk }
+        ensures calm { IsUnstruck result.bench.power }
+        ensures disk { own_disk result ≡ site.off.disk }
         ensures ledger { result.ledger ≡ site.ledger }
-        ensures runs { (size : Size) (b : Bench) → RunsCalm size b (Off site.off) site.payloads site.ledger
-            → RunsCalm size b result.power result.payloads result.ledger }
+        ensures runs { (size : Size) (b : Bench) → LeftAt size b site → RunsCalm size b result }
     {
-        Going {
+        let bench = LiveBench {
             power: Power::Off(site.off),
             payloads: site.payloads,
+            fill: Fill::Old,
+            refused: false,
+        };
+        Going {
+            bench,
             ledger: site.ledger,
         }
     }
 
     /// Turns the board off.
     pub fn into_site(self) -> Site
-        ensures runs { (size : Size) (b : Bench) → Runs size b self.power self.payloads self.ledger → RunsAt size (off b) result }
-        ensures disk { result.off.disk ≡ disk_at self.power }
+        ensures runs { (size : Size) (b : Bench) → Runs size b self → RunsAt size (off b) result }
+        ensures disk { result.off.disk ≡ own_disk self }
         ensures ledger { result.ledger ≡ self.ledger }
     {
+        let LiveBench {
+            power,
+            payloads,
+            ..
+        } = self.bench;
+        let disk = disk_left(power);
         Site {
-            off: OffDisk {
-                disk: disk_left(self.power),
-            },
-            payloads: self.payloads,
+            off: OffDisk { disk },
+            payloads,
             ledger: self.ledger,
         }
     }
 
     /// Whether an armed cut has struck.
     pub fn is_struck(&self) -> bool
-        ensures calm { result ≡ false → IsUnstruck self.now.power }
-        ensures exact { (size : Size) (b : Bench) → Agrees size b self.now.power → result ≡ b.fault_state.struck }
+        ensures calm { result ≡ false → IsUnstruck self.now.bench.power }
+        ensures exact { (size : Size) (b : Bench) → Agrees size b self.now.bench.power → result ≡ b.fault_state.struck }
     {
-        struck(&self.power)
+        struck(&self.bench.power)
     }
 
     /// Whether a run of lines ends here: an armed cut has struck, or the board is off where that was asked for.
     fn stops(&self, until_off: bool) -> bool
-        ensures calm { result ≡ false → IsUnstruck self.now.power }
-        ensures exact { result ≡ false → (size : Size) (b : Bench) → Agrees size b self.now.power
+        ensures calm { result ≡ false → IsUnstruck self.now.bench.power }
+        ensures exact { result ≡ false → (size : Size) (b : Bench) → Agrees size b self.now.bench.power
             → b.fault_state.struck ≡ false }
-        ensures off { result ≡ true → StopsOff self.now.power }
-        ensures struck { result ≡ true → until_off ≡ false → (size : Size) (b : Bench) → Agrees size b self.now.power
+        ensures off { result ≡ true → StopsOff self.now.bench.power }
+        ensures struck { result ≡ true → until_off ≡ false → (size : Size) (b : Bench) → Agrees size b self.now.bench.power
             → b.fault_state.struck ≡ true }
     {
         if self.is_struck() {
             return true;
         }
-        until_off && is_off(&self.power)
-    }
-
-    /// Runs a line that moves no hart, as far as no armed cut strikes. Answers what it says and, of one that powers a board on whose open
-    /// found a state, the state then. The board stays where it is for a command: a run of many would pay for moving it more than for them.
-    fn alone<C: Crew>(
-        &mut self,
-        setting: &Setting<'_, C>,
-        line: &Line,
-    ) -> Result<(Answer, Option<Durable>), AllocError>
-        requires range { IsLineInRange setting.now.shape.now line.now }
-        requires calm { IsUnstruck self.old.power }
-        ensures said { IfOk result (λ did. (b : Bench) → IsBench setting.now.shape.now b self.old.power self.old.payloads
-            → (new : Bench) × Step setting.now.shape.now line.now b did.0 new × TellsIts line.now did.0 did.1 new
-            × Matches setting.now.shape.now new self.new.power self.new.payloads) }
-        ensures ledger { self.new.ledger ≡ self.old.ledger }
-    {
-        match line {
-            Line::Command(command) => Ok((console(*command, &mut self.power), None)),
-            Line::On(mode) => {
-                let asked = (setting.alloc, *mode, &self.payloads);
-                Ok(replace_with(&mut self.power, asked, powered))
-            }
-            _ => {
-                let answer = replace_with(self, (setting, line), moved)?;
-                Ok((answer, None))
-            }
-        }
+        until_off && is_off(&self.bench.power)
     }
 
     /// Runs one line, and the ledger follows it. An armed cut that struck within it is not made yet. Where that is refused the run is of
@@ -199,14 +171,14 @@ impl Going {
     ) -> Result<(), AllocError>
         requires range { IsLineInRange setting.now.shape.now line.now }
         requires plain { IsPlainLine line.now }
-        requires calm { IsUnstruck self.old.power }
-        ensures runs { OnOk result ((b : Bench) → RunsCalm setting.now.shape.now b self.old.power self.old.payloads self.old.ledger
-            → LineMoves setting.now.shape.now line.now b self.new.power self.new.payloads self.old.ledger self.new.ledger) }
+        requires calm { IsUnstruck self.old.bench.power }
+        ensures runs { OnOk result ((b : Bench) → RunsCalm setting.now.shape.now b self.old
+            → LineMoves setting.now.shape.now line.now b self.old self.new) }
     {
         if is_of_harts(line) {
             return self.harts(setting, line);
         }
-        let (answer, now) = self.alone(setting, line)?;
+        let (answer, now) = self.bench.alone(setting, line)?;
         record_line(&mut self.ledger, setting.alloc, line, &answer, now)
     }
 
@@ -220,16 +192,16 @@ impl Going {
     ) -> Result<usize, AllocError>
         requires ranges { All (IsLineInRange setting.now.shape.now) lines.now }
         requires plain { All IsPlainLine lines.now }
-        requires calm { IsUnstruck self.old.power }
+        requires calm { IsUnstruck self.old.bench.power }
         ensures ran { IfOk result (λ count. (b : Bench)
-            → RunsCalm setting.now.shape.now b self.old.power self.old.payloads self.old.ledger
-            → RanTo setting.now.shape.now b (take count lines.now) self.new.power self.new.payloads self.old.ledger self.new.ledger) }
+            → RunsCalm setting.now.shape.now b self.old
+            → RanTo setting.now.shape.now b (take count lines.now) self.old self.new) }
         ensures took { IfOk result (λ count. (b : Bench)
-            → RunsCalm setting.now.shape.now b self.old.power self.old.payloads self.old.ledger
-            → RunTook setting.now.shape.now (take count lines.now) (disk_at self.old.power) (disk_at self.new.power)) }
-        ensures stops { IfOk result (λ count. until_off ≡ true → count < length lines.now → StopsOff self.new.power) }
+            → RunsCalm setting.now.shape.now b self.old
+            → RunTook setting.now.shape.now (take count lines.now) (own_disk self.old) (own_disk self.new)) }
+        ensures stops { IfOk result (λ count. until_off ≡ true → count < length lines.now → StopsOff self.new.bench.power) }
         // Where it is not asked to end at a board that is off, only an armed cut that struck ends it early.
-        ensures whole { IfOk result (λ count. until_off ≡ false → (size : Size) (b : Bench) → Agrees size b self.new.power
+        ensures whole { IfOk result (λ count. until_off ≡ false → (size : Size) (b : Bench) → Agrees size b self.new.bench.power
             → b.fault_state.struck ≡ false → count ≡ length lines.now) }
         ensures few { IfOk result (λ count. count ≤ length lines.now) }
         ensures some { IfOk result (λ count. 0 < length lines.now → 0 < count) }
@@ -244,54 +216,4 @@ impl Going {
         }
         Ok(count)
     }
-}
-
-/// Powers a board on that is off, by that mode and with these payloads. Answers what it says and, where the open found a state, the one then.
-fn powered(power: Power, asked: (Global, BootMode, &Payloads)) -> (Power, (Answer, Option<Durable>))
-    ensures said { (size : Size) (b : Bench) → Agrees size b power → asked.entry.2.now ≡ b.payloads
-        → StepsTo size b result.0 (λ new. OnStep size b.power asked.entry.1 b result.1.0 new × TellsNow result.1.0.found result.1.1 new) }
-{
-    let (alloc, mode, payloads) = asked;
-    match power {
-        Power::Off(off) => {
-            let (power, answer, now) = power_on(alloc, mode, off, payloads);
-            (power, (answer, now))
-        }
-        Power::On(board) => {
-            let busy = Answer {
-                found: None,
-                line: Printed::Busy,
-            };
-            (Power::On(board), (busy, None))
-        }
-    }
-}
-
-/// A run after a line, as far as no armed cut strikes, and what that answers; the ledger does not follow it yet. It is passed by name, and so
-/// asks for `sync`, which the bound of `C` would give it else.
-fn moved<C: Crew>(
-    going: Going,
-    asked: (&Setting<'_, C>, &Line),
-) -> (Going, Result<Answer, AllocError>)
-    requires sync { IsSync C.Handle.row }
-    requires range { IsLineInRange asked.0.now.shape.now asked.1.now }
-    requires calm { IsUnstruck going.power }
-    ensures said { IfOk result.1 (λ answer. (b : Bench) → IsBench asked.entry.0.now.shape.now b going.power going.payloads
-        → (new : Bench) × Step asked.entry.0.now.shape.now asked.entry.1.now b answer new
-        × Matches asked.entry.0.now.shape.now new result.0.power result.0.payloads) }
-    ensures ledger { result.0.ledger ≡ going.ledger }
-{
-    let (setting, line) = asked;
-    let Going {
-        power,
-        mut payloads,
-        ledger,
-    } = going;
-    let (power, answer) = line_alone(setting, line, power, &mut payloads);
-    let after = Going {
-        power,
-        payloads,
-        ledger,
-    };
-    (after, answer)
 }

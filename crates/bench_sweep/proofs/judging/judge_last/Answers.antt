@@ -10,7 +10,7 @@ pub judge_left-requires-clause-left : goal.judge_left-requires-clause-left
 judge_left-requires-clause-left g c κs within =
     let size = c.args.runner.now.setting.shape.now in
     let sits = c.requires.sits in
-    (c.args.site.payloads, unpowered sits.0, left_by size sits.0 c.args.site.off c.cut_off-off.result c.args.site.payloads _ c.args.site.ledger c.args.site.ledger sits.1 (c.cut_off-off.ensures.left size sits.0 sits.1.agrees) refl (λ k t. t))
+    (c.args.site.payloads, unpowered sits.0, left_by size sits.0 c.args.site c.cut_off-off.result _ _ sits.1 (c.cut_off-off.ensures.left size sits.0 sits.1.agrees) refl (λ k t. t))
 
 pub returns : goal.returns
 returns g c = record {

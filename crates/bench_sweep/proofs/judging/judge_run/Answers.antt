@@ -10,7 +10,7 @@ pub judge_left-requires-clause-left : goal.judge_left-requires-clause-left
 judge_left-requires-clause-left g c κs within =
     let size = c.args.runner.now.setting.shape.now in
     let sits = c.requires.sits in
-    (c.args.site.now.payloads, unpowered sits.0, left_by size sits.0 c.args.site.now.off c.in_ok-off.off c.args.site.now.payloads _ c.args.site.now.ledger c.args.site.now.ledger sits.1 (c.in_ok-off.ensures.left size sits.0 sits.1.agrees) refl (λ k t. t))
+    (c.args.site.now.payloads, unpowered sits.0, left_by size sits.0 c.args.site.now c.in_ok-off.off _ _ sits.1 (c.in_ok-off.ensures.left size sits.0 sits.1.agrees) refl (λ k t. t))
 
 pub returns : goal.returns
 returns g c = record {

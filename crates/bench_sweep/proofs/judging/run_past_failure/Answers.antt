@@ -35,7 +35,7 @@ returns g c = record {
       let all : c.in-Ok.count ≡ length lines = omega (arith, c.in-Ok.ensures.few, c.in_ok-left.ensures.whole) in
       let none = c.none-made.ensures in
       judged_at Fails c.args.point.caller c.args.point.number _ _ _
-      (λ row caller number is. runs_with size Fails c.args.point b lines c.in-Ok.count _ _ _ _ c.in-Ok.ensures.few ran (all, left.0, left.1, left.2) c.in_ok-left.left.off.disk row caller number is)
+      (λ row caller number is. runs_with size Fails c.args.point b lines c.in-Ok.count _ _ c.in-Ok.ensures.few ran (all, left.0, left.1, left.2) c.in_ok-left.left.off.disk row caller number is)
       (judged_more _ _ _ [] _ (judged_none _ _ none.rows none.runs none.right) (c.in_ok-judge_last.ensures.kept (off ran.bench) left.3)));
 }
 

@@ -31,7 +31,7 @@ returns g c = record {
       let ran = c.in-Ok.ensures.ran (armed_with (fault_at Cuts c.args.point.caller c.args.point.call) b) calm in
       let left = c.in_ok-left.ensures.runs size ran.bench ran.runs in
       judged_at Cuts c.args.point.caller c.args.point.number _ _ rows
-      (λ row caller number is. runs_with size Cuts c.args.point b lines c.in-Ok._count _ _ _ _ c.in-Ok.ensures.few ran (left.0, left.1) c.in_ok-left.left.off.disk row caller number is)
+      (λ row caller number is. runs_with size Cuts c.args.point b lines c.in-Ok._count _ _ c.in-Ok.ensures.few ran (left.0, left.1) c.in_ok-left.left.off.disk row caller number is)
       (did (off ran.bench) left.2)))
       c.judge_each_fill.ensures.judged);
 }

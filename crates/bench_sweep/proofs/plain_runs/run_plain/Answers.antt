@@ -15,9 +15,9 @@ loop-from-init g c =
     let copy = c.in_ok-site.ensures in
     let sits = c.requires.sits in record {
       within = omega arith;
-      sits = (unpowered sits.0, off_sits size (unpowered sits.0) _ _ _ (copy.runs size sits.0 sits.1));
+      sits = (unpowered sits.0, off_sits size (unpowered sits.0) _ (copy.runs size sits.0 sits.1));
       took = copy.calls;
-      lives = λ b r. none_yet _ (unpowered b) _ _ (off_sits size (unpowered b) _ _ _ (copy.runs size b r));
+      lives = λ b r. none_yet _ (unpowered b) _ _ (off_sits size (unpowered b) _ (copy.runs size b r));
     }
 
 pub stretch_of-lived-requires-clause-lines : goal.stretch_of-lived-requires-clause-lines

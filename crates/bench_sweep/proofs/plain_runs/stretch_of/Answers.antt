@@ -2,8 +2,7 @@ use Rattle.std.proofs.Common.{◌∙◌, ap, refl, sym, subst, take}
 use Rattle.simdisk.specs.declared.SimDisk.{SimDisk}
 use Rattle.bench_report.specs.Happens.{off, unpowered}
 use Rattle.bench_sweep.specs.Points.{calls_of}
-use Rattle.bench_sweep.specs.Took.{RunTook, disk_at}
-use Rattle.bench_sweep.proofs.Left.{calm_off}
+use Rattle.bench_sweep.specs.Took.{RunTook, own_disk}
 use Rattle.bench_sweep.proofs.Ran.{life_of}
 use Rattle.bench_sweep.proofs.Took.{took_since}
 use Rattle.std.proofs.lemmas.Result.{IfOk-from_err}
@@ -12,16 +11,16 @@ use Rattle.bench_sweep.proofs.plain_runs.stretch_of.Goals as goal
 pub returns-clause-lives : goal.returns-clause-lives
 returns-clause-lives g c = λ b r.
     let size = c.args.runner.now.setting.shape.now in
-    let calm = c.from-plain.ensures.runs size (unpowered b) (calm_off size (unpowered b) _ _ _ (c.in_ok-copy.ensures.runs size b r)) in
+    let calm = c.from-plain.ensures.runs size (unpowered b) (c.in_ok-copy.ensures.runs size b r) in
     let ran = c.in-Ok.ensures.ran (unpowered b) calm in
     let left = c.in_ok-next.ensures.runs size ran.bench ran.runs in
-    life_of size b c.args.runner.now.lines.now _ _ _ _ _ _ ran (left.0, left.2) (c.in-Ok.ensures.stops refl)
+    life_of size b c.args.runner.now.lines.now _ _ _ _ ran (left.0, left.2) (c.in-Ok.ensures.stops refl)
 
 pub returns-clause-sits : goal.returns-clause-sits
 returns-clause-sits g c =
     let size = c.args.runner.now.setting.shape.now in
     let sits = c.requires.sits in
-    let calm = c.from-plain.ensures.runs size (unpowered sits.0) (calm_off size (unpowered sits.0) _ _ _ (c.in_ok-copy.ensures.runs size sits.0 sits.1)) in
+    let calm = c.from-plain.ensures.runs size (unpowered sits.0) (c.in_ok-copy.ensures.runs size sits.0 sits.1) in
     let ran = c.in-Ok.ensures.ran (unpowered sits.0) calm in
     let left = c.in_ok-next.ensures.runs size ran.bench ran.runs in
     (off ran.bench, left.2)
@@ -31,8 +30,8 @@ returns-clause-took g c =
     let size = c.args.runner.now.setting.shape.now in
     let lines = take c.in-Ok.count c.args.runner.now.lines.now in
     let sits = c.requires.sits in
-    let begun = disk_at c.from-plain.result.power in
-    let calm = c.from-plain.ensures.runs size (unpowered sits.0) (calm_off size (unpowered sits.0) _ _ _ (c.in_ok-copy.ensures.runs size sits.0 sits.1)) in
+    let begun = own_disk c.from-plain.result in
+    let calm = c.from-plain.ensures.runs size (unpowered sits.0) (c.in_ok-copy.ensures.runs size sits.0 sits.1) in
     let D : SimDisk → Type 0 = λ d. RunTook size lines begun d in
     took_since size lines c.args.site.now.off.disk begun _ (λ caller. ap (λ (d : SimDisk). calls_of caller d) c.from-plain.ensures.disk ∙ c.in_ok-copy.ensures.calls caller)
     (subst D (sym c.in_ok-next.ensures.disk) (c.in-Ok.ensures.took (unpowered sits.0) calm))

@@ -1,12 +1,12 @@
 use Rattle.std.proofs.Common.{true, false, refl, sym, ◌∙◌, ◌+◌, ℕ, subst, take, arith, ◌≡◌}
 use Rattle.bench_sweep.specs.Runs.{RanTo}
-use Rattle.bench_sweep.specs.Took.{RunTook, disk_at}
+use Rattle.bench_sweep.specs.Took.{RunTook, own_disk}
 use Rattle.bench_sweep.proofs.Ran.{ran_none, ran_more, ran_line, ran_calm}
 use Rattle.bench_sweep.proofs.Took.{moved_took, took_more}
 use Rattle.bench_sweep.proofs.site.Going.run_lines.Goals as goal
 
 pub loop-line-init : goal.loop-line-init
-loop-line-init g c = record { calm = c.requires.calm; ran = λ b r. ran_none _ b _ _ _ _ refl r; took = λ b r caller. refl; count = refl }
+loop-line-init g c = record { calm = c.requires.calm; ran = λ b r. ran_none _ b _ r; took = λ b r caller. refl; count = refl }
 
 pub loop-line-preserved : goal.loop-line-preserved
 loop-line-preserved g c =
@@ -20,10 +20,10 @@ loop-line-preserved g c =
       ran = λ b r.
           let far = i.ran b r in
           let m = c.in_ok-run_line.ensures.runs far.bench far.runs in
-          ran_more size b ls k line line _ _ _ _ _ _ _ c.loop-line-test.true c.line-item.is far m (c.stops.ensures.exact c.if-stops.false size m.bench m.runs.agrees);
+          ran_more size b ls k line line _ _ _ c.loop-line-test.true c.line-item.is far m (c.stops.ensures.exact c.if-stops.false size m.bench m.runs.agrees);
       took = λ b r.
           let far = i.ran b r in
-          took_more size ls k line line _ (disk_at c.loop-line.self.power) _ c.loop-line-test.true c.line-item.is (i.took b r) (moved_took size line far.bench _ _ _ _ _ _ far.runs (c.in_ok-run_line.ensures.runs far.bench far.runs));
+          took_more size ls k line line _ (own_disk c.loop-line.self) _ c.loop-line-test.true c.line-item.is (i.took b r) (moved_took size line far.bench _ _ far.runs (c.in_ok-run_line.ensures.runs far.bench far.runs));
       count = omega (arith, i.count);
     }
 
@@ -33,8 +33,8 @@ returns-then-stops-clause-ran g c = λ b r.
     let i = c.loop-line.invariant in
     let far = i.ran b r in
     let count : c.loop-line.line-index + 1 ≡ c.loop-line.count + 1 = omega (arith, i.count) in
-    let P : ℕ → Type 0 = λ n. RanTo size b (take n c.args.lines.now) c.run_line.new.self.power c.run_line.new.self.payloads c.args.self.now.ledger c.run_line.new.self.ledger in
-    subst P count (ran_line size b c.args.lines.now c.loop-line.line-index c.line-item.result c.line-item.result _ _ _ _ _ _ _ c.loop-line-test.true c.line-item.is far (c.in_ok-run_line.ensures.runs far.bench far.runs))
+    let P : ℕ → Type 0 = λ n. RanTo size b (take n c.args.lines.now) c.args.self.now c.run_line.new.self in
+    subst P count (ran_line size b c.args.lines.now c.loop-line.line-index c.line-item.result c.line-item.result _ _ _ c.loop-line-test.true c.line-item.is far (c.in_ok-run_line.ensures.runs far.bench far.runs))
 
 pub returns-then-stops-clause-took : goal.returns-then-stops-clause-took
 returns-then-stops-clause-took g c = λ b r.
@@ -43,10 +43,10 @@ returns-then-stops-clause-took g c = λ b r.
     let i = c.loop-line.invariant in
     let far = i.ran b r in
     let count : c.loop-line.line-index + 1 ≡ c.loop-line.count + 1 = omega (arith, i.count) in
-    let P : ℕ → Type 0 = λ n. RunTook size (take n c.args.lines.now) (disk_at c.args.self.now.power) (disk_at c.run_line.new.self.power) in
+    let P : ℕ → Type 0 = λ n. RunTook size (take n c.args.lines.now) (own_disk c.args.self.now) (own_disk c.run_line.new.self) in
     subst P count
-    (took_more size c.args.lines.now c.loop-line.line-index line line _ (disk_at c.loop-line.self.power) _ c.loop-line-test.true c.line-item.is (i.took b r)
-    (moved_took size line far.bench _ _ _ _ _ _ far.runs (c.in_ok-run_line.ensures.runs far.bench far.runs)))
+    (took_more size c.args.lines.now c.loop-line.line-index line line _ (own_disk c.loop-line.self) _ c.loop-line-test.true c.line-item.is (i.took b r)
+    (moved_took size line far.bench _ _ far.runs (c.in_ok-run_line.ensures.runs far.bench far.runs)))
 
 pub returns-then-stops-clause-stops : goal.returns-then-stops-clause-stops
 returns-then-stops-clause-stops g c = λ until less. c.stops.ensures.off c.if-stops.true
@@ -61,13 +61,13 @@ pub returns-clause-ran : goal.returns-clause-ran
 returns-clause-ran g c = λ b r.
     let size = c.args.setting.now.shape.now in
     let i = c.loop-line.invariant in
-    let P : ℕ → Type 0 = λ n. RanTo size b (take n c.args.lines.now) c.loop-line.self.power c.loop-line.self.payloads c.args.self.now.ledger c.loop-line.self.ledger in
-    subst P (sym i.count) (ran_calm size b _ _ _ _ _ (i.ran b r))
+    let P : ℕ → Type 0 = λ n. RanTo size b (take n c.args.lines.now) c.args.self.now c.loop-line.self in
+    subst P (sym i.count) (ran_calm size b _ _ _ (i.ran b r))
 
 pub returns-clause-took : goal.returns-clause-took
 returns-clause-took g c = λ b r.
     let i = c.loop-line.invariant in
-    let P : ℕ → Type 0 = λ n. RunTook c.args.setting.now.shape.now (take n c.args.lines.now) (disk_at c.args.self.now.power) (disk_at c.loop-line.self.power) in
+    let P : ℕ → Type 0 = λ n. RunTook c.args.setting.now.shape.now (take n c.args.lines.now) (own_disk c.args.self.now) (own_disk c.loop-line.self) in
     subst P (sym i.count) (i.took b r)
 
 pub returns-clause-stops : goal.returns-clause-stops

@@ -3,7 +3,7 @@ use Rattle.bench_sweep.proofs.Ran.{struck_stops}
 use Rattle.bench_sweep.proofs.site.Going.stops.Goals as goal
 
 pub returns-then-is_struck-clause-off : goal.returns-then-is_struck-clause-off
-returns-then-is_struck-clause-off c = λ stops. struck_stops c.args.self.now.power _ c.if-is_struck.true c.is_struck.ensures.exact
+returns-then-is_struck-clause-off c = λ stops. struck_stops c.args.self.now.bench.power _ c.if-is_struck.true c.is_struck.ensures.exact
 
 pub returns-then-until_off-clause-exact : goal.returns-then-until_off-clause-exact
 returns-then-until_off-clause-exact c = λ goes size b agrees. sym (c.is_struck.ensures.exact size b agrees) ∙ c.if-is_struck.false

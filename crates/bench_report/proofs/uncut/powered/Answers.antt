@@ -1,10 +1,11 @@
 use Rattle.std.proofs.Common.{Option, refl, sym, subst}
+use Rattle.report_lines.specs.declared.printed.Answer.{Answer}
 use Rattle.bench_report.specs.Bench.{BenchLife}
 use Rattle.bench_report.specs.Agree.{Agrees}
 use Rattle.bench_report.specs.Steps.{OnStep}
 use Rattle.bench_report.specs.declared.power.Power.{Power}
-use Rattle.bench_sweep.proofs.Left.{busy}
-use Rattle.bench_sweep.proofs.sites.powered.Goals as goal
+use Rattle.bench_report.proofs.Still.{busy}
+use Rattle.bench_report.proofs.uncut.powered.Goals as goal
 
 pub returns-in-Off : goal.returns-in-Off
 returns-in-Off c = record {
@@ -21,5 +22,5 @@ returns-in-On c = record {
   said = λ size b agrees same.
       (let A : Power → Type 0 = λ p. Agrees size b p in
       let on = subst A c.in-On.is agrees in
-      (b, (busy size c.args.asked.1 b b.power c.in-On.board on.0, tt), on, refl));
+      (let S : Answer → Type 0 = λ a. OnStep size b.power c.args.asked.1 b a b in (b, (subst S (sym c.says.ensures) (busy size c.args.asked.1 b b.power c.in-On.board on.0), rw c.says.ensures tt), on, refl)));
 }
