@@ -1,13 +1,9 @@
 -- The script of an input that is read up to a bound: what more bytes than any script has say is told by the
 -- first of them.
 use Rattle.std.proofs.Common.{◌≡◌, ℕ, ◌+◌, ◌-◌, ◌*◌, ◌≤◌, ◌<◌, Bool, true, false, List, [], ◌∷◌, ◌++◌, length, take, All, Option, Some, None, IfSome, Ok, ◌⊎◌, inl, inr, ◌==◌, if◌then◌else◌, zero, suc, refl, ap, ◌∙◌, arith}
-use Rattle.std.proofs.lemmas.Bool.{cases_lt, eqb-true}
-use Rattle.std.proofs.lemmas.Bool.Decides.{nat_tests}
-use Rattle.std.proofs.lemmas.List.{take_all, length-take-le, take-append-le}
-use Rattle.std.proofs.lemmas.List.Elements.{All-cons, All-head, All-nil, All-tail}
+use Rattle.std.proofs.lemmas.{Bool.{cases_lt, eqb-true, Decides.nat_tests}, List.{take_all, length-take-le, take-append-le}}
+use Rattle.std.{proofs.{lemmas.List.Elements.{All-cons, All-head, All-nil, All-tail}, Math.Seq.take-append-add}, specs.List.slice_split}
 use Rattle.std.proofs.lemmas.List.Splits.{length-slice_split, slice_split_none, slice_split_at}
-use Rattle.std.proofs.Math.Seq.{take-append-add}
-use Rattle.std.specs.List.{slice_split}
 use Rattle.board_model.specs.Shapes.{Size}
 use Rattle.script_lang.specs.Words.{words_of}
 use Rattle.script_lang.specs.Scripts.{◌>>>◌, is_sound, whole_lines, lines_of, rest_of, board_of, from_board, lines_from, script_of}

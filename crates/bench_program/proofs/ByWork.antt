@@ -1,8 +1,7 @@
 -- What comes of what was done for a work.
 use Rattle.std.proofs.Common.{◌≡◌, ℕ, List, Option, Result, Ok, Err, IfOk, IfErr, OnOk, MatchResult, refl, sym, subst}
 use Rattle.board_model.specs.declared.refusal.Refusal.{Refusal}
-use Rattle.bench_program.specs.Written.{IsMade, IsRefusedWith}
-use Rattle.bench_program.specs.declared.usage.Work.{Work}
+use Rattle.bench_program.specs.{Written.{IsMade, IsRefusedWith}, declared.usage.Work.Work}
 
 pub made_by : {A E : Type 0} (done : Result A E) (r : Result ℕ Refusal) (f : E → Refusal) (P : A → Type 0) (Q : Type 0) → MatchResult done (λ x. r ≡ Ok 0) (λ e. r ≡ Err (f e)) → ((x : A) → P x → Q) → IfOk done P
     → IfOk r (λ differ. (differ ≡ 0) × Q)

@@ -1,12 +1,8 @@
 -- Options that were done over a source and files.
-use Rattle.std.proofs.Common.{◌≡◌, ◌⊎◌, ◌<◌, inl, ℕ, Bool, List, Option, Result, IfSome, OnOk, subst}
-use Rattle.std.proofs.lemmas.Result.{on_ok_weaker}
+use Rattle.std.proofs.{Common.{◌≡◌, ◌⊎◌, ◌<◌, inl, ℕ, Bool, List, Option, Result, IfSome, OnOk, subst}, lemmas.Result.on_ok_weaker}
 use Rattle.board_files.specs.Named.{AreFilesOf}
-use Rattle.bench_program.specs.Usage.{payload_files}
-use Rattle.bench_program.specs.Written.{AreDone, IsFaultIn, IsFaultOf, IsReadOf, IsWritten, source_of}
-use Rattle.bench_program.specs.declared.fault.BenchFault.{BenchFault}
-use Rattle.bench_program.specs.declared.usage.BenchOptions.{BenchOptions}
-use Rattle.bench_program.proofs.Bounded.{read_says}
+use Rattle.bench_program.specs.{Usage.payload_files, Written.{AreDone, IsFaultIn, IsFaultOf, IsReadOf, IsWritten, source_of}}
+use Rattle.bench_program.{specs.declared.{fault.BenchFault.BenchFault, usage.BenchOptions.BenchOptions}, proofs.Bounded.read_says}
 
 pub done_of : {T X : Type 0} (r : Result T X) (D E F : Type 0) → (D → E) → OnOk r (D × F) → OnOk r (E × F)
 done_of r D E F f ok = on_ok_weaker r (λ w. (f w.0, w.1)) ok

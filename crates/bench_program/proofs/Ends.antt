@@ -1,20 +1,13 @@
 -- What is read through an empty buffer, and which errors of a command line ask for nothing more.
 use Rattle.std.proofs.Common.{◌≡◌, ◌==◌, ℕ, List, [], Option, None, Some, Result, Ok, Err, ◌⊎◌, inl, inr, IfSome, IfErr, OnOk, if◌then◌else◌, refl, subst}
-use Rattle.std.specs.Io.Buffered.{reader_buffer, reader_capacity, reader_inner, reader_remaining}
-use Rattle.std.specs.Io.KnownBytes.{prepend_known}
+use Rattle.std.specs.Io.{Buffered.{reader_buffer, reader_capacity, reader_inner, reader_remaining}, KnownBytes.prepend_known}
 use Rattle.std.specs.declared.io.buffered.BufReader.{BufReader}
-use Rattle.clap.specs.Words.{App, HasKind, IsAmong, fault_of, kind_of}
-use Rattle.clap.specs.declared.builder.value_parser.ValueParser.{ValueParser}
-use Rattle.clap.specs.declared.error.Error.{Error}
-use Rattle.clap.specs.declared.error.kind.ErrorKind.{ErrorKind}
-use Rattle.clap.specs.declared.error.kind.ErrorKind.TheVariants.{ArgumentConflict, OutOfMemory}
+use Rattle.clap.specs.{Words.{App, HasKind, IsAmong, fault_of, kind_of}, declared.builder.value_parser.ValueParser.ValueParser}
+use Rattle.clap.specs.declared.error.{Error.Error, kind.ErrorKind.{ErrorKind, TheVariants.{ArgumentConflict, OutOfMemory}}}
 use Rattle.board_model.specs.declared.refusal.Refusal.TheVariants.{Memory}
-use Rattle.command_line.specs.Kinds.{no_work}
-use Rattle.command_line.specs.declared.NoWork.{NoWork}
+use Rattle.command_line.specs.{Kinds.no_work, declared.NoWork.NoWork}
 use Rattle.command_line.specs.declared.NoWork.TheVariants as whys
-use Rattle.bench_program.specs.Faults.{without_work}
-use Rattle.bench_program.specs.Usage.{sbibench, NamesNoWork}
-use Rattle.bench_program.specs.declared.fault.BenchFault.{BenchFault}
+use Rattle.bench_program.specs.{Faults.without_work, Usage.{sbibench, NamesNoWork}, declared.fault.BenchFault.BenchFault}
 use Rattle.bench_program.specs.declared.fault.BenchFault.TheVariants.{Usage, Refused, Wrong}
 
 -- a buffer of some size that holds nothing has just the bytes below it

@@ -1,15 +1,12 @@
 -- Whatever the words ask for, the bench of schedules runs few enough.
 use Rattle.std.proofs.Common.{◌≡◌, ◌≤◌, ℕ, Bool, true, false, List, Option, None, Some, IfSome, if◌then◌else◌, nat_lt, codes, arith, refl}
 use Rattle.std.proofs.lemmas.Bool.Decides.{nat_tests}
-use Rattle.clap.specs.Words.{first_value}
-use Rattle.clap.specs.declared.parser.matches.Found.{Found}
+use Rattle.clap.specs.{Words.first_value, declared.parser.matches.Found.Found}
 use Rattle.crew.specs.declared.part.Part.{Part}
 use Rattle.script_lang.specs.Words.{number_of, seed_of}
 use Rattle.bench_sweep.specs.declared.points.BenchKind.{BenchKind}
 use Rattle.bench_program.specs.Usage.{Flags, IsBounded, bench_or_row, compare_or_show, number_up_to, part_named, parted, row_numbered, row_of, savers_of, schedules_by, show_number, shrink_number, with_part, with_quiet, with_tap, without_benches, without_schedules, work_asked, work_named, work_of_flags, work_without}
-use Rattle.bench_program.specs.declared.usage.Savers.{Savers}
-use Rattle.bench_program.specs.declared.usage.Work.{Work}
-use Rattle.bench_program.specs.declared.usage.Work.TheVariants.{Report, Judge, ShowRow, Compare, Show, Shrink}
+use Rattle.bench_program.specs.declared.usage.{Savers.Savers, Work.{Work, TheVariants.{Report, Judge, ShowRow, Compare, Show, Shrink}}}
 
 abbrev AreFew : Option Work → Type 0
 AreFew work = IfSome work (λ w. IsBounded w)

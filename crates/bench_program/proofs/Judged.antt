@@ -1,23 +1,14 @@
 -- What a work made, and how it ended: what the writer held back is handed on after it.
 use Rattle.std.proofs.Common.{◌≡◌, ◌∙◌, ◌<◌, inl, inr, ℕ, Bool, true, false, List, Option, None, Some, Result, Ok, Err, IfOk, IfErr, OnOk, sym, subst, arith}
-use Rattle.std.proofs.lemmas.Result.{on_ok_weaker, IfErr-weaker}
-use Rattle.std.specs.Io.KnownBytes.{Appends, Keeps}
-use Rattle.board_model.specs.declared.refusal.Refusal.{Refusal}
-use Rattle.board_model.specs.declared.refusal.Refusal.TheVariants.{Output}
-use Rattle.bench_sweep.specs.declared.judges.Sweep.{Sweep}
-use Rattle.bench_sweep.specs.declared.plan.SweepPlan.{SweepPlan}
-use Rattle.bench_sweep.specs.Swept.{IsBenchOf}
-use Rattle.bench_sweep.specs.Shown.{IsRowOf}
+use Rattle.std.{proofs.lemmas.Result.{on_ok_weaker, IfErr-weaker}, specs.Io.KnownBytes.{Appends, Keeps}}
+use Rattle.board_model.specs.declared.refusal.Refusal.{Refusal, TheVariants.Output}
+use Rattle.bench_sweep.specs.{declared.{judges.Sweep.Sweep, plan.SweepPlan.SweepPlan}, Swept.IsBenchOf, Shown.IsRowOf}
 use Rattle.bench_sweep.specs.declared.points.BenchKind.{BenchKind}
 use Rattle.script_lang.specs.Scripts.{script_of, Script as Said}
-use Rattle.bench_schedules.specs.declared.benches.SchedulePlan.{SchedulePlan}
-use Rattle.bench_schedules.specs.Shrunk.{Shrunk}
-use Rattle.bench_program.specs.declared.fault.BenchFault.{BenchFault}
-use Rattle.bench_program.specs.declared.usage.Work.{Work}
+use Rattle.bench_schedules.specs.{declared.benches.SchedulePlan.SchedulePlan, Shrunk.Shrunk}
+use Rattle.bench_program.{specs.{declared.{fault.BenchFault.BenchFault, usage.Work.Work}, Faults.IsEndOf}, proofs.Told.told}
 use Rattle.bench_program.specs.declared.usage.Work.TheVariants.{Report, Judge, ShowRow, Compare, Show, Shrink}
-use Rattle.bench_program.specs.Faults.{IsEndOf}
 use Rattle.bench_program.specs.Written.{IsCompared, IsFaultIn, IsMade, IsPut, IsRefusedWith, IsReported, IsShown, IsShrunk, MayTellWrong}
-use Rattle.bench_program.proofs.Told.{told}
 
 -- what is handed on stays written
 handed_on : (a b c : Option (List ℕ)) (x : List ℕ) → Appends a b x → Keeps b c → Appends a c x

@@ -1,7 +1,7 @@
 -- The part of two numbers.
 use Rattle.std.proofs.Common.{◌≡◌, ◌∙◌, ◌⊎◌, inl, inr, ℕ, ◌<◌, ◌≤◌, Option, None, Some, MatchOption, refl, ap, subst, arith}
-use denote.Struct.Props.{props}
 use Rattle.std.proofs.lemmas.Bool.{cases_lt}
+use denote.Struct.Props.{props}
 use Rattle.crew.specs.declared.part.Part.{Part}
 use Rattle.bench_program.specs.Usage.{part_between, part_if}
 

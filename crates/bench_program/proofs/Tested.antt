@@ -1,8 +1,6 @@
 -- Lines of a bench, one after another, as tests.
 use Rattle.std.proofs.Common.{◌≡◌, ◌∙◌, ℕ, ◌+◌, ◌-◌, ◌<◌, ◌≤◌, Bool, true, false, nat_eq, Bor, List, [], ◌∷◌, ◌++◌, Option, length, map, take, drop, get_or, append_assoc, length-drop, if◌then◌else◌, refl, sym, ap, subst, arith}
-use Rattle.std.proofs.lemmas.List.{append-nil, drop_more, take_all}
-use Rattle.std.specs.Io.KnownBytes.{Appends}
-use Rattle.std.specs.List.{starts_with}
+use Rattle.std.{proofs.lemmas.List.{append-nil, drop_more, take_all}, specs.{Io.KnownBytes.Appends, List.starts_with}}
 use Rattle.bench_program.specs.Taps.{failed_count, failed_lines, failed_text, has_word, last_behind, last_of_two, tells_apart}
 use Rattle.board_model.proofs.Written.{appended}
 

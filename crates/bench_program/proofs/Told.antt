@@ -1,19 +1,13 @@
 -- Which faults a work may have.
 use Rattle.std.proofs.Common.{◌≡◌, ◌∙◌, ◌⊎◌, inl, inr, ℕ, Bool, true, false, List, ap, Option, None, Some, IsSome, get_or, refl, sym, subst}
-use Rattle.board_model.specs.declared.refusal.Refusal.{Refusal}
-use Rattle.board_model.specs.declared.refusal.Refusal.TheVariants.{Memory}
-use Rattle.bench_program.specs.Written.{IsFaultIn, IsFaultOf, IsRefusedWith, IsUnread, IsFault}
-use Rattle.board_files.proofs.PayloadFaults.{file_fault}
 use Rattle.std.specs.declared.io.ErrorKind.{ErrorKind}
-use Rattle.command_line.specs.Faults.{fault_of_kind}
-use Rattle.command_line.specs.declared.fault.ProgramFault.{ProgramFault}
-use Rattle.command_line.specs.declared.fault.ProgramFault.TheVariants as causes
-use Rattle.bench_program.specs.Faults.{fault_by, unread_by}
-use Rattle.bench_program.specs.Usage.{IsNamedBy}
-use Rattle.bench_program.specs.declared.fault.BenchFault.{BenchFault}
-use Rattle.bench_program.specs.declared.fault.BenchFault.TheVariants.{Refused}
+use Rattle.board_model.specs.declared.refusal.Refusal.{Refusal, TheVariants.Memory}
+use Rattle.bench_program.specs.{Written.{IsFaultIn, IsFaultOf, IsRefusedWith, IsUnread, IsFault}, Faults.{fault_by, unread_by}}
+use Rattle.bench_program.specs.{Usage.IsNamedBy, declared.{fault.BenchFault.{BenchFault, TheVariants.Refused}, usage.Work.Work}}
 use Rattle.bench_program.specs.declared.usage.BenchOptions.{BenchOptions}
-use Rattle.bench_program.specs.declared.usage.Work.{Work}
+use Rattle.board_files.proofs.PayloadFaults.{file_fault}
+use Rattle.command_line.specs.{Faults.fault_of_kind, declared.fault.ProgramFault.ProgramFault}
+use Rattle.command_line.specs.declared.fault.ProgramFault.TheVariants as causes
 
 -- a refused work, whose reader may be gone
 pub told : (work : Work) (payloads : List (List ℕ)) (script : List ℕ) (gone : Bool) (e : Refusal) (fault : BenchFault) → fault ≡ fault_by gone e

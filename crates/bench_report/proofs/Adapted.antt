@@ -1,15 +1,10 @@
 -- The clauses of the layers below, in the words that the bench's lemmas use.
 use Rattle.std.proofs.Common.{◌≡◌, ◌≢◌, ◌⊎◌, ◌<◌, ℕ, ◌+◌, inl, inr, refl, sym, ◌∙◌, ap, subst, arith, [], ◌∷◌, ◌++◌, length, Some, None, Ok, true, false}
 use Rattle.std.proofs.lemmas.List.{length-append}
-use Rattle.board_model.specs.Durable.{DurableState, Change, refusal_of, after, ends_life}
-use Rattle.board_model.specs.Shapes.{Size}
-use Rattle.board_model.specs.Views.{number_of_refusal}
-use Rattle.board_model.specs.declared.refusal.Refusal.{Refusal}
-use Rattle.board_model.specs.declared.refusal.Refusal.TheVariants.{Device, Down, JournalFull}
-use Rattle.disk.specs.Facts.{Facts, Failed}
-use Rattle.disk.specs.FaultState.{FaultState, Cause}
-use Rattle.store.specs.Lives.{Life, now_of, Refused, Applied}
-use Rattle.store.specs.Opens.{CausedRefusal, FormatRefused, OpenRefused}
+use Rattle.board_model.specs.{Durable.{DurableState, Change, refusal_of, after, ends_life}, Shapes.Size, Views.number_of_refusal}
+use Rattle.board_model.specs.declared.refusal.Refusal.{Refusal, TheVariants.{Device, Down, JournalFull}}
+use Rattle.disk.specs.{Facts.{Facts, Failed}, FaultState.{FaultState, Cause}}
+use Rattle.store.specs.{Lives.{Life, now_of, Refused, Applied}, Opens.{CausedRefusal, FormatRefused, OpenRefused}}
 use Rattle.board.proofs.Issued.{fold_more}
 use Rattle.bench_report.specs.Views.{IsLife}
 

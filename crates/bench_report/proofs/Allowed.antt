@@ -1,9 +1,7 @@
 -- What a boot issues by a mode that the state allows.
 use Rattle.std.proofs.Common.{◌≡◌, List, [], Option, None, is_some, if◌then◌else◌, ℕ, sym, ap}
-use Rattle.board_model.specs.Durable.{DurableState, Change}
-use Rattle.board_model.specs.declared.boot_mode.BootMode.{BootMode}
-use Rattle.board.specs.Boots.{boot_refusal}
-use Rattle.board.specs.Moments.{commands_by}
+use Rattle.board_model.specs.{Durable.{DurableState, Change}, declared.boot_mode.BootMode.BootMode}
+use Rattle.board.specs.{Boots.boot_refusal, Moments.commands_by}
 use Rattle.bench_report.specs.PowerOns.{commands_of}
 
 abbrev unless : List Change → Option ℕ → List Change

@@ -1,9 +1,8 @@
 -- What the clauses of a line say that speak of one kind of line alone.
 use Rattle.std.proofs.Common.{◌≡◌, ℕ, ◌<◌, ◌≤◌, List, length, Result, Ok, IfOk, sym, ap, subst, arith}
-use Rattle.board_model.specs.Shapes.{Size}
 use Rattle.std.specs.declared.alloc.AllocError.{AllocError}
-use Rattle.script_lang.specs.Lines.{IsLineInRange}
-use Rattle.script_lang.specs.declared.line.Line.{Line}
+use Rattle.board_model.specs.Shapes.{Size}
+use Rattle.script_lang.specs.{Lines.IsLineInRange, declared.line.Line.Line}
 use Rattle.script_lang.specs.declared.line.Line.TheVariants as lines
 use Rattle.report_lines.specs.declared.printed.Answer.{Answer}
 use Rattle.simdisk.specs.declared.SimDisk.{SimDisk}

@@ -1,27 +1,17 @@
 -- A bench on whose disk a cut or a failure is armed.
 use Rattle.std.proofs.Common.{◌≡◌, ◌≤◌, true, false, ℕ, Option, None, Some, Result, sym, ◌∙◌, ap, subst, length}
-use Rattle.board_model.specs.Shapes.{Size}
 use Rattle.std.specs.declared.alloc.AllocError.{AllocError}
-use Rattle.disk.specs.Facts.{Facts, Unchanged}
-use Rattle.disk.specs.FaultState.{FaultState, fault_state_armed}
-use Rattle.disk.specs.declared.device.ArmedFault.{ArmedFault}
+use Rattle.board_model.specs.Shapes.{Size}
+use Rattle.disk.specs.{Facts.{Facts, Unchanged}, FaultState.{FaultState, fault_state_armed}, declared.device.ArmedFault.ArmedFault}
 use Rattle.simdisk.specs.declared.SimDisk.{SimDisk}
-use Rattle.store.specs.Lives.{Life as StoreLife}
-use Rattle.store.specs.Views.{life_of}
+use Rattle.store.specs.{Lives.{Life as StoreLife}, Views.life_of}
 use Rattle.bench_report.specs.Views.{SimBoard, store_in, machine_in, facts, fault_state, store_size, store_facts, store_fault_state, IsLife}
-use Rattle.bench_report.specs.Bench.{BenchLife, Bench}
-use Rattle.bench_report.specs.Asides.{AsideStep}
-use Rattle.bench_report.specs.Deeds.{WritePast}
-use Rattle.bench_report.specs.Happens.{armed_with}
-use Rattle.bench_report.specs.Agree.{LifeIs, BoardIs, DeviceIs, OffIs, OnIs, ArmsIts, CutsIts, PokesIts}
-use Rattle.bench_report.specs.Steps.{Step}
-use Rattle.bench_report.specs.declared.power.Power.{Power}
+use Rattle.bench_report.specs.{Bench.{BenchLife, Bench}, Asides.AsideStep, Deeds.WritePast, Happens.armed_with, Steps.Step}
+use Rattle.bench_report.specs.{Agree.{LifeIs, BoardIs, DeviceIs, OffIs, OnIs, ArmsIts, CutsIts, PokesIts}, declared.power.Power.Power}
+use Rattle.bench_report.proofs.{Ended.left_on, KeptDisks.{GoesOn, less}, Sides.sides_stay}
 use Rattle.report_lines.specs.declared.printed.Answer.{Answer}
 use Rattle.script_lang.specs.declared.line.Line.{Line}
 use Rattle.script_lang.specs.declared.line.Line.TheVariants as lines
-use Rattle.bench_report.proofs.Ended.{left_on}
-use Rattle.bench_report.proofs.KeptDisks.{GoesOn, less}
-use Rattle.bench_report.proofs.Sides.{sides_stay}
 
 device : (size : Size) (b : Bench) (a : ArmedFault) (m n : FaultState) (old new : Facts) → DeviceIs size b m old → Unchanged old new → n ≡ fault_state_armed a m → DeviceIs size (armed_with a b) n new
 device size b a m n old new was same is =

@@ -2,9 +2,7 @@
 use Rattle.std.proofs.Common.{◌≡◌, refl}
 use Rattle.script_lang.specs.declared.line.Line.{Line}
 use Rattle.script_lang.specs.declared.line.Line.TheVariants as lines
-use Rattle.bench_report.specs.Deeds.{deed_of, IsByFirmwareAlone}
-use Rattle.bench_report.specs.Prefix.{line_asks, asked_by}
-use Rattle.bench_report.specs.Reports.{IsByFirmware}
+use Rattle.bench_report.specs.{Deeds.{deed_of, IsByFirmwareAlone}, Prefix.{line_asks, asked_by}, Reports.IsByFirmware}
 
 pub line_asks-asked_by : (line : Line) → line_asks line ≡ asked_by line
 line_asks-asked_by (lines.Payload slot bytes) = refl

@@ -1,12 +1,10 @@
 -- What is known of a deed that asks nothing of the disk and of no hart, by what is said of it and what it does.
-use Rattle.std.specs.Prelude.{⊤}
-use Rattle.std.proofs.Common.{◌≡◌, Bool, true, false, List, ℕ, Option, Some, None, refl}
+use Rattle.std.{specs.Prelude.⊤, proofs.Common.{◌≡◌, Bool, true, false, List, ℕ, Option, Some, None, refl}}
 use Rattle.board_model.specs.Durable.{DurableState}
 use Rattle.susp.specs.Dozes.{can_wake}
 use Rattle.report_lines.specs.declared.printed.Printed.{Printed}
 use Rattle.report_lines.specs.declared.printed.Printed.TheVariants as printed
-use Rattle.bench_report.specs.Bench.{BenchLife}
-use Rattle.bench_report.specs.Prefix.{Nothing, LineImplies, is_format_ok}
+use Rattle.bench_report.specs.{Bench.BenchLife, Prefix.{Nothing, LineImplies, is_format_ok}}
 use Rattle.bench_report.specs.Deeds.{Aside, CutPower, CallWake, WritePast, Beside, IsByFirmwareAlone}
 use Rattle.bench_report.specs.Asides.{Effect, CutsPower, SetsDoze, WritesPast, wakes, aside}
 

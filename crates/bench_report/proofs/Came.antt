@@ -1,61 +1,31 @@
 -- What comes of turns and calls of harts on a board, in the words of the bench.
 use Rattle.std.proofs.Common.{◌≡◌, ◌⊎◌, ℕ, zero, suc, inl, inr, List, true, false, Option, None, Some, Result, Ok, Err, length, slice_set, refl, sym, ◌∙◌, ap, subst, arith}
-use Rattle.std.proofs.lemmas.Bool.{cases_lt}
-use Rattle.board_model.specs.Durable.{Change, Reset, Suspend}
-use Rattle.board_model.specs.Shapes.{Size, IsValidAddress, ram_bytes_of}
-use Rattle.board_model.specs.Views.{number_of_refusal}
-use Rattle.board_model.specs.declared.durable.Reason.{Reason}
-use Rattle.board_model.specs.declared.refusal.Refusal.{Refusal}
+use Rattle.std.proofs.lemmas.{Bool.cases_lt, List.set-get_or}
+use Rattle.board_model.specs.{Durable.{Change, Reset, Suspend}, Shapes.{Size, IsValidAddress, ram_bytes_of}, Views.number_of_refusal}
+use Rattle.board_model.specs.declared.{durable.Reason.Reason, refusal.Refusal.Refusal}
 use Rattle.board_model.specs.declared.refusal.Refusal.TheVariants.{Device, Down, Memory, BadShape, JournalFull}
-use Rattle.std.proofs.lemmas.List.{set-get_or}
 use Rattle.hart.specs.State.{ArchState, answered, never_started}
 use Rattle.hsm.specs.Views.{listed}
-use Rattle.store.specs.Lives.{Life as StoreLife, Applied, Refused, Suspended, SuspendRefused}
-use Rattle.store.specs.Follows.{FitsBoard}
-use Rattle.store.specs.Opens.{CausedRefusal}
-use Rattle.store.specs.Views.{life_of, doubt_of, was_refused_memory}
-use Rattle.store.specs.Answers.{CountedRefusal}
-use Rattle.store.specs.Asked.{Asked}
-use Rattle.susp.specs.Checks.{IsChecked}
-use Rattle.susp.specs.Sleeps.{FallsAsleepBy, SleepsBy as StoreSleeps, Answers}
-use Rattle.susp.specs.Dozes.{dozing, doze_of}
-use Rattle.susp.specs.declared.buses.Bus.{Bus}
-use Rattle.susp.specs.declared.buses.Doze.{Doze}
-use Rattle.susp.specs.declared.sleeps.Sleep.{Sleep}
-use Rattle.susp.specs.declared.sleeps.Sleep.TheVariants.{ToRam, ToDisk}
-use Rattle.sbi_abi.specs.Answers.{error_of}
-use Rattle.sbi_abi.specs.Calls.{call_of}
-use Rattle.sbi_abi.specs.declared.call.Call.{Call}
-use Rattle.sbi_abi.specs.declared.call.Call.TheVariants as calls
-use Rattle.sbi_abi.specs.declared.ret.SbiError.{SbiError}
+use Rattle.store.specs.{Lives.{Life as StoreLife, Applied, Refused, Suspended, SuspendRefused}, Follows.FitsBoard, Opens.CausedRefusal}
+use Rattle.store.specs.{Views.{life_of, doubt_of, was_refused_memory}, Answers.CountedRefusal, Asked.Asked}
+use Rattle.susp.specs.{Checks.IsChecked, Sleeps.{FallsAsleepBy, SleepsBy as StoreSleeps, Answers}, Dozes.{dozing, doze_of}}
+use Rattle.susp.specs.declared.{buses.{Bus.Bus, Doze.Doze}, sleeps.Sleep.{Sleep, TheVariants.{ToRam, ToDisk}}}
+use Rattle.sbi_abi.specs.{Answers.error_of, Calls.call_of, declared.{call.Call.Call, ret.SbiError.SbiError}}
 use Rattle.sbi_abi.specs.declared.ret.SbiError.TheVariants.{Failed, NotSupported, Denied}
-use Rattle.sbi.specs.declared.resets.ResetType.{ResetType}
-use Rattle.sbi.specs.declared.words.LifeEnd.{LifeEnd}
+use Rattle.sbi_abi.specs.declared.call.Call.TheVariants as calls
+use Rattle.sbi.specs.{declared.{resets.ResetType.ResetType, words.LifeEnd.LifeEnd}, Words.{ends, word_of_sleep}, Resets.reset_of}
+use Rattle.sbi.specs.{Helds.{Refuses as Refused_to, EndsReset, EndsSleep, MakesReset, SleepsIn, HeldIn}, declared.words.Word.Word}
 use Rattle.sbi.specs.declared.words.LifeEnd.TheVariants as life_ends
-use Rattle.sbi.specs.Words.{ends, word_of_sleep}
-use Rattle.sbi.specs.Resets.{reset_of}
-use Rattle.sbi.specs.Helds.{Refuses as Refused_to, EndsReset, EndsSleep, MakesReset, SleepsIn, HeldIn}
-use Rattle.sbi_calls.specs.declared.words.Turned.{Turned}
-use Rattle.sbi_calls.specs.declared.words.Turned.TheVariants.{Made, Durable}
-use Rattle.sbi_calls.specs.declared.words.Did.TheVariants.{Next}
-use Rattle.machine.specs.Machine.{Machine, hart_at}
-use Rattle.machine.specs.Durables.{MakesCall as MachineCall}
-use Rattle.sbi.specs.declared.words.Word.{Word}
+use Rattle.sbi_calls.specs.declared.words.{Turned.{Turned, TheVariants.{Made, Durable}}, Did.TheVariants.Next}
+use Rattle.machine.specs.{Machine.{Machine, hart_at}, Durables.{MakesCall as MachineCall}}
 use Rattle.sbi.specs.declared.words.Word.TheVariants as words
 use Rattle.board.specs.Turns as boards
-use Rattle.bench_report.specs.Views.{SimStore, IsLife, IsAs, store_size, store_fault_state, store_facts}
-use Rattle.bench_report.specs.Bench.{BenchLife, Bench}
-use Rattle.bench_report.specs.Happens.{out_of_memory, off, on_with, has_machine, acknowledged}
-use Rattle.bench_report.specs.Commands.{Issued}
+use Rattle.bench_report.specs.{Views.{SimStore, IsLife, IsAs, store_size, store_fault_state, store_facts}, Bench.{BenchLife, Bench}}
+use Rattle.bench_report.specs.{Happens.{out_of_memory, off, on_with, has_machine, acknowledged}, Commands.Issued, Sides.SidesAre}
 use Rattle.bench_report.specs.Turns.{refused, AnswersError, HartCommand, Resets, SuspendIssued, IsAlone, dozes, BenchSleeps, BenchSleepsBy, BenchMakesCall, ComesTo, GuestTurn, IsLastTurn, GuestTurns}
-use Rattle.bench_report.specs.Sides.{SidesAre}
-use Rattle.bench_report.specs.Agree.{StoreIs, DeviceIs, IsOver}
-use Rattle.bench_report.proofs.Adapted.{calm as untouched}
-use Rattle.bench_report.proofs.Dozed.{turn_size}
-use Rattle.bench_report.proofs.Growths.{issued_keeps}
-use Rattle.bench_report.proofs.Remembered.{turns_before}
+use Rattle.bench_report.{specs.Agree.{StoreIs, DeviceIs, IsOver}, proofs.{Adapted.{calm as untouched}, Dozed.turn_size}}
+use Rattle.bench_report.proofs.{Growths.issued_keeps, Remembered.turns_before, Sides.starved_sides}
 use Rattle.bench_report.proofs.Commanded.{Running, follows_with, sized_for, reported_end, reported_err, reported_up, reported_down, again, calm_device, still_sides, unmoved}
-use Rattle.bench_report.proofs.Sides.{starved_sides}
 
 -- the store of a life that its own command ended
 abbrev pub IsEnded : Size → Bench → SimStore → Type 0

@@ -1,31 +1,18 @@
 -- What a command answers on a board that is on.
 use Rattle.std.proofs.Common.{◌≡◌, ◌≤◌, ℕ, ◌+◌, [], ◌∷◌, ◌++◌, inl, inr, Option, None, Some, Result, Ok, Err, false, refl, sym, ◌∙◌, ap, subst}
-use Rattle.board_model.specs.Durable.{Change, after, ends_life}
-use Rattle.board_model.specs.Kept.{Kept}
-use Rattle.board_model.specs.Shapes.{Size}
-use Rattle.board_model.specs.Views.{number_of_refusal}
-use Rattle.board_model.specs.declared.refusal.Refusal.{Refusal}
-use Rattle.board_model.specs.declared.refusal.Refusal.TheVariants.{Device, Down, Memory, JournalFull}
+use Rattle.board_model.specs.{Durable.{Change, after, ends_life}, Kept.Kept, Shapes.Size, Views.number_of_refusal}
+use Rattle.board_model.specs.declared.refusal.Refusal.{Refusal, TheVariants.{Device, Down, Memory, JournalFull}}
 use Rattle.disk.specs.Facts.{Failed}
 use Rattle.machine.specs.Machine.{Machine}
 use Rattle.simdisk.specs.contracts.device.SimDiskDisk.TheImpl.Laws.{may_keep-law}
-use Rattle.store.specs.Leaves.{SameLength, IsKept, WroteACommand}
-use Rattle.store.specs.Lives.{Life as StoreLife, Applied, Refused}
-use Rattle.store.specs.Opens.{CausedRefusal}
-use Rattle.store.specs.Views.{life_of, doubt_of, device_of}
-use Rattle.store.specs.Answers.{CountedRefusal}
+use Rattle.store.specs.{Leaves.{SameLength, IsKept, WroteACommand}, Lives.{Life as StoreLife, Applied, Refused}, Opens.CausedRefusal}
+use Rattle.store.specs.{Views.{life_of, doubt_of, device_of}, Answers.CountedRefusal}
 use Rattle.bench_report.specs.Views.{SimStore, SimBoard, store_in, machine_in, IsLife, IsAs, store_size, store_now, store_doubt, store_fault_state, store_facts}
-use Rattle.bench_report.specs.Bench.{DiskState, Blank, Unknown, Formatted, BenchLife, Bench}
-use Rattle.bench_report.specs.Happens.{failed, acknowledged, in_doubt}
-use Rattle.bench_report.specs.Commands.{Writes, IssuedBy, Issued}
-use Rattle.bench_report.specs.Sides.{SidesAre}
-use Rattle.bench_report.specs.Agree.{StoreIs, BoardIs, LifeIs, DeviceIs, OnIs, IsOver}
+use Rattle.bench_report.specs.{Bench.{DiskState, Blank, Unknown, Formatted, BenchLife, Bench}, Happens.{failed, acknowledged, in_doubt}}
+use Rattle.bench_report.{specs.{Commands.{Writes, IssuedBy, Issued}, Sides.SidesAre}, proofs.Devices.{fails_by_fault, fails_as, stays_as}}
+use Rattle.bench_report.{specs.Agree.{StoreIs, BoardIs, LifeIs, DeviceIs, OnIs, IsOver}, proofs.{Sides.commanded, Ended.found_more}}
 use Rattle.bench_report.proofs.Adapted.{Reaches, Acknowledges, Refuses, acknowledged as acknowledges, ended, refused, struck, downed, calm as untouched}
-use Rattle.bench_report.proofs.Devices.{fails_by_fault, fails_as, stays_as}
-use Rattle.bench_report.proofs.Sides.{commanded}
-use Rattle.bench_report.proofs.Ended.{found_more}
-use Rattle.bench_report.proofs.Formats.{same_error}
-use Rattle.bench_report.proofs.Table.{not_device, not_down, not_memory}
+use Rattle.bench_report.proofs.{Formats.same_error, Table.{not_device, not_down, not_memory}}
 
 -- a board that is on, by its machine and its store
 abbrev pub Running : Size → Bench → Machine → SimStore → Type 0

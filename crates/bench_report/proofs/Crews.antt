@@ -1,7 +1,6 @@
 -- The order in which a bench saves its lanes, and the crew that keeps it.
 use Rattle.std.proofs.Common.{◌≡◌, [], ◌∷◌, zero, suc, Result, Ok, Err, IsOk, MatchResult, refl, arith}
-use Rattle.board_model.specs.declared.refusal.Refusal.{Refusal}
-use Rattle.board_model.specs.declared.refusal.Refusal.TheVariants.{BadShape}
+use Rattle.board_model.specs.declared.refusal.Refusal.{Refusal, TheVariants.BadShape}
 use Rattle.crew.specs.Orders.{IsOrder}
 
 rising : IsOrder (0 ∷ 1 ∷ 2 ∷ 3 ∷ [])

@@ -1,20 +1,15 @@
 -- A line between two lines: run to its end, or cut within.
 use Rattle.std.proofs.Common.{◌≡◌, true, false, ℕ, List, inl, inr, Result, Ok, Err, refl, sym, ◌∙◌, MatchResult, IfOk}
-use Rattle.board_model.specs.Shapes.{Size}
 use Rattle.std.specs.declared.alloc.AllocError.{AllocError}
+use Rattle.board_model.specs.Shapes.{Size}
 use Rattle.script_lang.specs.declared.line.Line.{Line}
 use Rattle.script_lang.specs.declared.line.Line.TheVariants as lines
-use Rattle.simdisk.specs.declared.SimDisk.{SimDisk}
-use Rattle.simdisk.specs.declared.fill.Fill.{Fill}
-use Rattle.bench_report.specs.Bench.{Bench}
-use Rattle.bench_report.specs.Happens.{says, unpowered}
-use Rattle.bench_report.specs.Steps.{Step, Moves}
+use Rattle.simdisk.specs.declared.{SimDisk.SimDisk, fill.Fill.Fill}
+use Rattle.bench_report.specs.{Bench.Bench, Happens.{says, unpowered}, Steps.{Step, Moves}, declared.power.Power.Power}
 use Rattle.bench_report.specs.Agree.{Agrees, Matches, IsBench, HasDisk, IsCutBy, EndsBy, ArmsIts, CutsIts, MovesEnough, PokesIts, InspectsIts, InspectsOrLost, StepsEnough}
-use Rattle.bench_report.specs.declared.power.Power.{Power}
+use Rattle.bench_report.proofs.{Armed.{unstruck_arming, unstruck_cut, unstruck_poke}, Growths.{call_grows, hit_counts}}
 use Rattle.report_lines.specs.declared.printed.Answer.{Answer}
 use Rattle.report_lines.specs.declared.printed.Printed.TheVariants as printed
-use Rattle.bench_report.proofs.Armed.{unstruck_arming, unstruck_cut, unstruck_poke}
-use Rattle.bench_report.proofs.Growths.{call_grows, hit_counts}
 
 abbrev pub Ran : Size → Line → Bench → Result Answer AllocError → Power → List (List ℕ) → Type 0
 Ran size line b r after payloads =

@@ -2,21 +2,15 @@
 -- commands and power on.
 use Rattle.std.proofs.Common.{◌≡◌, ◌⊎◌, ℕ, ◌+◌, ◌<◌, inl, inr, List, [], ◌∷◌, Option, None, Some, IfSome, Result, Ok, Err, length, refl, sym, ◌∙◌, ap, subst, arith, false}
 use Rattle.std.specs.Bool.{⊤}
-use Rattle.board_model.specs.Durable.{DurableState, Image, Change, Consume, IsWhole, refusal_of}
-use Rattle.board_model.specs.Kept.{Kept, found_of, MayKeep, TakesIn}
-use Rattle.board_model.specs.Shapes.{Size, ram_bytes_of}
-use Rattle.board_model.specs.Views.{durable_of}
-use Rattle.board_model.specs.declared.durable.Durable.{Durable}
+use Rattle.board_model.specs.{Durable.{DurableState, Image, Change, Consume, IsWhole, refusal_of}, Kept.{Kept, found_of, MayKeep, TakesIn}}
+use Rattle.board_model.specs.{Shapes.{Size, ram_bytes_of}, Views.durable_of, declared.durable.Durable.Durable}
 use Rattle.board_model.specs.declared.boot_mode.BootMode.{BootMode}
 use Rattle.board_model.specs.declared.boot_mode.BootMode.TheVariants as modes
 use Rattle.machine.specs.Machine.{Machine, woken}
-use Rattle.board.specs.Boots.{boot_refusal}
-use Rattle.board.specs.Moments.{commands_by}
-use Rattle.board.specs.Begins.{IsResumed, IsBegun}
+use Rattle.board.specs.{Boots.boot_refusal, Moments.commands_by, Begins.{IsResumed, IsBegun}}
 use Rattle.disk.specs.Facts.{counted}
-use Rattle.report_lines.specs.declared.printed.Printed.{Printed}
+use Rattle.report_lines.specs.declared.printed.{Printed.Printed, Answer.Answer}
 use Rattle.report_lines.specs.declared.printed.Printed.TheVariants as printed
-use Rattle.report_lines.specs.declared.printed.Answer.{Answer}
 use Rattle.bench_report.specs.Bench.{DiskState, Blank, Unknown, Formatted, BenchLife, Bench}
 use Rattle.bench_report.specs.Happens.{says, out_of_memory, FailsByFault, off, on_with, formatted_anew, unknown, settled, has_machine, acknowledged, in_doubt}
 use Rattle.bench_report.specs.Commands.{Writes, IssuedBy, Issued, IssuesAll}

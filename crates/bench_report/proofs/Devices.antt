@@ -1,21 +1,12 @@
 -- The device below a bench, after a call that failed and after one that did not.
 use Rattle.std.proofs.Common.{◌≡◌, ◌≢◌, ◌⊎◌, ◌≤◌, ℕ, inl, inr, refl, sym, ◌∙◌, subst, arith}
-use Rattle.board_model.specs.Durable.{DurableState}
-use Rattle.board_model.specs.Kept.{MayFind}
-use Rattle.board_model.specs.Shapes.{Size}
-use Rattle.board_model.specs.Views.{number_of_refusal}
-use Rattle.board_model.specs.declared.refusal.Refusal.{Refusal}
+use Rattle.board_model.specs.{Durable.DurableState, Kept.MayFind, Shapes.Size, Views.number_of_refusal, declared.refusal.Refusal.Refusal}
 use Rattle.board_model.specs.declared.refusal.Refusal.TheVariants.{Device, Memory}
-use Rattle.disk.specs.Facts.{Facts, counted, Failed}
-use Rattle.disk.specs.FaultState.{FaultState, Cause}
+use Rattle.disk.specs.{Facts.{Facts, counted, Failed}, FaultState.{FaultState, Cause}}
 use Rattle.simdisk.specs.declared.SimDisk.{SimDisk}
 use Rattle.store.specs.Leaves.{SameLength, Leaves}
-use Rattle.bench_report.specs.Bench.{DiskState, Formatted, Bench}
-use Rattle.bench_report.specs.Happens.{failed, FailsByFault, off}
-use Rattle.bench_report.specs.Sides.{SidesAre}
-use Rattle.bench_report.specs.Agree.{DiskIs, DeviceIs, OffIs}
-use Rattle.bench_report.specs.Views.{facts}
-use Rattle.bench_report.proofs.Sides.{LeavesFewer, sides_stay, failed_sides}
+use Rattle.bench_report.specs.{Bench.{DiskState, Formatted, Bench}, Happens.{failed, FailsByFault, off}, Sides.SidesAre, Views.facts}
+use Rattle.bench_report.{specs.Agree.{DiskIs, DeviceIs, OffIs}, proofs.Sides.{LeavesFewer, sides_stay, failed_sides}}
 
 pub is_device : (e : Refusal) → (e ≡ Device) ⊎ (e ≢ Device)
 is_device Device = inl refl

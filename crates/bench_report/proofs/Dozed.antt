@@ -3,8 +3,7 @@ use Rattle.std.proofs.Common.{◌≡◌, ℕ, Bool, true, false, Option, None, S
 use Rattle.hart.specs.State.{ArchState}
 use Rattle.susp.specs.declared.buses.Doze.{Doze}
 use Rattle.sbi_calls.specs.declared.words.Turned.{Turned}
-use Rattle.machine.specs.Machine.{Machine}
-use Rattle.machine.specs.Turns.{DozeTurn, TurnBy, CallBy}
+use Rattle.machine.specs.{Machine.Machine, Turns.{DozeTurn, TurnBy, CallBy}}
 
 doze_size : (woken : Bool) (d : Doze) (h : ℕ) (old new : Machine) (did : Turned) → DozeTurn woken d h old new did → new.size ≡ old.size
 doze_size false d h old new did turn = ap (λ (m : Machine). m.size) turn.0

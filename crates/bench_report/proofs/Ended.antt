@@ -1,18 +1,14 @@
 -- What a life that ends leaves on its disk.
 use Rattle.std.proofs.Common.{◌≡◌, ◌⊎◌, ℕ, inl, inr, List, [], ◌∷◌, ◌++◌, Option, None, Some, refl, sym, ◌∙◌, ap, subst}
-use Rattle.board_model.specs.Durable.{DurableState, Change, formatted, refusal_of, after}
-use Rattle.board_model.specs.Kept.{Kept, MayFind, TakesIn, found_of}
+use Rattle.board_model.specs.{Durable.{DurableState, Change, formatted, refusal_of, after}, Kept.{Kept, MayFind, TakesIn, found_of}}
 use Rattle.board_model.specs.Shapes.{Size}
 use Rattle.disk.specs.Facts.{Facts, Content, IsLeft}
-use Rattle.store.specs.Leaves.{Leaves, IsKept, LeavesOnly, LeavesEither}
-use Rattle.store.specs.Views.{Stands, Doubts, now_state, doubt_of}
+use Rattle.store.specs.{Leaves.{Leaves, IsKept, LeavesOnly, LeavesEither}, Views.{Stands, Doubts, now_state, doubt_of}}
 use Rattle.simdisk.specs.declared.SimDisk.{SimDisk}
-use Rattle.bench_report.specs.Views.{facts, SimStore, SimBoard, store_in, IsAs, store_size}
-use Rattle.bench_report.specs.Bench.{DiskState, Blank, Unknown, Formatted, BenchLife}
-use Rattle.bench_report.specs.Agree.{StoreIs, BoardIs, DiskIs, IsOver}
-use Rattle.board.proofs.Issued.{fold_more}
-use Rattle.bench_report.proofs.KeptDisks.{GoesOn, LeavesLess}
+use Rattle.bench_report.specs.{Views.{facts, SimStore, SimBoard, store_in, IsAs, store_size}, Agree.{StoreIs, BoardIs, DiskIs, IsOver}}
+use Rattle.bench_report.{specs.Bench.{DiskState, Blank, Unknown, Formatted, BenchLife}, proofs.KeptDisks.{GoesOn, LeavesLess}}
 use Rattle.bench_report.proofs.Sides.{LeavesFewer}
+use Rattle.board.proofs.Issued.{fold_more}
 
 pub found_more : (cs : List Change) (c : Change) (now : DurableState) → now ≡ found_of cs → after now c ≡ found_of (cs ++ c ∷ [])
 found_more cs c now e = ap (λ s. after s c) e ∙ sym (fold_more formatted cs (c ∷ []))

@@ -1,20 +1,14 @@
 -- What a question of the disk is answered at any point of a run in which nothing failed.
 use Rattle.std.proofs.Common.{◌≡◌, ℕ, inl, inr, List, [], ◌∷◌, Option, None, Some, refl, sym, ◌∙◌, ap, subst}
-use Rattle.board_model.specs.Kept.{Kept}
-use Rattle.board_model.specs.Shapes.{Size}
+use Rattle.board_model.specs.{Kept.Kept, Shapes.Size}
 use Rattle.script_lang.specs.Scripts.{Script}
 use Rattle.report_lines.specs.declared.printed.Answer.{Answer}
 use Rattle.report_lines.specs.declared.printed.Printed.TheVariants as printed
-use Rattle.bench_report.specs.Bench.{DiskState, BenchLife, Bench, IsFailureFree, IsClean, bench_with}
-use Rattle.bench_report.specs.Deeds as deeds
-use Rattle.bench_report.specs.Deeds.{OfDisk}
-use Rattle.bench_report.specs.Happens.{says}
-use Rattle.bench_report.specs.Examined.{InspectsOn, InspectStep}
-use Rattle.bench_report.specs.Steps.{DeedMoves}
-use Rattle.bench_report.specs.Reports.{AreByFirmware, IsReportWith}
-use Rattle.bench_report.proofs.Determined.{HasFailed, IsCalm, starves, hinders}
-use Rattle.bench_report.proofs.Inspected.{ContentLaws, said_of, clean_or, clean_tells}
+use Rattle.bench_report.specs.{Bench.{DiskState, BenchLife, Bench, IsFailureFree, IsClean, bench_with}, Deeds.OfDisk, Happens.says}
+use Rattle.bench_report.specs.{Examined.{InspectsOn, InspectStep}, Steps.DeedMoves, Reports.{AreByFirmware, IsReportWith}}
+use Rattle.bench_report.proofs.{Determined.{HasFailed, IsCalm, starves, hinders}, Inspected.{ContentLaws, said_of, clean_or, clean_tells}}
 use Rattle.bench_report.proofs.Single.{moves_fair, struck_fails, run_fair, clean}
+use Rattle.bench_report.specs.Deeds as deeds
 
 -- by the power
 abbrev pub said_by : Option BenchLife → DiskState → Kept → Answer

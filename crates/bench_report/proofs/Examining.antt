@@ -1,28 +1,17 @@
 -- A disk that was examined.
 use Rattle.std.proofs.Common.{◌≡◌, ◌≢◌, inl, inr, None, Some, length, refl, sym, ◌∙◌, ap}
-use Rattle.board_model.specs.Kept.{Kept}
-use Rattle.board_model.specs.Shapes.{Size}
-use Rattle.board_model.specs.Views.{number_of_refusal}
-use Rattle.board_model.specs.declared.refusal.Refusal.{Refusal}
+use Rattle.board_model.specs.{Kept.Kept, Shapes.Size, Views.number_of_refusal, declared.refusal.Refusal.Refusal}
 use Rattle.board_model.specs.declared.refusal.Refusal.TheVariants.{NotFormatted, BadShape, Device, Memory}
 use Rattle.disk.specs.Facts.{Content}
-use Rattle.simdisk.specs.declared.SimDisk.{SimDisk}
-use Rattle.simdisk.specs.contracts.device.SimDiskDisk.TheImpl.Laws.{may_keep-law}
-use Rattle.store.specs.Leaves.{IsBlank, IsKept, Leaves, ReadsAlone}
-use Rattle.store.specs.Opens.{IsBoard, CausedRefusal}
-use Rattle.store.specs.Standing.{selected, state_of, image_of, StandsFor}
-use Rattle.store.specs.Inspects.{KeepsImage, IsInspected, InspectRefused}
+use Rattle.simdisk.specs.{declared.SimDisk.SimDisk, contracts.device.SimDiskDisk.TheImpl.Laws.may_keep-law}
+use Rattle.store.specs.{Leaves.{IsBlank, IsKept, Leaves, ReadsAlone}, Opens.{IsBoard, CausedRefusal}}
+use Rattle.store.specs.{Standing.{selected, state_of, image_of, StandsFor}, Inspects.{KeepsImage, IsInspected, InspectRefused}}
 use Rattle.store.specs.declared.inspects.Inspection.{Inspection}
 use Rattle.report_lines.specs.declared.printed.Answer.{Answer}
 use Rattle.report_lines.specs.declared.printed.Printed.TheVariants as printed
-use Rattle.bench_report.specs.Views.{facts, fault_state}
-use Rattle.bench_report.specs.Bench.{DiskState, Blank, Unknown, Formatted, Bench}
-use Rattle.bench_report.specs.Happens.{says, failed, out_of_memory}
-use Rattle.bench_report.specs.Examined.{ReadsOf, MayRead, HasImage, InspectsOn, AnswersOf}
-use Rattle.bench_report.specs.Agree.{DiskIs, DeviceIs, OffIs}
-use Rattle.bench_report.proofs.Devices.{fails_by_fault, stays, stays_as}
-use Rattle.bench_report.proofs.Sides.{starved_sides}
-use Rattle.bench_report.proofs.Ended.{left_on}
+use Rattle.bench_report.{specs.{Views.{facts, fault_state}, Bench.{DiskState, Blank, Unknown, Formatted, Bench}}, proofs.Ended.left_on}
+use Rattle.bench_report.specs.{Happens.{says, failed, out_of_memory}, Examined.{ReadsOf, MayRead, HasImage, InspectsOn, AnswersOf}}
+use Rattle.bench_report.{specs.Agree.{DiskIs, DeviceIs, OffIs}, proofs.{Devices.{fails_by_fault, stays, stays_as}, Sides.starved_sides}}
 use Rattle.bench_report.proofs.KeptDisks.{GoesOn, less, passed}
 
 -- what a read gives is a content that a crash may leave

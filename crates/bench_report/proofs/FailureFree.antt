@@ -1,52 +1,32 @@
 -- A report whose lines are failure-free: no power-on was refused memory, and no failure was answered.
-use Rattle.board_model.specs.declared.call_words.CallWords.{CallWords}
+use Rattle.board_model.specs.{declared.call_words.CallWords.CallWords, Durable.{DurableState, Change, Reset, refusal_of}, Shapes.Size}
+use Rattle.board_model.specs.declared.{boot_mode.BootMode.BootMode, durable.Reason.Reason, console_command.ConsoleCommand.ConsoleCommand}
+use Rattle.board_model.specs.ConsoleCommands.{console_change}
 use Rattle.std.proofs.Common.{◌≡◌, ◌≢◌, ℕ, zero, suc, arith, inl, inr, List, [], ◌∷◌, Option, None, Some, Result, Ok, Err, refl, ◌∙◌, ap, subst}
 use Rattle.std.specs.Bool.{⊤}
-use Rattle.board_model.specs.Durable.{DurableState, Change, Reset, refusal_of}
-use Rattle.board_model.specs.Shapes.{Size}
-use Rattle.board.specs.Boots.{boot_refusal}
-use Rattle.board.specs.Moments.{commands_by}
-use Rattle.board_model.specs.declared.boot_mode.BootMode.{BootMode}
+use Rattle.board.specs.{Boots.boot_refusal, Moments.commands_by}
 use Rattle.board_model.specs.declared.boot_mode.BootMode.TheVariants as modes
 use Rattle.machine.specs.declared.line.MachineLine.TheVariants as shown
 use Rattle.machine.specs.Machine.{hart_at}
-use Rattle.sbi.specs.declared.words.Word.{Word}
+use Rattle.sbi.specs.{declared.{words.{Word.Word, LifeEnd.LifeEnd}, resets.ResetType.ResetType}, Resets.reset_of}
 use Rattle.sbi.specs.declared.words.Word.TheVariants as words
-use Rattle.sbi.specs.declared.words.LifeEnd.{LifeEnd}
 use Rattle.sbi.specs.declared.words.LifeEnd.TheVariants as life_ends
-use Rattle.sbi_calls.specs.declared.words.Turned.{Turned}
-use Rattle.sbi_calls.specs.declared.words.Turned.TheVariants.{Made, Durable}
-use Rattle.sbi_calls.specs.declared.words.Did.TheVariants.{Next}
-use Rattle.sbi_abi.specs.Calls.{call_of}
-use Rattle.sbi_abi.specs.declared.call.Call.{Call}
+use Rattle.sbi_calls.specs.declared.words.{Turned.{Turned, TheVariants.{Made, Durable}}, Did.TheVariants.Next}
+use Rattle.sbi_abi.specs.{Calls.call_of, declared.{call.Call.Call, ret.SbiError.{SbiError, TheVariants.{Failed, NotSupported, Denied}}}}
 use Rattle.sbi_abi.specs.declared.call.Call.TheVariants as calls
-use Rattle.sbi_abi.specs.declared.ret.SbiError.{SbiError}
-use Rattle.sbi_abi.specs.declared.ret.SbiError.TheVariants.{Failed, NotSupported, Denied}
-use Rattle.sbi.specs.declared.resets.ResetType.{ResetType}
-use Rattle.sbi.specs.Resets.{reset_of}
-use Rattle.board_model.specs.declared.durable.Reason.{Reason}
-use Rattle.script_lang.specs.Scripts.{Script}
-use Rattle.script_lang.specs.declared.line.Line.{Line}
-use Rattle.board_model.specs.declared.console_command.ConsoleCommand.{ConsoleCommand}
-use Rattle.board_model.specs.ConsoleCommands.{console_change}
-use Rattle.report_lines.specs.declared.printed.Printed.{Printed}
+use Rattle.script_lang.specs.{Scripts.Script, declared.line.Line.Line}
+use Rattle.report_lines.specs.declared.printed.{Printed.Printed, Answer.Answer}
 use Rattle.report_lines.specs.declared.printed.Printed.TheVariants as printed
-use Rattle.report_lines.specs.declared.printed.Answer.{Answer}
 use Rattle.bench_report.specs.Bench.{DiskState, Blank, Unknown, Formatted, BenchLife, Bench, IsFailureFree, bench_with}
-use Rattle.bench_report.specs.Deeds as deeds
-use Rattle.bench_report.specs.Deeds.{Deed, deed_of}
-use Rattle.bench_report.specs.Happens.{says, off, on_with, formatted_anew, settled, has_machine, acknowledged}
-use Rattle.bench_report.specs.Commands.{Writes, IssuedBy, IssuesAll, Issued}
-use Rattle.susp.specs.declared.sleeps.Sleep.{Sleep}
-use Rattle.susp.specs.declared.sleeps.Sleep.TheVariants.{ToRam, ToDisk}
+use Rattle.bench_report.specs.{Deeds.{Deed, deed_of}, Happens.{says, off, on_with, formatted_anew, settled, has_machine, acknowledged}}
+use Rattle.bench_report.{specs.{Commands.{Writes, IssuedBy, IssuesAll, Issued}, Reports.IsReportWith}, proofs.Unsaid.none_made}
 use Rattle.bench_report.specs.Turns.{AnswersError, HartCommand, Resets, SuspendIssued, dozes, BenchFallsAsleep, BenchSleepsBy, BenchMakesCall, ComesTo, GuestTurn, GuestTurns}
 use Rattle.bench_report.specs.PowerOns.{life_begun, FormatsOn, IsBooted, BootsFrom, Resumes, Begins, Boots, Opens, PowersOn}
 use Rattle.bench_report.specs.Steps.{console_reported, FormatStep, OnStep, ConsoleStep, TurnStep, CallReported, GuestCall, CallStep, DeedStep, Moves, Run}
-use Rattle.bench_report.specs.Reports.{IsReportWith}
-use Rattle.bench_report.proofs.Unsaid.{none_made}
-use Rattle.bench_report.specs.FailureFree.{ShowsNoFailure, ShowNoFailure}
-use Rattle.bench_report.specs.Asides.{Effect, Stays, aside, affected}
+use Rattle.bench_report.specs.{FailureFree.{ShowsNoFailure, ShowNoFailure}, Asides.{Effect, Stays, aside, affected}}
 use Rattle.bench_report.proofs.Questions.{IsAsked, is_asked}
+use Rattle.bench_report.specs.Deeds as deeds
+use Rattle.susp.specs.declared.sleeps.Sleep.{Sleep, TheVariants.{ToRam, ToDisk}}
 
 -- as many growths were refused and failures answered as before
 abbrev pub AsMany : Bench → Bench → Type 0

@@ -1,31 +1,17 @@
 -- What a format answers, by what the disk was.
 use Rattle.std.proofs.Common.{◌≡◌, ◌≢◌, ◌≤◌, inl, inr, [], None, Result, Err, refl, sym, ◌∙◌, ap, subst, length, arith}
-use Rattle.board_model.specs.Durable.{formatted}
-use Rattle.board_model.specs.Kept.{nothing_kept}
-use Rattle.board_model.specs.Shapes.{Size, sectors_of}
-use Rattle.board_model.specs.Views.{number_of_refusal}
-use Rattle.board_model.specs.declared.refusal.Refusal.{Refusal}
-use Rattle.board_model.specs.declared.refusal.Refusal.TheVariants.{AlreadyFormatted, Device}
-use Rattle.disk.specs.Facts.{Content, Facts, Passes, Stays}
-use Rattle.disk.specs.FaultState.{FaultState, Cause}
-use Rattle.simdisk.specs.declared.SimDisk.{SimDisk}
-use Rattle.simdisk.specs.contracts.device.SimDiskDisk.TheImpl.Laws.{may_keep-law}
-use Rattle.store.specs.Leaves.{IsBlank, IsKept, IsMarked, LeavesOnly, SameLength}
-use Rattle.store.specs.Formats.{WritesHead}
+use Rattle.board_model.specs.{Durable.formatted, Kept.nothing_kept, Shapes.{Size, sectors_of}, Views.number_of_refusal}
+use Rattle.board_model.specs.declared.refusal.Refusal.{Refusal, TheVariants.{AlreadyFormatted, Device}}
+use Rattle.disk.specs.{Facts.{Content, Facts, Passes, Stays}, FaultState.{FaultState, Cause}}
+use Rattle.simdisk.specs.{declared.SimDisk.SimDisk, contracts.device.SimDiskDisk.TheImpl.Laws.may_keep-law}
+use Rattle.store.specs.{Leaves.{IsBlank, IsKept, IsMarked, LeavesOnly, SameLength}, Formats.WritesHead}
 use Rattle.store.specs.Opens.{CausedRefusal, FormatRefused}
 use Rattle.report_lines.specs.declared.printed.Answer.{Answer}
 use Rattle.report_lines.specs.declared.printed.Printed.TheVariants as printed
-use Rattle.bench_report.specs.Views.{facts, fault_state}
-use Rattle.bench_report.specs.Bench.{DiskState, Blank, Unknown, Formatted, Bench}
-use Rattle.bench_report.specs.Happens.{says, failed, formatted_anew, unknown}
-use Rattle.bench_report.specs.PowerOns.{FormatsOn}
-use Rattle.bench_report.specs.Sides.{SidesOf, SidesAre}
-use Rattle.bench_report.specs.Agree.{DiskIs, DeviceIs, OffIs}
-use Rattle.bench_report.proofs.Devices.{is_device, five, fails_as, stays_as}
-use Rattle.bench_report.proofs.Sides.{sides_stay, recorded, formatted_sides}
-use Rattle.bench_report.proofs.Adapted.{struck, calm, failed_format, no_down}
-use Rattle.bench_report.proofs.Ended.{left_on}
-use Rattle.bench_report.proofs.KeptDisks.{KeptLaw, BlankLaw, MarkLaw, less, passed}
+use Rattle.bench_report.specs.{Views.{facts, fault_state}, Bench.{DiskState, Blank, Unknown, Formatted, Bench}, PowerOns.FormatsOn}
+use Rattle.bench_report.specs.{Happens.{says, failed, formatted_anew, unknown}, Sides.{SidesOf, SidesAre}, Agree.{DiskIs, DeviceIs, OffIs}}
+use Rattle.bench_report.proofs.{Devices.{is_device, five, fails_as, stays_as}, Sides.{sides_stay, recorded, formatted_sides}, Ended.left_on}
+use Rattle.bench_report.proofs.{Adapted.{struck, calm, failed_format, no_down}, KeptDisks.{KeptLaw, BlankLaw, MarkLaw, less, passed}}
 
 -- what a format leaves of a disk that begins with the mark
 abbrev pub MarkedClause : SimDisk → SimDisk → Type 0

@@ -1,62 +1,36 @@
 -- Where the disk never failed, each power-on finds what all acknowledged commands make.
-use Rattle.board_model.specs.declared.call_words.CallWords.{CallWords}
+use Rattle.board_model.specs.{declared.call_words.CallWords.CallWords, Durable.{DurableState, Change, formatted, refusal_of}, Shapes.Size}
+use Rattle.board_model.specs.{Kept.{Kept, found_of, MayFind, TakesIn}, declared.{boot_mode.BootMode.BootMode, durable.Reason.Reason}}
+use Rattle.board_model.specs.{declared.console_command.ConsoleCommand.ConsoleCommand, ConsoleCommands.console_change}
 use Rattle.std.proofs.Common.{◌≡◌, ◌⊎◌, ℕ, zero, suc, ◌-◌, ◌^◌, ◌==◌, inl, inr, List, [], ◌∷◌, Option, None, Some, Result, Ok, Err, refl, sym, ◌∙◌, ap, subst, arith, Bool, true, false, MatchBool}
 use Rattle.std.specs.Bool.{⊤}
-use Rattle.board_model.specs.Durable.{DurableState, Change, formatted, refusal_of}
-use Rattle.board_model.specs.Kept.{Kept, found_of, MayFind, TakesIn}
-use Rattle.board_model.specs.Shapes.{Size}
-use Rattle.board_model.specs.declared.boot_mode.BootMode.{BootMode}
 use Rattle.board_model.specs.declared.boot_mode.BootMode.TheVariants as modes
-use Rattle.board_model.specs.declared.durable.Reason.{Reason}
-use Rattle.board.specs.Boots.{boot_refusal}
-use Rattle.board.specs.Moments.{commands_by}
-use Rattle.script_lang.specs.Scripts.{Script}
-use Rattle.script_lang.specs.declared.line.Line.{Line}
-use Rattle.machine.specs.Machine.{hart_at}
+use Rattle.board.{specs.{Boots.boot_refusal, Moments.commands_by}, proofs.Few.few_commands}
+use Rattle.script_lang.specs.{Scripts.Script, declared.line.Line.Line}
+use Rattle.machine.specs.{Machine.hart_at, Shows.{own_line, own_line_by}, declared.line.MachineLine.MachineLine}
 use Rattle.hart.specs.State.{ArchState}
-use Rattle.machine.specs.Shows.{own_line, own_line_by}
-use Rattle.sbi_calls.specs.Words.{is_answered}
-use Rattle.sbi_calls.specs.declared.words.Did.{Did}
-use Rattle.sbi_calls.specs.declared.words.Turned.{Turned}
-use Rattle.sbi_calls.specs.declared.words.Turned.TheVariants.{Made, Durable}
-use Rattle.sbi.specs.declared.words.Word.{Word}
+use Rattle.sbi_calls.specs.{Words.is_answered, declared.words.{Did.Did, Turned.{Turned, TheVariants.{Made, Durable}}}}
+use Rattle.sbi.specs.{declared.{words.{Word.Word, LifeEnd.LifeEnd}, resets.ResetType.ResetType}, Resets.reset_of}
 use Rattle.sbi.specs.declared.words.Word.TheVariants as words
-use Rattle.sbi.specs.declared.words.LifeEnd.{LifeEnd}
 use Rattle.sbi.specs.declared.words.LifeEnd.TheVariants as life_ends
-use Rattle.sbi_abi.specs.Calls.{call_of}
-use Rattle.sbi_abi.specs.declared.call.Call.{Call}
+use Rattle.sbi_abi.specs.{Calls.call_of, declared.{call.Call.Call, ret.SbiError.{SbiError, TheVariants.{Failed, NotSupported, Denied}}}}
 use Rattle.sbi_abi.specs.declared.call.Call.TheVariants as calls
-use Rattle.sbi_abi.specs.declared.ret.SbiError.{SbiError}
-use Rattle.sbi_abi.specs.declared.ret.SbiError.TheVariants.{Failed, NotSupported, Denied}
-use Rattle.sbi.specs.declared.resets.ResetType.{ResetType}
-use Rattle.sbi.specs.Resets.{reset_of}
-use Rattle.machine.specs.declared.line.MachineLine.{MachineLine}
 use Rattle.machine.specs.declared.line.MachineLine.TheVariants as shown_lines
-use Rattle.board_model.specs.declared.console_command.ConsoleCommand.{ConsoleCommand}
-use Rattle.board_model.specs.ConsoleCommands.{console_change}
-use Rattle.report_lines.specs.declared.printed.Printed.{Printed}
+use Rattle.report_lines.specs.declared.printed.{Printed.Printed, Answer.Answer}
 use Rattle.report_lines.specs.declared.printed.Printed.TheVariants as printed
-use Rattle.report_lines.specs.declared.printed.Answer.{Answer}
-use Rattle.bench_report.specs.Bench.{DiskState, Blank, Unknown, Formatted, BenchLife, Bench, bench_with}
-use Rattle.bench_report.specs.Deeds as deeds
-use Rattle.bench_report.specs.Deeds.{Deed, deed_of}
+use Rattle.bench_report.specs.{Bench.{DiskState, Blank, Unknown, Formatted, BenchLife, Bench, bench_with}, Deeds.{Deed, deed_of}}
 use Rattle.bench_report.specs.Happens.{says, shows, out_of_memory, failed, on_with, settled, has_machine, acknowledged, in_doubt}
-use Rattle.bench_report.specs.Commands.{Writes, IssuedBy, IssuesAll}
-use Rattle.susp.specs.declared.sleeps.Sleep.{Sleep}
-use Rattle.susp.specs.declared.sleeps.Sleep.TheVariants.{ToRam, ToDisk}
+use Rattle.bench_report.specs.{Commands.{Writes, IssuedBy, IssuesAll}, Reports.{AreByFirmware, IsReportWith}}
 use Rattle.bench_report.specs.Turns.{refused, AnswersError, HartCommand, Resets, dozes, BenchFallsAsleep, BenchSleepsBy, BenchMakesCall, ComesTo, GuestTurns}
 use Rattle.bench_report.specs.PowerOns.{life_begun, IsBooted, BootsFrom, Begins, Boots, Opens, IsOpenRefusal}
 use Rattle.bench_report.specs.Steps.{console_reported, CallReported, GuestCall, OnStep, ConsoleStep, TurnStep, CallStep, DeedStep, Run}
-use Rattle.bench_report.specs.Reports.{AreByFirmware, IsReportWith}
 use Rattle.bench_report.specs.Prefix.{AskedLine, Boot, Command, Guest, Nothing, Keeps, Hides, TellsLine, may_hide, asked_of, asked_by, LineImplies, ShowsAt, is_format_ok}
 use Rattle.bench_report.specs.AllFound.{LineMakes, ShownMakes, AreAllFound, FindAll, FindsAll}
-use Rattle.bench_report.proofs.Issues.{is_up, takes_more, GoesOn, IsSound}
-use Rattle.board.proofs.Few.{few_commands}
-use Rattle.bench_report.proofs.TurnLines.{commands_taken, all_or_failed}
-use Rattle.bench_report.proofs.Determined.{CalmDisk, IsCalm, DiskHasFailed, fails, kept_as}
-use Rattle.bench_report.proofs.Single.{moves_fair, run_fair, struck_fails}
-use Rattle.bench_report.proofs.Asks.{line_asks-asked_by, firmware_alone}
-use Rattle.bench_report.proofs.Prefixed.{Tell, steps, IsFresh, moves_format, either}
+use Rattle.bench_report.proofs.{Issues.{is_up, takes_more, GoesOn, IsSound}, TurnLines.{commands_taken, all_or_failed}}
+use Rattle.bench_report.proofs.{Determined.{CalmDisk, IsCalm, DiskHasFailed, fails, kept_as}, Single.{moves_fair, run_fair, struck_fails}}
+use Rattle.bench_report.proofs.{Asks.{line_asks-asked_by, firmware_alone}, Prefixed.{Tell, steps, IsFresh, moves_format, either}}
+use Rattle.bench_report.specs.Deeds as deeds
+use Rattle.susp.specs.declared.sleeps.Sleep.{Sleep, TheVariants.{ToRam, ToDisk}}
 
 -- ---- a board that is on stays on where its line says that it goes on
 abbrev IsPowered : Option BenchLife → Type 0

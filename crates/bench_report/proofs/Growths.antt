@@ -1,46 +1,30 @@
 -- What is counted of refused memory: by each command and power-on, by a hart's turns and calls, by a line.
 use Rattle.std.proofs.Common.{◌≡◌, ◌⊎◌, ℕ, inl, inr, true, false, List, [], ◌∷◌, Option, None, Some, Result, Ok, Err, refl, sym, ◌∙◌, ap, subst}
 use Rattle.std.specs.Bool.{⊤}
-use Rattle.board.specs.Boots.{boot_refusal}
-use Rattle.board.specs.Moments.{commands_by}
-use Rattle.board_model.specs.ConsoleCommands.{console_change}
-use Rattle.board_model.specs.Durable.{DurableState, Change, Reset, refusal_of}
-use Rattle.board_model.specs.Shapes.{Size}
-use Rattle.board_model.specs.declared.boot_mode.BootMode.{BootMode}
-use Rattle.board_model.specs.declared.boot_mode.BootMode.TheVariants as modes
-use Rattle.board_model.specs.declared.call_words.CallWords.{CallWords}
+use Rattle.board.specs.{Boots.boot_refusal, Moments.commands_by}
+use Rattle.board_model.specs.{ConsoleCommands.console_change, Durable.{DurableState, Change, Reset, refusal_of}, Shapes.Size}
+use Rattle.board_model.specs.declared.{boot_mode.BootMode.BootMode, call_words.CallWords.CallWords, durable.Reason.Reason}
 use Rattle.board_model.specs.declared.console_command.ConsoleCommand.{ConsoleCommand}
-use Rattle.board_model.specs.declared.durable.Reason.{Reason}
+use Rattle.board_model.specs.declared.boot_mode.BootMode.TheVariants as modes
 use Rattle.disk.specs.FaultState.{FaultState}
 use Rattle.machine.specs.Machine.{hart_at}
-use Rattle.report_lines.specs.declared.printed.Answer.{Answer}
-use Rattle.report_lines.specs.declared.printed.Printed.{Printed}
+use Rattle.report_lines.specs.declared.printed.{Answer.Answer, Printed.Printed}
 use Rattle.report_lines.specs.declared.printed.Printed.TheVariants as printed
-use Rattle.sbi.specs.Resets.{reset_of}
-use Rattle.sbi.specs.declared.resets.ResetType.{ResetType}
-use Rattle.sbi.specs.declared.words.LifeEnd.{LifeEnd}
+use Rattle.sbi.specs.{Resets.reset_of, declared.{resets.ResetType.ResetType, words.{LifeEnd.LifeEnd, Word.Word}}}
 use Rattle.sbi.specs.declared.words.LifeEnd.TheVariants as life_ends
-use Rattle.sbi.specs.declared.words.Word.{Word}
-use Rattle.sbi_abi.specs.Calls.{call_of}
-use Rattle.sbi_abi.specs.declared.call.Call.{Call}
+use Rattle.sbi_abi.specs.{Calls.call_of, declared.{call.Call.Call, ret.SbiError.{SbiError, TheVariants.{Denied, Failed, NotSupported}}}}
 use Rattle.sbi_abi.specs.declared.call.Call.TheVariants as calls
-use Rattle.sbi_abi.specs.declared.ret.SbiError.{SbiError}
-use Rattle.sbi_abi.specs.declared.ret.SbiError.TheVariants.{Denied, Failed, NotSupported}
-use Rattle.sbi_calls.specs.declared.words.Turned.{Turned}
-use Rattle.sbi_calls.specs.declared.words.Turned.TheVariants.{Made, Durable}
+use Rattle.sbi_calls.specs.declared.words.Turned.{Turned, TheVariants.{Made, Durable}}
 use Rattle.script_lang.specs.declared.line.Line.{Line}
-use Rattle.susp.specs.declared.sleeps.Sleep.{Sleep}
-use Rattle.susp.specs.declared.sleeps.Sleep.TheVariants.{ToDisk, ToRam}
-use Rattle.bench_report.specs.Asides.{Effect, Stays, aside, affected}
-use Rattle.bench_report.specs.Bench.{DiskState, Blank, Unknown, Formatted, BenchLife, Bench}
-use Rattle.bench_report.specs.Commands.{IssuedBy, IssuesAll, Writes}
-use Rattle.bench_report.specs.Deeds as deeds
-use Rattle.bench_report.specs.Deeds.{Deed, IsNoRow, deed_of}
+use Rattle.susp.specs.declared.sleeps.Sleep.{Sleep, TheVariants.{ToDisk, ToRam}}
+use Rattle.bench_report.specs.{Asides.{Effect, Stays, aside, affected}, Bench.{DiskState, Blank, Unknown, Formatted, BenchLife, Bench}}
+use Rattle.bench_report.specs.{Commands.{IssuedBy, IssuesAll, Writes}, Deeds.{Deed, IsNoRow, deed_of}}
 use Rattle.bench_report.specs.Happens.{FailsByFault, SaysEnough, acknowledged, failed, formatted_anew, has_machine, in_doubt, off, on_with, settled, unknown}
 use Rattle.bench_report.specs.PowerOns.{Begins, Boots, BootsFrom, FormatsOn, IsBooted, Opens, PowersOn, life_begun}
 use Rattle.bench_report.specs.Steps.{CallStep, ConsoleStep, DeedStep, FormatStep, GuestCall, Moves, OnStep}
 use Rattle.bench_report.specs.Turns.{AnswersError, BenchFallsAsleep, BenchMakesCall, BenchSleeps, BenchSleepsBy, ComesTo, HartCommand, Resets, SuspendIssued, dozes, refused}
 use Rattle.bench_report.proofs.Questions.{IsAsked, is_asked}
+use Rattle.bench_report.specs.Deeds as deeds
 
 -- no more refusals of memory are counted
 abbrev pub Counts : Bench → Bench → Type 0

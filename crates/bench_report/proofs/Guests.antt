@@ -1,31 +1,17 @@
 -- Turns and calls of harts: what was spoilt stays so, and where nothing is, two runs of the same turns are
 -- one.
 use Rattle.std.proofs.Common.{◌≡◌, ◌≢◌, ◌⊎◌, ℕ, zero, suc, inl, inr, Bool, true, false, Result, Ok, Err, refl, sym, ◌∙◌, ap, subst, arith}
-use Rattle.board_model.specs.Durable.{Change, Reset}
-use Rattle.board_model.specs.Shapes.{Size}
-use Rattle.board_model.specs.declared.durable.Reason.{Reason}
-use Rattle.susp.specs.Checks.{IsChecked, to_ram, to_disk, kind_of}
-use Rattle.susp.specs.declared.sleeps.Sleep.{Sleep}
-use Rattle.susp.specs.declared.sleeps.Sleep.TheVariants.{ToRam, ToDisk}
-use Rattle.machine.specs.Machine.{Machine, hart_at}
-use Rattle.machine.specs.Turns.{MakesTurn}
-use Rattle.sbi.specs.Words.{ends, word_of_sleep}
-use Rattle.sbi.specs.declared.words.Word.{Word}
-use Rattle.sbi.specs.declared.words.Word.TheVariants as words
-use Rattle.sbi.specs.declared.words.LifeEnd.{LifeEnd}
-use Rattle.sbi.specs.declared.words.LifeEnd.TheVariants as life_ends
-use Rattle.sbi_calls.specs.declared.words.Turned.{Turned}
-use Rattle.sbi_calls.specs.declared.words.Turned.TheVariants.{Made, Durable}
-use Rattle.sbi_calls.specs.declared.words.Did.TheVariants.{Next}
-use Rattle.sbi_abi.specs.declared.call.Call.{Call}
-use Rattle.sbi_abi.specs.declared.call.Call.TheVariants as calls
-use Rattle.sbi_abi.specs.declared.ret.SbiError.{SbiError}
-use Rattle.sbi_abi.specs.declared.ret.SbiError.TheVariants.{Failed, NotSupported, Denied}
-use Rattle.sbi_abi.specs.Calls.{call_of}
-use Rattle.sbi.specs.declared.resets.ResetType.{ResetType}
+use Rattle.board_model.specs.{Durable.{Change, Reset}, Shapes.Size, declared.durable.Reason.Reason}
+use Rattle.susp.specs.{Checks.{IsChecked, to_ram, to_disk, kind_of}, declared.sleeps.Sleep.{Sleep, TheVariants.{ToRam, ToDisk}}}
+use Rattle.machine.specs.{Machine.{Machine, hart_at}, Turns.MakesTurn}
+use Rattle.sbi.specs.{Words.{ends, word_of_sleep}, declared.{words.{Word.Word, LifeEnd.LifeEnd}, resets.ResetType.ResetType}}
 use Rattle.sbi.specs.Resets.{reset_of}
-use Rattle.bench_report.specs.Bench.{BenchLife, Bench}
-use Rattle.bench_report.specs.Happens.{off, on_with, has_machine}
+use Rattle.sbi.specs.declared.words.Word.TheVariants as words
+use Rattle.sbi.specs.declared.words.LifeEnd.TheVariants as life_ends
+use Rattle.sbi_calls.specs.declared.words.{Turned.{Turned, TheVariants.{Made, Durable}}, Did.TheVariants.Next}
+use Rattle.sbi_abi.specs.{declared.{call.Call.Call, ret.SbiError.{SbiError, TheVariants.{Failed, NotSupported, Denied}}}, Calls.call_of}
+use Rattle.sbi_abi.specs.declared.call.Call.TheVariants as calls
+use Rattle.bench_report.specs.{Bench.{BenchLife, Bench}, Happens.{off, on_with, has_machine}}
 use Rattle.bench_report.specs.Turns.{refused, AnswersError, HartCommand, Resets, SuspendIssued, dozes, BenchFallsAsleep, BenchSleeps, BenchSleepsBy, BenchMakesCall, ComesTo, GuestTurn, IsLastTurn, GuestTurns}
 use Rattle.bench_report.proofs.Determined.{Fair, fair_to, fair_then, unmoved, starves, starved, issued_fair, Agree, same, issued, some_inj}
 

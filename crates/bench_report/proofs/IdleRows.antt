@@ -2,26 +2,16 @@
 use Rattle.std.proofs.Common.{◌≡◌, ◌∙◌, ◌⊎◌, ◌≤◌, ◌+◌, ◌-◌, inl, inr, ℕ, zero, suc, true, false, refl, sym, ap, subst, arith}
 use Rattle.board_model.specs.Shapes.{Size}
 use Rattle.disk.specs.FaultState.{FaultState}
-use Rattle.machine.specs.Machine.{Machine}
-use Rattle.machine.specs.Shows.{HasHart}
+use Rattle.machine.specs.{Machine.Machine, Shows.HasHart}
 use Rattle.machine.specs.declared.line.MachineLine.TheVariants as shown
-use Rattle.sbi.specs.Words.{ends}
-use Rattle.sbi.specs.declared.words.Word.{Word}
+use Rattle.sbi.specs.{Words.ends, declared.words.Word.Word}
 use Rattle.sbi.specs.declared.words.Word.TheVariants as words
 use Rattle.sbi_calls.specs.declared.words.Did.TheVariants as dids
 use Rattle.script_lang.specs.declared.line.Line.TheVariants as lines
 use Rattle.board.specs.Turns as boards
-use Rattle.bench_report.specs.declared.power.Power.TheVariants.{On}
-use Rattle.bench_report.specs.Agree.{OnIs}
-use Rattle.bench_report.specs.Bench.{Bench}
-use Rattle.bench_report.specs.Happens.{shows}
-use Rattle.bench_report.specs.Steps.{Moves, TurnStep}
-use Rattle.bench_report.specs.Turns.{GuestTurn, GuestTurns}
-use Rattle.bench_report.specs.Views.{SimStore, SimBoard, store_in, machine_in, store_fault_state}
-use Rattle.bench_report.proofs.Lines.{on_turns}
-use Rattle.bench_report.specs.Lives.{WentInPlace}
-use Rattle.bench_report.specs.Rows.{IdleTurnStays, is_idle}
-use Rattle.bench_report.proofs.Turns.{went_in}
+use Rattle.bench_report.specs.{declared.power.Power.TheVariants.On, Agree.OnIs, Bench.Bench, Happens.shows, Steps.{Moves, TurnStep}}
+use Rattle.bench_report.specs.{Turns.{GuestTurn, GuestTurns}, Views.{SimStore, SimBoard, store_in, machine_in, store_fault_state}}
+use Rattle.bench_report.{proofs.{Lines.on_turns, Turns.went_in}, specs.{Lives.WentInPlace, Rows.{IdleTurnStays, is_idle}}}
 
 -- one idle turn, as often as wanted
 idle_guest : (h : ℕ) (b x : Bench) (word : Word) (count : ℕ) → x ≡ b → ends word ≡ false → b.fault_state.struck ≡ false → 1 ≤ count → GuestTurns h 1 b 1 word x → GuestTurns h count b count word b

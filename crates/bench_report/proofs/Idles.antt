@@ -1,40 +1,22 @@
 -- An idle turn changes nothing.
 use Rattle.std.proofs.Common.{◌≡◌, inl, inr, ℕ, Bool, true, false, Option, Some, None, Result, Ok, Err, refl, sym, ap, ◌∙◌, subst}
-use Rattle.board_model.specs.Shapes.{Size}
-use Rattle.hart.specs.State.{ArchState}
-use Rattle.hart.specs.declared.Outcome.{Outcome}
+use Rattle.board_model.specs.{Shapes.Size, declared.durable.Reason.Reason}
+use Rattle.hart.specs.{State.ArchState, declared.Outcome.Outcome}
 use Rattle.hart.specs.declared.Outcome.TheVariants as outcomes
-use Rattle.hsm.specs.Views.{listed}
-use Rattle.hsm.specs.States.{HartState, stopped, start_pending, started, suspended}
-use Rattle.sbi.specs.declared.words.Word.{Word}
+use Rattle.hsm.specs.{Views.listed, States.{HartState, stopped, start_pending, started, suspended}}
+use Rattle.sbi.specs.declared.{words.{Word.Word, LifeEnd.LifeEnd}, resets.ResetType.ResetType}
 use Rattle.sbi.specs.declared.words.Word.TheVariants as words
-use Rattle.sbi.specs.declared.words.LifeEnd.{LifeEnd}
-use Rattle.sbi.specs.declared.resets.ResetType.{ResetType}
-use Rattle.sbi_abi.specs.Calls.{call_of}
-use Rattle.sbi_abi.specs.declared.call.Call.{Call}
+use Rattle.sbi_abi.specs.{Calls.call_of, declared.{call.Call.Call, ret.SbiError.SbiError}}
 use Rattle.sbi_abi.specs.declared.call.Call.TheVariants as calls
-use Rattle.sbi_abi.specs.declared.ret.SbiError.{SbiError}
-use Rattle.board_model.specs.declared.durable.Reason.{Reason}
-use Rattle.sbi_calls.specs.Answers.{Ends}
-use Rattle.sbi_calls.specs.Both.{TableState}
-use Rattle.sbi_calls.specs.declared.endings.Ending.{Ending}
+use Rattle.sbi_calls.specs.{Answers.Ends, Both.TableState, declared.{endings.Ending.Ending, words.{Did.Did, Turned.Turned}}}
 use Rattle.sbi_calls.specs.declared.endings.Ending.TheVariants.{Answers, Stops, Suspends, SuspendsAfresh, Defers}
-use Rattle.sbi_calls.specs.declared.words.Did.{Did}
-use Rattle.sbi_calls.specs.declared.words.Did.TheVariants as dids
-use Rattle.sbi_calls.specs.declared.words.Turned.{Turned}
 use Rattle.sbi_calls.specs.declared.words.Turned.TheVariants.{Made, Durable}
-use Rattle.susp.specs.Dozes.{doze_of}
-use Rattle.susp.specs.declared.buses.Doze.{Doze}
-use Rattle.susp.specs.declared.sleeps.Sleep.{Sleep}
-use Rattle.susp.specs.declared.sleeps.Sleep.TheVariants.{ToRam, ToDisk}
+use Rattle.sbi_calls.specs.declared.words.Did.TheVariants as dids
+use Rattle.susp.specs.{Dozes.doze_of, declared.{buses.Doze.Doze, sleeps.Sleep.{Sleep, TheVariants.{ToRam, ToDisk}}}}
 use Rattle.turns.specs.Turns.{Moment, begun_by, woken_turn, has_pending, Finishes, TurnAs}
-use Rattle.machine.specs.Machine.{Machine, hart_at}
-use Rattle.machine.specs.Turns.{moment_of, with_moment, DozeTurn, TurnBy, MakesTurn}
-use Rattle.machine.proofs.Rows.{put_same}
-use Rattle.bench_report.specs.Bench.{BenchLife, Bench}
-use Rattle.bench_report.specs.Happens.{on_with, has_machine}
+use Rattle.machine.{specs.{Machine.{Machine, hart_at}, Turns.{moment_of, with_moment, DozeTurn, TurnBy, MakesTurn}}, proofs.Rows.put_same}
+use Rattle.bench_report.specs.{Bench.{BenchLife, Bench}, Happens.{on_with, has_machine}, Rows.{IdleTurnStays, is_idle, is_idle_did}}
 use Rattle.bench_report.specs.Turns.{HartCommand, Resets, BenchFallsAsleep, BenchSleeps, BenchSleepsBy, BenchMakesCall, ComesTo, GuestTurns}
-use Rattle.bench_report.specs.Rows.{IdleTurnStays, is_idle, is_idle_did}
 use Rattle.bench_report.proofs.Turns.{went_in}
 
 -- ---- of a machine

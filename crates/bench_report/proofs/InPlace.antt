@@ -2,25 +2,15 @@
 use Rattle.std.proofs.Common.{◌≡◌, ℕ, true, false, Option, None, Some, refl, subst}
 use Rattle.board.specs.Turns as boards
 use Rattle.board_model.specs.Shapes.{Size}
-use Rattle.machine.specs.Machine.{Machine}
-use Rattle.machine.specs.Shows.{HasHart}
+use Rattle.machine.specs.{Machine.Machine, Shows.HasHart}
 use Rattle.machine.specs.declared.line.MachineLine.TheVariants as shown
 use Rattle.sbi.specs.declared.words.Word.{Word}
 use Rattle.script_lang.specs.declared.line.Line.TheVariants as lines
-use Rattle.bench_report.specs.declared.power.Power.TheVariants.{On}
-use Rattle.bench_report.specs.Agree.{BoardIs, OnIs}
-use Rattle.bench_report.specs.Bench.{BenchLife, Bench}
-use Rattle.bench_report.specs.Happens.{shows, unpowered}
-use Rattle.bench_report.specs.Steps.{Moves, TurnStep}
-use Rattle.bench_report.specs.Turns.{GuestTurns}
-use Rattle.bench_report.specs.Views.{SimBoard, store_in, machine_in}
-use Rattle.bench_report.proofs.Came.{turns}
-use Rattle.bench_report.proofs.Commanded.{Running}
-use Rattle.bench_report.proofs.Lines.{stands_by}
-use Rattle.bench_report.specs.declared.rows.TurnRow.TheVariants as rows
-use Rattle.bench_report.specs.Rows.{RowMoves, row_answer}
+use Rattle.bench_report.specs.{declared.power.Power.TheVariants.On, Agree.{BoardIs, OnIs}, Bench.{BenchLife, Bench}, Turns.GuestTurns}
+use Rattle.bench_report.specs.{Happens.{shows, unpowered}, Steps.{Moves, TurnStep}, Views.{SimBoard, store_in, machine_in}}
+use Rattle.bench_report.{proofs.{Came.turns, Commanded.Running, Lines.stands_by}, specs.{Rows.{RowMoves, row_answer}, Lives.WentInPlace}}
 use Rattle.bench_report.proofs.Turns.{Struck, Went, loss_of, moves_of, trimmed, went_step}
-use Rattle.bench_report.specs.Lives.{WentInPlace}
+use Rattle.bench_report.specs.declared.rows.TurnRow.TheVariants as rows
 
 -- what the board did
 pub went_on : (size : Size) (b : Bench) (old new : SimBoard) (h n made : ℕ) (word : Word) → OnIs size b old → HasHart (machine_in old) h

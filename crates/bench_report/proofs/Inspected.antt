@@ -1,23 +1,13 @@
 -- What an examiner says of the disk of a clean bench is one thing.
 use Rattle.std.proofs.Common.{◌≡◌, ◌⊎◌, ◌<◌, ℕ, zero, suc, inl, inr, List, [], ◌∷◌, Option, None, Some, false, IsTrue, nat_lt, length, refl, sym, ◌∙◌, ap, subst, arith}
-use Rattle.board_model.specs.Durable.{DurableState, formatted}
-use Rattle.board_model.specs.Kept.{Kept, found_of}
-use Rattle.board_model.specs.Shapes.{Size}
+use Rattle.board_model.specs.{Durable.{DurableState, formatted}, Kept.{Kept, found_of}, Shapes.Size}
 use Rattle.disk.specs.Facts.{Content}
-use Rattle.layout.specs.declared.records.Record.{Record}
-use Rattle.layout.specs.declared.saved.Saved.{Saved}
-use Rattle.store.specs.Formats.{HeadInOrder}
-use Rattle.store.specs.Inspects.{KeepsImage, IsImageSeen, IsInspected}
-use Rattle.store.specs.Leaves.{IsMarked}
-use Rattle.store.specs.Opens.{IsBoard}
-use Rattle.store.specs.Standing.{selected, Selects, image_of, saved_memory, state_of, StandsFor}
-use Rattle.store.specs.declared.inspects.Inspection.{Inspection}
-use Rattle.report_lines.specs.declared.printed.Answer.{Answer}
-use Rattle.report_lines.specs.declared.printed.Printed.{Printed}
+use Rattle.layout.specs.declared.{records.Record.Record, saved.Saved.Saved}
+use Rattle.store.specs.{Formats.HeadInOrder, Inspects.{KeepsImage, IsImageSeen, IsInspected}, Leaves.IsMarked, Opens.IsBoard}
+use Rattle.store.specs.{Standing.{selected, Selects, image_of, saved_memory, state_of, StandsFor}, declared.inspects.Inspection.Inspection}
+use Rattle.report_lines.specs.declared.printed.{Answer.Answer, Printed.Printed}
 use Rattle.report_lines.specs.declared.printed.Printed.TheVariants as printed
-use Rattle.bench_report.specs.Bench.{DiskState, Blank, Unknown, Formatted, BenchLife, Bench, IsClean}
-use Rattle.bench_report.specs.Happens.{says}
-use Rattle.bench_report.specs.Sides.{SidesOf}
+use Rattle.bench_report.specs.{Bench.{DiskState, Blank, Unknown, Formatted, BenchLife, Bench, IsClean}, Happens.says, Sides.SidesOf}
 use Rattle.bench_report.specs.Examined.{ReadsOf, MayRead, Tells, memory_seen, image_seen, inspection_of, InspectsOn, InspectStep}
 use Rattle.bench_report.proofs.Determined.{HasFailed, CalmDisk, IsCalm, Agree, same, starves, hinders, kept_as}
 

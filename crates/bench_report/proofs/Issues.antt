@@ -2,14 +2,10 @@
 -- whatever the next open may find after them comes of a state that an open could have found before.
 use Rattle.std.proofs.Common.{◌≡◌, ◌≢◌, ◌⊎◌, ℕ, ◌+◌, inl, inr, List, [], ◌∷◌, Option, None, Some, Result, Ok, Err, refl, sym, ◌∙◌, ap, subst, arith, Bool, true, false}
 use Rattle.std.specs.Bool.{⊤}
-use Rattle.board_model.specs.Durable.{DurableState, Change, formatted, refusal_of, after}
-use Rattle.board_model.specs.Kept.{Kept, found_of, MayFind, TakesIn}
-use Rattle.bench_report.specs.Taken.{TakesAll, TakesSome, TakesFewer}
-use Rattle.bench_report.specs.Bench.{Formatted, BenchLife, Bench}
-use Rattle.bench_report.specs.Happens.{failed, acknowledged, in_doubt}
-use Rattle.bench_report.specs.Commands.{Writes, IssuedBy, Issued, IssuesAll}
+use Rattle.board_model.specs.{Durable.{DurableState, Change, formatted, refusal_of, after}, Kept.{Kept, found_of, MayFind, TakesIn}}
+use Rattle.bench_report.{specs.{Taken.{TakesAll, TakesSome, TakesFewer}, Bench.{Formatted, BenchLife, Bench}}, proofs.Table.table_not_six}
+use Rattle.bench_report.specs.{Happens.{failed, acknowledged, in_doubt}, Commands.{Writes, IssuedBy, Issued, IssuesAll}}
 use Rattle.board.proofs.Issued.{fold_more}
-use Rattle.bench_report.proofs.Table.{table_not_six}
 
 -- whether a board takes commands: it is on, with none in doubt
 abbrev pub takes_more : Option Change → Bool

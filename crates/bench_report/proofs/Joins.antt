@@ -1,13 +1,10 @@
 -- Two rows of turns of a hart, one after the other, are one.
 use Rattle.std.proofs.Common.{◌≡◌, ◌+◌, ℕ, false, refl, sym, subst, arith}
 use Rattle.board_model.specs.Shapes.{Size}
-use Rattle.sbi.specs.Words.{ends}
-use Rattle.sbi.specs.declared.words.Word.{Word}
-use Rattle.bench_report.specs.Bench.{Bench}
-use Rattle.bench_report.specs.declared.rows.TurnRow.{TurnRow}
-use Rattle.bench_report.specs.declared.rows.TurnRow.TheVariants as rows
-use Rattle.bench_report.specs.Rows.{RowMoves, RowsJoin}
+use Rattle.sbi.specs.{Words.ends, declared.words.Word.Word}
+use Rattle.bench_report.specs.{Bench.Bench, declared.rows.TurnRow.TurnRow, Rows.{RowMoves, RowsJoin}}
 use Rattle.bench_report.proofs.Turns.{went_in, lost_in, moves_of, loss_of, merged}
+use Rattle.bench_report.specs.declared.rows.TurnRow.TheVariants as rows
 
 counted : (size : Size) (h n m : ℕ) (word : Word) (b new : Bench) → n ≡ m → RowMoves size h (rows.Made n word) b new → RowMoves size h (rows.Made m word) b new
 counted size h n m word b new e moves = subst (λ (x : ℕ). RowMoves size h (rows.Made x word) b new) e moves

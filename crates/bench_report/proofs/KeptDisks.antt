@@ -1,17 +1,12 @@
 -- The laws of the store, for the disk in memory.
-use Rattle.std.specs.Prelude.{◌≡◌, ◌⊎◌, ◌≤◌, ◌<◌, length}
-use Rattle.board_model.specs.Durable.{DurableState}
-use Rattle.board_model.specs.Shapes.{Size, IsSize, sectors_of}
-use Rattle.board_model.specs.declared.refusal.Refusal.{Refusal}
+use Rattle.std.{specs.Prelude.{◌≡◌, ◌⊎◌, ◌≤◌, ◌<◌, length}, proofs.Common.{inl, sym, subst}}
+use Rattle.board_model.specs.{Durable.DurableState, Shapes.{Size, IsSize, sectors_of}, declared.refusal.Refusal.Refusal}
 use Rattle.board_model.specs.declared.refusal.Refusal.TheVariants.{NotFormatted, AlreadyFormatted, Device, Memory}
 use Rattle.disk.specs.Facts.{Content, Passes, Stays}
 use Rattle.simdisk.specs.declared.SimDisk.{SimDisk}
-use Rattle.store.specs.Leaves.{Leaves, IsBlank, IsKept, IsMarked, NoMore, LeftAsBefore}
-use Rattle.store.specs.Standing.{StandsFor}
+use Rattle.store.specs.{Leaves.{Leaves, IsBlank, IsKept, IsMarked, NoMore, LeftAsBefore}, Standing.StandsFor}
 use Rattle.store.specs.Opens.{OpenRefused, FormatRefused}
-use Rattle.bench_report.specs.Views.{facts}
-use Rattle.bench_report.proofs.Sides.{LeavesFewer}
-use Rattle.std.proofs.Common.{inl, sym, subst}
+use Rattle.bench_report.{specs.Views.facts, proofs.Sides.LeavesFewer}
 
 -- no content may be left that could not be left before, but for its state in a record of version 2
 abbrev pub LeavesLess : SimDisk → SimDisk → Type 0

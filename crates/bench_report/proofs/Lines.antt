@@ -1,39 +1,25 @@
 -- Lines that speak of memory and harts, or keep a payload, by what the code's board did.
-use Rattle.board_model.specs.declared.call_words.CallWords.{CallWords}
+use Rattle.board_model.specs.{declared.{call_words.CallWords.CallWords, boot_mode.BootMode.BootMode}, Shapes.Size}
 use Rattle.std.proofs.Common.{◌≡◌, inl, inr, slice_set, ℕ, List, length, Option, None, Some, Result, Ok, MatchResult, refl, sym, ◌∙◌, ap, subst}
-use Rattle.board_model.specs.declared.boot_mode.BootMode.{BootMode}
-use Rattle.board_model.specs.Shapes.{Size}
 use Rattle.std.specs.declared.alloc.AllocError.{AllocError}
 use Rattle.script_lang.specs.declared.line.Line.{Line}
 use Rattle.script_lang.specs.declared.line.Line.TheVariants as lines
-use Rattle.machine.specs.Machine.{Machine, hart_at}
-use Rattle.machine.specs.Turns.{MakesOneCall, calling}
+use Rattle.machine.specs.{Machine.{Machine, hart_at}, Turns.{MakesOneCall, calling}, Shows.{HasHart, own_line, made_line, called_line}}
+use Rattle.machine.specs.declared.line.MachineLine.{MachineLine}
 use Rattle.susp.specs.Dozes.{doze_of}
 use Rattle.sbi.specs.declared.words.Word.{Word}
 use Rattle.sbi.specs.declared.words.Word.TheVariants as words
 use Rattle.board.specs.Turns as boards
 use Rattle.sbi_calls.specs.declared.words.Turned.{Turned}
-use Rattle.machine.specs.Shows.{HasHart, own_line, made_line, called_line}
-use Rattle.machine.specs.declared.line.MachineLine.{MachineLine}
 use Rattle.machine.specs.declared.line.MachineLine.TheVariants as shown
-use Rattle.bench_report.specs.declared.power.Power.{Power}
-use Rattle.bench_report.specs.declared.power.OffDisk.{OffDisk}
-use Rattle.bench_report.specs.declared.power.Power.TheVariants.{Off, On}
-use Rattle.report_lines.specs.declared.printed.Answer.{Answer}
-use Rattle.bench_report.specs.Views.{SimStore, SimBoard, store_in, machine_in, store_facts, store_fault_state}
-use Rattle.bench_report.specs.Bench.{BenchLife, Bench}
-use Rattle.bench_report.specs.Happens.{shows, on_with, has_machine}
-use Rattle.bench_report.specs.PowerOns.{FormatsOn, PowersOn}
-use Rattle.bench_report.specs.Examined.{InspectsOn, InspectStep}
-use Rattle.bench_report.specs.Steps.{Step, FormatStep, OnStep, CallReported, GuestCall, TurnStep, CallStep, ReadStep}
-use Rattle.bench_report.proofs.Commanded.{Running, running_on}
-use Rattle.bench_report.proofs.Dozed.{call_size}
-use Rattle.bench_report.proofs.Came.{CountsRefused, Stands, has_other, comes, turns}
-use Rattle.bench_report.proofs.FailureFree.{comes_free}
-use Rattle.bench_report.specs.Turns.{ComesTo}
+use Rattle.bench_report.specs.{declared.power.{Power.{Power, TheVariants.{Off, On}}, OffDisk.OffDisk}, Bench.{BenchLife, Bench}}
+use Rattle.bench_report.{specs.Views.{SimStore, SimBoard, store_in, machine_in, store_facts, store_fault_state}, proofs.Dozed.call_size}
+use Rattle.bench_report.specs.{Happens.{shows, on_with, has_machine}, PowerOns.{FormatsOn, PowersOn}, Examined.{InspectsOn, InspectStep}}
+use Rattle.bench_report.specs.{Steps.{Step, FormatStep, OnStep, CallReported, GuestCall, TurnStep, CallStep, ReadStep}, Turns.ComesTo}
+use Rattle.bench_report.proofs.{Commanded.{Running, running_on}, Came.{CountsRefused, Stands, has_other, comes, turns}}
+use Rattle.bench_report.{proofs.FailureFree.comes_free, specs.{Asides.AsideStep, Deeds.SetSlot}}
 use Rattle.bench_report.specs.Agree.{StoreIs, BoardIs, CountsNone, DeviceIs, HadEnough, OffIs, OnIs, BoardAfter, Agrees, IsBench, Matches, StaysOn, StepsEnough, StepsTo}
-use Rattle.bench_report.specs.Asides.{AsideStep}
-use Rattle.bench_report.specs.Deeds.{SetSlot}
+use Rattle.report_lines.specs.declared.printed.Answer.{Answer}
 
 -- a board that is off
 pub off_formats : (size : Size) (b : Bench) (a : Answer) (after : Power) → b.power ≡ None → StepsTo size b after (FormatsOn b.disk_state b a) → StepsTo size b after (FormatStep b.power b a)

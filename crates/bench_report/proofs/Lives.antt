@@ -1,29 +1,20 @@
 -- A line that a bench under way runs.
 use Rattle.std.proofs.Common.{◌≡◌, ◌∙◌, Bool, List, ℕ, Result, Ok, Err, MatchResult, IfOk, OnErr, OnOk, inl, inr, true, false, refl, sym, subst}
-use Rattle.board_model.specs.Shapes.{Size}
-use Rattle.board_model.specs.declared.console_command.ConsoleCommand.{ConsoleCommand}
 use Rattle.std.specs.declared.alloc.AllocError.{AllocError}
+use Rattle.board_model.specs.{Shapes.Size, declared.console_command.ConsoleCommand.ConsoleCommand}
 use Rattle.machine.specs.declared.line.MachineLine.TheVariants as shown
 use Rattle.script_lang.specs.declared.line.Line.{Line}
 use Rattle.script_lang.specs.declared.line.Line.TheVariants as lines
 use Rattle.simdisk.specs.declared.fill.Fill.{Fill}
-use Rattle.sbi.specs.Words.{life_goes_on}
-use Rattle.sbi.specs.declared.words.Word.{Word}
+use Rattle.sbi.specs.{Words.life_goes_on, declared.words.Word.Word}
 use Rattle.sbi.specs.declared.words.Word.TheVariants as words
 use Rattle.bench_report.specs.Agree.{Agrees, ArmsIts, CountsNone, CutsIts, EndsBy, HadEnough, InspectsOrLost, IsBench, Matches, MovesEnough, PokesIts, StepsTo}
-use Rattle.bench_report.specs.Bench.{Bench}
-use Rattle.bench_report.specs.Deeds.{IsNoRow, deed_of}
-use Rattle.bench_report.specs.Happens.{SaysEnough, shows, unpowered}
-use Rattle.bench_report.proofs.Growths.{console_keeps, moves_grow, said_counts}
-use Rattle.bench_report.specs.Steps.{ConsoleStep, Moves}
-use Rattle.bench_report.specs.declared.power.Power.{Power}
-use Rattle.bench_report.specs.declared.power.Power.TheVariants.{Off, On}
-use Rattle.bench_report.specs.Rows.{RowMoves, row_answer}
-use Rattle.bench_report.specs.declared.rows.TurnRow.{TurnRow}
-use Rattle.bench_report.specs.declared.rows.TurnRow.TheVariants as rows
-use Rattle.bench_report.proofs.InPlace.{lost_of, row_of, step_of}
-use Rattle.report_lines.specs.declared.printed.Answer.{Answer}
+use Rattle.bench_report.specs.{Bench.Bench, Deeds.{IsNoRow, deed_of}, Happens.{SaysEnough, shows, unpowered}, Steps.{ConsoleStep, Moves}}
+use Rattle.bench_report.{proofs.Growths.{console_keeps, moves_grow, said_counts}, specs.declared.power.Power.{Power, TheVariants.{Off, On}}}
+use Rattle.bench_report.{specs.{Rows.{RowMoves, row_answer}, declared.rows.TurnRow.TurnRow}, proofs.InPlace.{lost_of, row_of, step_of}}
 use Rattle.bench_report.specs.Lives.{IsAfter, IsCutIn, IsSettled, IsWholeOrCut, LineDid, WentInPlace}
+use Rattle.bench_report.specs.declared.rows.TurnRow.TheVariants as rows
+use Rattle.report_lines.specs.declared.printed.Answer.{Answer}
 
 abbrev Reported : Size → Line → Fill → Power → Power → List (List ℕ) → List (List ℕ) → Result Answer AllocError → Type 0
 Reported size line fill power after old new r = (b : Bench) → IsBench size b power old

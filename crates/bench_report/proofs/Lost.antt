@@ -1,18 +1,15 @@
 -- Whatever a line tells, power that was lost within it would have left: some first of its commands took
 -- effect.
 use Rattle.std.proofs.Common.{◌≡◌, ◌⊎◌, ℕ, inl, inr, ◌-◌, ◌^◌, ◌==◌, List, [], ◌∷◌, Bool, true, false, MatchBool}
-use Rattle.board_model.specs.Durable.{DurableState, Change, after}
-use Rattle.board_model.specs.declared.boot_mode.BootMode.{BootMode}
+use Rattle.board_model.specs.{Durable.{DurableState, Change, after}, declared.boot_mode.BootMode.BootMode}
 use Rattle.sbi.specs.declared.words.Word.{Word}
 use Rattle.sbi.specs.declared.words.Word.TheVariants as words
 use Rattle.machine.specs.declared.line.MachineLine.{MachineLine}
 use Rattle.machine.specs.declared.line.MachineLine.TheVariants as shown_lines
 use Rattle.report_lines.specs.declared.printed.Printed.{Printed}
 use Rattle.report_lines.specs.declared.printed.Printed.TheVariants as printed
-use Rattle.bench_report.specs.PowerOns.{commands_of}
-use Rattle.bench_report.specs.Taken.{TakesAll, TakesSome, TakesFewer}
+use Rattle.bench_report.{specs.{PowerOns.commands_of, Taken.{TakesAll, TakesSome, TakesFewer}}, proofs.Unsaid.of_harts}
 use Rattle.bench_report.specs.Prefix.{AskedLine, Boot, Command, Guest, Nothing, IsOfHarts, Keeps, Hides, may_hide, TellsTurns, TellsCall, TellsLine, RefusedChange, Lost, LineImplies}
-use Rattle.bench_report.proofs.Unsaid.{of_harts}
 
 none_some : (cs : List Change) (s t : DurableState) → t ≡ s → TakesSome cs s t
 none_some [] s t e = e

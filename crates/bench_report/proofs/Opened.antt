@@ -1,22 +1,14 @@
 -- What a power-on says of the content that it opened.
 use Rattle.std.proofs.Common.{◌≡◌, ◌⊎◌, ◌∙◌, ℕ, List, Option, None, Some, IfSome, inl, inr, ap}
-use Rattle.board_model.specs.Views.{durable_of, number_of_refusal}
-use Rattle.board_model.specs.declared.boot_mode.BootMode.{BootMode}
-use Rattle.board_model.specs.declared.durable.Durable.{Durable}
-use Rattle.board_model.specs.declared.refusal.Refusal.{Refusal}
-use Rattle.board_model.specs.declared.refusal.Refusal.TheVariants.{Device}
-use Rattle.board_model.specs.Durable.{DurableState}
-use Rattle.board_model.specs.Shapes.{Size}
+use Rattle.board_model.specs.{Views.{durable_of, number_of_refusal}, declared.{boot_mode.BootMode.BootMode, durable.Durable.Durable}}
+use Rattle.board_model.specs.{declared.refusal.Refusal.{Refusal, TheVariants.Device}, Durable.DurableState, Shapes.Size}
 use Rattle.disk.specs.Facts.{Facts}
 use Rattle.machine.specs.Machine.{Machine}
-use Rattle.store.specs.Answers.{StoreView}
-use Rattle.store.specs.Opens.{ReadsAs}
-use Rattle.store.specs.Standing.{StandsFor}
+use Rattle.store.specs.{Answers.StoreView, Opens.ReadsAs, Standing.StandsFor}
 use Rattle.board.specs.PowersOn.{IsOn, IsUnpowered}
 use Rattle.report_lines.specs.declared.printed.Answer.{Answer}
 use Rattle.report_lines.specs.declared.printed.Printed.TheVariants as printed
-use Rattle.bench_report.specs.Happens.{says}
-use Rattle.bench_report.specs.Examined.{OpensOf}
+use Rattle.bench_report.specs.{Happens.says, Examined.OpensOf}
 
 pub opened_ok : (mode : BootMode) (payloads : List (List ℕ)) (disk : Facts) (store : StoreView) (machine : Machine) (found : Durable) → IsOn mode payloads disk store machine
     → ((e : Refusal) → ReadsAs disk.content e → ⊥) → found ≡ durable_of store.life.found → OpensOf disk.content (record { found = Some found; line = printed.On mode })

@@ -1,29 +1,17 @@
 -- What an open answers, and the boot after it.
 use Rattle.std.proofs.Common.{◌≡◌, ◌≢◌, ◌≤◌, arith, inl, inr, None, refl, sym, ◌∙◌, ap, subst}
-use Rattle.board_model.specs.Durable.{DurableState}
-use Rattle.board_model.specs.Kept.{Kept, MayFind}
-use Rattle.board_model.specs.Shapes.{Size}
-use Rattle.board_model.specs.Views.{number_of_refusal}
-use Rattle.board_model.specs.declared.refusal.Refusal.{Refusal}
-use Rattle.board_model.specs.declared.refusal.Refusal.TheVariants.{NotFormatted, Device, Memory}
+use Rattle.board_model.specs.{Durable.DurableState, Kept.{Kept, MayFind}, Shapes.Size, Views.number_of_refusal}
+use Rattle.board_model.specs.declared.{refusal.Refusal.{Refusal, TheVariants.{NotFormatted, Device, Memory}}, boot_mode.BootMode.BootMode}
 use Rattle.disk.specs.Facts.{Facts}
 use Rattle.simdisk.specs.declared.SimDisk.{SimDisk}
-use Rattle.store.specs.Leaves.{Leaves, IsBlank, IsKept, SameLength}
-use Rattle.store.specs.Opens.{CausedRefusal, OpenRefused}
-use Rattle.board_model.specs.declared.boot_mode.BootMode.{BootMode}
+use Rattle.store.specs.{Leaves.{Leaves, IsBlank, IsKept, SameLength}, Opens.{CausedRefusal, OpenRefused}}
 use Rattle.report_lines.specs.declared.printed.Answer.{Answer}
 use Rattle.report_lines.specs.declared.printed.Printed.TheVariants as printed
-use Rattle.bench_report.specs.Views.{facts, fault_state}
-use Rattle.bench_report.specs.Bench.{DiskState, Blank, Unknown, Formatted, Bench}
-use Rattle.bench_report.specs.Happens.{says, out_of_memory, failed}
-use Rattle.bench_report.specs.PowerOns.{life_begun, MayStand, Opens, PowersOn}
-use Rattle.bench_report.specs.Agree.{DiskIs, DeviceIs, LifeIs, OffIs}
-use Rattle.bench_report.specs.Sides.{SidesAre}
+use Rattle.bench_report.specs.{Views.{facts, fault_state}, Bench.{DiskState, Blank, Unknown, Formatted, Bench}, Sides.SidesAre}
+use Rattle.bench_report.specs.{Happens.{says, out_of_memory, failed}, PowerOns.{life_begun, MayStand, Opens, PowersOn}}
+use Rattle.bench_report.{specs.Agree.{DiskIs, DeviceIs, LifeIs, OffIs}, proofs.{Sides.{starved_sides, sides_before}, Ended.left_on}}
 use Rattle.bench_report.proofs.Devices.{is_device, is_memory, five, eleven, fails_by_fault, stays_as}
-use Rattle.bench_report.proofs.Sides.{starved_sides, sides_before}
-use Rattle.bench_report.proofs.Adapted.{struck, calm, failed_open, never_down}
-use Rattle.bench_report.proofs.KeptDisks.{KeptLaw, BlankLaw, LeavesLess}
-use Rattle.bench_report.proofs.Ended.{left_on}
+use Rattle.bench_report.proofs.{Adapted.{struck, calm, failed_open, never_down}, KeptDisks.{KeptLaw, BlankLaw, LeavesLess}}
 
 -- what an open finds is one of the states that the commands kept let it find; it keeps the command in doubt
 -- or drops it

@@ -1,25 +1,16 @@
 -- A disk that was written past the firmware.
 use Rattle.std.proofs.Common.{◌≡◌, true, false, List, ℕ, Option, Result, Ok, Err, refl, sym, ◌∙◌, subst, arith, MatchResult}
-use Rattle.board_model.specs.Shapes.{Size}
 use Rattle.std.specs.declared.alloc.AllocError.{AllocError}
-use Rattle.disk.specs.Calls.{NoCall}
-use Rattle.disk.specs.Facts.{Facts, Unchanged}
+use Rattle.board_model.specs.Shapes.{Size}
+use Rattle.disk.specs.{Calls.NoCall, Facts.{Facts, Unchanged}}
 use Rattle.simdisk.specs.declared.SimDisk.{SimDisk}
 use Rattle.store.specs.Leaves.{SameLength}
-use Rattle.bench_report.specs.declared.power.Power.{Power}
+use Rattle.bench_report.specs.{declared.power.Power.Power, Views.{facts, fault_state}, Bench.{BenchLife, Bench}, Asides.AsideStep}
+use Rattle.bench_report.specs.{Happens.{says, written_past}, Deeds.WritePast, Agree.{DeviceIs, OffIs, Agrees, Matches, StepsTo}}
+use Rattle.bench_report.{specs.Sides.SidesAre, proofs.{Devices.stays_as, Sides.{LeavesFewer, sides_stay}, Ended.left_on}}
+use Rattle.bench_report.proofs.KeptDisks.{GoesOn, less}
 use Rattle.report_lines.specs.declared.printed.Answer.{Answer}
 use Rattle.report_lines.specs.declared.printed.Printed.TheVariants as printed
-use Rattle.bench_report.specs.Views.{facts, fault_state}
-use Rattle.bench_report.specs.Bench.{BenchLife, Bench}
-use Rattle.bench_report.specs.Happens.{says, written_past}
-use Rattle.bench_report.specs.Asides.{AsideStep}
-use Rattle.bench_report.specs.Deeds.{WritePast}
-use Rattle.bench_report.specs.Agree.{DeviceIs, OffIs, Agrees, Matches, StepsTo}
-use Rattle.bench_report.specs.Sides.{SidesAre}
-use Rattle.bench_report.proofs.Devices.{stays_as}
-use Rattle.bench_report.proofs.Sides.{LeavesFewer, sides_stay}
-use Rattle.bench_report.proofs.Ended.{left_on}
-use Rattle.bench_report.proofs.KeptDisks.{GoesOn, less}
 
 device : (size : Size) (b x : Bench) (old new : SimDisk) → DeviceIs size b (fault_state old) (facts old) → x.fault_state ≡ b.fault_state → x.failures ≡ b.failures → SidesAre size x (facts new)
     → NoCall (facts old) (facts new) (fault_state old) (fault_state new) → SameLength (facts old) (facts new) → DeviceIs size x (fault_state new) (facts new)

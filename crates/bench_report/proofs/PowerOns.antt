@@ -1,29 +1,22 @@
 -- Power-ons at any point of a run.
 use Rattle.std.proofs.Common.{◌≡◌, ◌≢◌, ◌⊎◌, ℕ, zero, suc, inl, inr, List, [], ◌∷◌, ◌++◌, Option, None, Some, Result, Ok, Err, refl, sym, ◌∙◌, ap, subst, arith}
-use Rattle.board_model.specs.Durable.{DurableState, Image, Change, Suspend, Consume, formatted, refusal_of, after, fold}
-use Rattle.board_model.proofs.Steps.{ByImage, Made, Dropped, Left, by_image, left_image}
-use Rattle.board_model.specs.Kept.{Kept, MayKeep, MayFind, TakesIn, found_of}
-use Rattle.board_model.specs.Shapes.{Size}
-use Rattle.board_model.specs.Views.{durable_of}
-use Rattle.board_model.specs.declared.durable.Durable.{Durable}
+use Rattle.board_model.specs.{Durable.{DurableState, Image, Change, Suspend, Consume, formatted, refusal_of, after, fold}, Shapes.Size}
+use Rattle.board_model.{proofs.Steps.{ByImage, Made, Dropped, Left, by_image, left_image}, specs.Views.durable_of}
+use Rattle.board_model.specs.{Kept.{Kept, MayKeep, MayFind, TakesIn, found_of}, declared.durable.Durable.Durable}
 use Rattle.board_model.specs.declared.boot_mode.BootMode.{BootMode}
 use Rattle.board_model.specs.declared.boot_mode.BootMode.TheVariants as modes
 use Rattle.board.specs.Boots.{boot_refusal}
 use Rattle.script_lang.specs.Scripts.{Script}
 use Rattle.script_lang.specs.declared.line.Line.TheVariants as lines
-use Rattle.report_lines.specs.declared.printed.Answer.{Answer}
-use Rattle.report_lines.specs.declared.printed.Printed.{Printed}
+use Rattle.report_lines.specs.declared.printed.{Answer.Answer, Printed.Printed}
 use Rattle.report_lines.specs.declared.printed.Printed.TheVariants as printed
 use Rattle.bench_report.specs.Bench.{DiskState, Blank, Unknown, Formatted, BenchLife, Bench, IsFailureFree, bench_with}
-use Rattle.bench_report.specs.Deeds as deeds
-use Rattle.bench_report.specs.Happens.{says, on_with, settled, has_machine, acknowledged}
-use Rattle.bench_report.specs.Commands.{Writes, Issued, IssuesAll}
+use Rattle.bench_report.specs.{Happens.{says, on_with, settled, has_machine, acknowledged}, Commands.{Writes, Issued, IssuesAll}}
 use Rattle.bench_report.specs.PowerOns.{life_begun, ShowsFound, IsBooted, BootsFrom, Resumes, Boots, Opens, IsOpenRefusal, PowersOn}
-use Rattle.bench_report.specs.Steps.{OnStep, Moves}
-use Rattle.bench_report.specs.Reports.{AreByFirmware, IsReportWith}
-use Rattle.bench_report.specs.Resumes.{IsMadeIn, IsResumedFrom}
+use Rattle.bench_report.specs.{Steps.{OnStep, Moves}, Reports.{AreByFirmware, IsReportWith}, Resumes.{IsMadeIn, IsResumedFrom}}
 use Rattle.bench_report.proofs.Determined.{HasFailed, CalmDisk, found_as, starves, hinders, some_inj}
 use Rattle.bench_report.proofs.Single.{run_fair, clean, moves_fair}
+use Rattle.bench_report.specs.Deeds as deeds
 
 -- ---- the suspension that made an image
 abbrev MadeSince : DurableState → List Change → Image → Type 0

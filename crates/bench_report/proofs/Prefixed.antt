@@ -1,55 +1,35 @@
 -- The prefix law, one induction over the lines, backwards: the state before a line comes of the one after it,
 -- so that the fate of a command in doubt is reported by the open that settles it.
-use Rattle.board_model.specs.declared.call_words.CallWords.{CallWords}
+use Rattle.board_model.specs.{declared.call_words.CallWords.CallWords, Durable.{DurableState, Change, formatted}, Shapes.Size}
+use Rattle.board_model.specs.{Kept.{Kept, nothing_kept, found_of, MayKeep, MayFind}, Views.durable_of, declared.durable.Durable.Durable}
+use Rattle.board_model.specs.declared.{boot_mode.BootMode.BootMode, console_command.ConsoleCommand.ConsoleCommand}
+use Rattle.board_model.specs.ConsoleCommands.{console_change}
 use Rattle.std.proofs.Common.{◌≡◌, ◌≢◌, ◌⊎◌, ℕ, ◌-◌, ◌^◌, ◌==◌, inl, inr, List, [], ◌∷◌, Option, None, Some, Result, Ok, Err, refl, sym, ◌∙◌, ap, subst, Bool, true, false, MatchBool}
-use Rattle.std.specs.Bool.{⊤}
-use Rattle.std.proofs.lemmas.List.Elements.{All-cons, All-nil}
-use Rattle.board_model.specs.Durable.{DurableState, Change, formatted}
-use Rattle.board_model.specs.Kept.{Kept, nothing_kept, found_of, MayKeep, MayFind}
-use Rattle.board_model.specs.Shapes.{Size}
-use Rattle.board_model.specs.Views.{durable_of}
-use Rattle.board_model.specs.declared.durable.Durable.{Durable}
-use Rattle.board_model.specs.declared.boot_mode.BootMode.{BootMode}
+use Rattle.std.{specs.Bool.⊤, proofs.lemmas.List.Elements.{All-cons, All-nil}}
 use Rattle.board_model.specs.declared.boot_mode.BootMode.TheVariants as modes
-use Rattle.board.specs.Boots.{boot_refusal}
-use Rattle.board.specs.Moments.{commands_by}
-use Rattle.script_lang.specs.Scripts.{Script}
-use Rattle.script_lang.specs.declared.line.Line.{Line}
-use Rattle.machine.specs.Machine.{Machine, hart_at}
-use Rattle.machine.specs.Shows.{own_line, own_line_by}
-use Rattle.sbi_calls.specs.Words.{is_answered}
-use Rattle.sbi_calls.specs.declared.words.Did.{Did}
+use Rattle.board.specs.{Boots.boot_refusal, Moments.commands_by}
+use Rattle.script_lang.specs.{Scripts.Script, declared.line.Line.Line}
+use Rattle.machine.specs.{Machine.{Machine, hart_at}, Shows.{own_line, own_line_by}, declared.line.MachineLine.MachineLine}
+use Rattle.sbi_calls.specs.{Words.is_answered, declared.words.{Did.Did, Turned.Turned}}
 use Rattle.hart.specs.State.{ArchState, reg}
-use Rattle.sbi_calls.specs.declared.words.Turned.{Turned}
 use Rattle.sbi.specs.declared.words.Word.{Word}
 use Rattle.sbi.specs.declared.words.Word.TheVariants as words
-use Rattle.machine.specs.declared.line.MachineLine.{MachineLine}
 use Rattle.machine.specs.declared.line.MachineLine.TheVariants as shown_lines
-use Rattle.board_model.specs.declared.console_command.ConsoleCommand.{ConsoleCommand}
-use Rattle.board_model.specs.ConsoleCommands.{console_change}
-use Rattle.report_lines.specs.declared.printed.Printed.{Printed}
+use Rattle.report_lines.specs.declared.printed.{Printed.Printed, Answer.Answer}
 use Rattle.report_lines.specs.declared.printed.Printed.TheVariants as printed
-use Rattle.report_lines.specs.declared.printed.Answer.{Answer}
-use Rattle.bench_report.specs.Bench.{DiskState, Blank, Unknown, Formatted, BenchLife, Bench, bench_with}
-use Rattle.bench_report.specs.Deeds as deeds
-use Rattle.bench_report.specs.Deeds.{Deed, deed_of, IsByFirmwareAlone}
+use Rattle.bench_report.{specs.Bench.{DiskState, Blank, Unknown, Formatted, BenchLife, Bench, bench_with}, proofs.Determined.found_as}
+use Rattle.bench_report.specs.{Deeds.{Deed, deed_of, IsByFirmwareAlone}, Reports.{IsByFirmware, AreByFirmware, IsReportWith}}
 use Rattle.bench_report.specs.Happens.{says, shows, out_of_memory, failed, on_with, unpowered, armed_with, formatted_anew, settled, has_machine}
 use Rattle.bench_report.specs.PowerOns.{life_begun, commands_of, IsBooted, BootsFrom, Resumes, Begins, Boots, Opens, ShowsFound, IsOpenRefusal, PowersOn, FormatsOn}
 use Rattle.bench_report.specs.Steps.{console_reported, FormatStep, OnStep, ConsoleStep, CallReported, GuestCall, TurnStep, CallStep, DeedStep, Moves, Run}
-use Rattle.bench_report.specs.Reports.{IsByFirmware, AreByFirmware, IsReportWith}
 use Rattle.bench_report.specs.Prefix.{AskedLine, Boot, Command, Guest, Nothing, Keeps, Hides, TellsTurns, TellsLine, asked_of, asked_by, line_asks, RefusedChange, Lost, LineImplies, ShowsIts, ShowsBy, ShowsAt, IsPrefixedTo, resumes, RisesFrom, AreLoaded, is_format_ok, IsFoundByPrefix, KeepsPrefixLawTo, KeepsPrefixLaw, MayEndIn}
-use Rattle.bench_report.proofs.Determined.{found_as}
-use Rattle.bench_report.proofs.Refused.{WasRefused, one_life}
-use Rattle.bench_report.proofs.Unsaid.{Hidden, TellsDid, TellsOne, GoesBy, TurnsGoBy, comes_back, turns_back}
-use Rattle.bench_report.proofs.Lost.{lost}
-use Rattle.bench_report.proofs.Serials.{serials_rise}
-use Rattle.bench_report.proofs.Wholes.{IsKeptWhole, LoadsWhole, BootsLoad, all_loaded}
-use Rattle.bench_report.proofs.Asks.{line_asks-asked_by, firmware_alone}
-use Rattle.bench_report.proofs.Allowed.{all_issued}
+use Rattle.bench_report.proofs.{Refused.{WasRefused, one_life}, Lost.lost, Serials.serials_rise, Asks.{line_asks-asked_by, firmware_alone}}
+use Rattle.bench_report.proofs.{Unsaid.{Hidden, TellsDid, TellsOne, GoesBy, TurnsGoBy, comes_back, turns_back}, Allowed.all_issued}
+use Rattle.bench_report.proofs.{Wholes.{IsKeptWhole, LoadsWhole, BootsLoad, all_loaded}, Questions.{IsAsked, is_asked}}
 use Rattle.bench_report.proofs.Issues.{takes_more, is_up, GoesOn, IsSound, Back, joined, said, Went, Does, issued_back, AllWent, all_back}
 use Rattle.bench_report.specs.Asides.{Effect, Stays, SetsPayloads, Arms, CutsPower, SetsDoze, WritesPast, aside, affected}
 use Rattle.bench_report.proofs.Beside.{OfFirmware, FitsPower, TellsNothing, is_aside}
-use Rattle.bench_report.proofs.Questions.{IsAsked, is_asked}
+use Rattle.bench_report.specs.Deeds as deeds
 
 -- ---- a line that leaves what the disk stands for
 abbrev pub LineReports : AskedLine → Answer → Bool → Bool → DurableState → DurableState → Type 0

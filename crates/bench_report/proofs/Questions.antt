@@ -1,18 +1,12 @@
 -- What is known of a question, by what is said of it: nothing but what was refused is counted.
 use Rattle.std.proofs.Common.{◌≡◌, ◌⊎◌, Bool, false, inl, inr, Option, Some, None, refl}
-use Rattle.board_model.specs.Durable.{DurableState}
-use Rattle.board_model.specs.Shapes.{Size}
+use Rattle.board_model.specs.{Durable.DurableState, Shapes.Size}
 use Rattle.disk.specs.Facts.{Content}
 use Rattle.machine.specs.declared.line.MachineLine.TheVariants as shown
-use Rattle.report_lines.specs.declared.printed.Printed.{Printed}
+use Rattle.report_lines.specs.declared.printed.{Printed.Printed, Answer.Answer}
 use Rattle.report_lines.specs.declared.printed.Printed.TheVariants as printed
-use Rattle.report_lines.specs.declared.printed.Answer.{Answer}
-use Rattle.bench_report.specs.Bench.{BenchLife, Bench}
-use Rattle.bench_report.specs.Deeds.{Question, OfBoard, OfDisk}
-use Rattle.bench_report.specs.Happens.{says, out_of_memory, FailsByFault}
-use Rattle.bench_report.specs.Examined.{Tells}
-use Rattle.bench_report.specs.Prefix.{Nothing, LineImplies, is_format_ok}
-use Rattle.bench_report.specs.Steps.{QuestionStep}
+use Rattle.bench_report.specs.{Bench.{BenchLife, Bench}, Deeds.{Question, OfBoard, OfDisk}, Happens.{says, out_of_memory, FailsByFault}}
+use Rattle.bench_report.specs.{Examined.Tells, Prefix.{Nothing, LineImplies, is_format_ok}, Steps.QuestionStep}
 
 -- what is said tells of no command and of no format
 pub record TellsOfNone (said : Printed) : Type 0 where

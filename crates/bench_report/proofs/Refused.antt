@@ -1,16 +1,13 @@
 -- A hart whose durable call was refused is shown with the answer -1.
 use Rattle.std.proofs.Common.{◌≡◌, ◌≢◌, ℕ, ◌-◌, ◌^◌, ◌<◌, Option, Some, None, Result, inl, inr, length, slice_set, refl, sym, ◌∙◌, ap, subst, arith}
-use Rattle.std.proofs.Math.Nat.{lt_of_not-le}
-use Rattle.std.proofs.lemmas.List.{get_or_past, get_or-set_same, get_or-set_other}
+use Rattle.std.proofs.{Math.Nat.lt_of_not-le, lemmas.List.{get_or_past, get_or-set_same, get_or-set_other}}
 use Rattle.board_model.specs.Durable.{Change, refusal_of}
 use Rattle.machine.specs.Machine.{Machine, hart_at}
 use Rattle.hart.specs.State.{ArchState, reg, answered, never_started}
 use Rattle.sbi_abi.specs.Calls.{call_of, call_at}
 use Rattle.sbi_abi.specs.declared.call.Call.TheVariants as calls
-use Rattle.bench_report.specs.Bench.{BenchLife, Bench}
-use Rattle.bench_report.specs.Happens.{out_of_memory, failed, acknowledged, in_doubt}
+use Rattle.bench_report.specs.{Bench.{BenchLife, Bench}, Happens.{out_of_memory, failed, acknowledged, in_doubt}, Turns.SuspendIssued}
 use Rattle.bench_report.specs.Commands.{Writes, IssuedBy, Issued}
-use Rattle.bench_report.specs.Turns.{SuspendIssued}
 
 -- hart h of the board that is on shows the answer -1
 abbrev pub WasRefused : ℕ → Bench → Type 0

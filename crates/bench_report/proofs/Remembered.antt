@@ -1,28 +1,15 @@
 -- That a store was refused memory is remembered: where it was refused none by now, it was refused none before.
 use Rattle.std.proofs.Common.{◌≡◌, ◌∙◌, ℕ, zero, suc, inl, inr, true, false, Result, Ok, Err, sym, ap}
-use Rattle.board_model.specs.Durable.{Change}
-use Rattle.board_model.specs.declared.durable.Reason.{Reason}
-use Rattle.board_model.specs.declared.refusal.Refusal.{Refusal}
+use Rattle.board_model.specs.{Durable.Change, declared.{durable.Reason.Reason, refusal.Refusal.Refusal}}
 use Rattle.hart.specs.State.{ArchState}
 use Rattle.hsm.specs.Views.{listed}
 use Rattle.machine.specs.Machine.{Machine}
-use Rattle.sbi.specs.Helds.{MakesReset, HeldIn}
-use Rattle.sbi.specs.Resets.{reset_of}
-use Rattle.sbi.specs.declared.resets.ResetType.{ResetType}
-use Rattle.sbi.specs.declared.words.Word.{Word}
-use Rattle.sbi_abi.specs.declared.call.Call.{Call}
+use Rattle.sbi.specs.{Helds.{MakesReset, HeldIn}, Resets.reset_of, declared.{resets.ResetType.ResetType, words.Word.Word}}
+use Rattle.sbi_abi.specs.declared.{call.Call.Call, ret.SbiError.SbiError}
 use Rattle.sbi_abi.specs.declared.call.Call.TheVariants as calls
-use Rattle.sbi_abi.specs.declared.ret.SbiError.{SbiError}
-use Rattle.sbi_calls.specs.Both.{TableState}
-use Rattle.sbi_calls.specs.declared.words.Turned.{Turned}
-use Rattle.sbi_calls.specs.declared.words.Turned.TheVariants.{Made, Durable}
-use Rattle.store.specs.Asked.{Asked}
-use Rattle.store.specs.Lives.{Life}
-use Rattle.store.specs.Views.{was_refused_memory}
-use Rattle.susp.specs.Sleeps.{FallsAsleepBy, SleepsBy}
-use Rattle.susp.specs.declared.buses.Bus.{Bus}
-use Rattle.susp.specs.declared.sleeps.Sleep.{Sleep}
-use Rattle.susp.specs.declared.sleeps.Sleep.TheVariants.{ToRam, ToDisk}
+use Rattle.sbi_calls.specs.{Both.TableState, declared.words.Turned.{Turned, TheVariants.{Made, Durable}}}
+use Rattle.store.specs.{Asked.Asked, Lives.Life, Views.was_refused_memory}
+use Rattle.susp.specs.{Sleeps.{FallsAsleepBy, SleepsBy}, declared.{buses.Bus.Bus, sleeps.Sleep.{Sleep, TheVariants.{ToRam, ToDisk}}}}
 use Rattle.board.specs.Turns as boards
 use Rattle.bench_report.specs.Views.{SimStore}
 

@@ -1,16 +1,10 @@
 -- The lines of a run, one after another.
 use Rattle.std.proofs.Common.{◌≡◌, ◌∙◌, ℕ, zero, suc, ◌+◌, ◌<◌, ◌≤◌, List, [], ◌∷◌, ◌++◌, length, take, drop, get_or, Option, None, Some, refl, sym, ap, subst, arith, Result, Ok, Err, OnOk, OnErr}
 use Rattle.std.proofs.lemmas.List.{take_more}
-use Rattle.board_model.specs.Shapes.{Size}
-use Rattle.board_model.specs.declared.durable.Durable.{Durable}
-use Rattle.report_lines.specs.Texts.{found_count}
-use Rattle.script_lang.specs.declared.line.Line.{Line}
-use Rattle.report_lines.specs.declared.printed.Answer.{Answer}
-use Rattle.bench_report.specs.Bench.{Bench, bench_with}
-use Rattle.bench_report.specs.Steps.{Moves, Run}
-use Rattle.bench_report.specs.Reports.{IsReportWith}
-use Rattle.bench_report.specs.Agree.{fill_after, fills_after}
-use Rattle.script_lang.specs.Scripts.{Script}
+use Rattle.board_model.specs.{Shapes.Size, declared.durable.Durable.Durable}
+use Rattle.report_lines.specs.{Texts.found_count, declared.printed.Answer.Answer}
+use Rattle.script_lang.specs.{declared.line.Line.Line, Scripts.Script}
+use Rattle.bench_report.specs.{Bench.{Bench, bench_with}, Steps.{Moves, Run}, Reports.IsReportWith, Agree.{fill_after, fills_after}}
 use Rattle.simdisk.specs.declared.fill.Fill.{Fill}
 
 -- one line more at the end

@@ -1,21 +1,14 @@
 -- The serials of the images that are resumed rise strictly: a consequence of the prefix law alone.
 use Rattle.std.proofs.Common.{◌≡◌, ◌≤◌, ◌<◌, ◌+◌, ℕ, inl, inr, List, [], ◌∷◌, Option, None, Some, IfSome, refl, sym, subst, arith, Bool, false}
-use Rattle.board_model.specs.Durable.{Image, DurableState, Change, Consume, formatted, after}
-use Rattle.board_model.proofs.Steps.{by_image, image_after}
-use Rattle.board_model.specs.Views.{head_of}
-use Rattle.board_model.specs.declared.durable.Durable.{Durable}
-use Rattle.board_model.specs.declared.boot_mode.BootMode.{BootMode}
+use Rattle.board_model.{specs.Durable.{Image, DurableState, Change, Consume, formatted, after}, proofs.Steps.{by_image, image_after}}
+use Rattle.board_model.specs.{Views.head_of, declared.{durable.Durable.Durable, boot_mode.BootMode.BootMode}}
 use Rattle.board_model.specs.declared.boot_mode.BootMode.TheVariants as modes
 use Rattle.board.specs.Boots.{boot_refusal}
 use Rattle.script_lang.specs.declared.line.Line.{Line}
-use Rattle.report_lines.specs.declared.printed.Answer.{Answer}
-use Rattle.report_lines.specs.declared.printed.Printed.{Printed}
+use Rattle.report_lines.specs.declared.printed.{Answer.Answer, Printed.Printed}
 use Rattle.report_lines.specs.declared.printed.Printed.TheVariants as printed
-use Rattle.bench_report.specs.PowerOns.{commands_of}
-use Rattle.bench_report.specs.Taken.{TakesAll, TakesSome}
+use Rattle.bench_report.{specs.{PowerOns.commands_of, Taken.{TakesAll, TakesSome}}, proofs.{Lost.lost, Allowed.all_issued}}
 use Rattle.bench_report.specs.Prefix.{AskedLine, Boot, Command, Guest, Nothing, line_asks, Lost, LineImplies, ShowsIts, ShowsBy, IsPrefixedTo, serial_then, resumed, resumes, RisesFrom}
-use Rattle.bench_report.proofs.Lost.{lost}
-use Rattle.bench_report.proofs.Allowed.{all_issued}
 
 -- no serial below n will be resumed again
 abbrev Above : ℕ → DurableState → Type 0

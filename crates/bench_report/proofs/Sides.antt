@@ -2,23 +2,16 @@
 use Rattle.std.proofs.Common.{◌≡◌, ◌⊎◌, ◌+◌, ◌-◌, ◌%◌, ℕ, zero, suc, List, [], ◌∷◌, ◌++◌, inl, inr, refl, sym, ◌∙◌, ap, subst, arith, length, get_or, replicate}
 use Rattle.std.proofs.lemmas.List.{length-append, append-nil}
 use mathlib.Core.List.{append_assoc}
-use Rattle.board_model.specs.Durable.{DurableState, Change, after}
-use Rattle.board_model.specs.Kept.{Kept, nothing_kept}
-use Rattle.board_model.specs.Shapes.{Size}
+use Rattle.board_model.specs.{Durable.{DurableState, Change, after}, Kept.{Kept, nothing_kept}, Shapes.Size}
 use Rattle.disk.specs.Facts.{Facts, Content, IsFresh, sector, counted}
-use Rattle.layout.specs.Fields.{sector_of, fields_bytes, number_bytes, number_at}
-use Rattle.layout.specs.Records.{selected_by, gate_of, version_number, record_of, IsRecord}
-use Rattle.layout.specs.declared.records.Record.{Record}
-use Rattle.layout.specs.declared.records.Version.{Version}
+use Rattle.layout.specs.{Fields.{sector_of, fields_bytes, number_bytes, number_at}, declared.records.{Record.Record, Version.Version}}
+use Rattle.layout.specs.{Records.{selected_by, gate_of, version_number, record_of, IsRecord}, Superblocks.HasMagic}
 use Rattle.layout.specs.declared.records.Version.TheVariants.{One, Two}
-use Rattle.layout.specs.Superblocks.{HasMagic}
-use Rattle.store.specs.Formats.{HeadInOrder, formatted_record}
-use Rattle.store.specs.Inspects.{HasRecord}
+use Rattle.store.specs.{Formats.{HeadInOrder, formatted_record}, Inspects.HasRecord}
 use Rattle.store.specs.Leaves.{IsMarked, IsKept, IsRenewed, LeftAsBefore, WroteACommand}
 use Rattle.store.specs.Standing.{selected, live_sector, other_sector, version_at, StandsFor}
 use Rattle.board.specs.Moments.{IsWrittenOver, AreWritten}
-use Rattle.bench_report.specs.Bench.{DiskState, Blank, Unknown, Formatted, BenchLife, Bench, bench_with}
-use Rattle.bench_report.specs.Sides.{SidesOf, SidesAre}
+use Rattle.bench_report.specs.{Bench.{DiskState, Blank, Unknown, Formatted, BenchLife, Bench, bench_with}, Sides.{SidesOf, SidesAre}}
 use Rattle.bench_report.specs.Agree.{LifeIs}
 
 -- a crash leaves no more than before

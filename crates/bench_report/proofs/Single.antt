@@ -1,37 +1,24 @@
 -- One report: the lines, and the one induction over them.
-use Rattle.board_model.specs.declared.call_words.CallWords.{CallWords}
+use Rattle.board_model.specs.{declared.{call_words.CallWords.CallWords, boot_mode.BootMode.BootMode}, Shapes.Size}
+use Rattle.board_model.specs.{declared.console_command.ConsoleCommand.ConsoleCommand, ConsoleCommands.console_change}
 use Rattle.std.proofs.Common.{◌≡◌, ◌⊎◌, ℕ, inl, inr, List, [], ◌∷◌, Option, None, Some, refl, sym, ◌∙◌, ap, subst, arith, true, false}
-use Rattle.board_model.specs.Shapes.{Size}
-use Rattle.board_model.specs.declared.boot_mode.BootMode.{BootMode}
-use Rattle.machine.specs.Machine.{Machine, hart_at}
-use Rattle.machine.specs.Shows.{own_line, CsrLine}
-use Rattle.machine.specs.declared.line.MachineLine.{MachineLine}
+use Rattle.machine.specs.{Machine.{Machine, hart_at}, Shows.{own_line, CsrLine}, declared.line.MachineLine.MachineLine, Turns.MakesOneCall}
 use Rattle.machine.specs.declared.line.MachineLine.TheVariants as shown_lines
-use Rattle.machine.specs.Turns.{MakesOneCall}
 use Rattle.sbi.specs.declared.words.Word.{Word}
 use Rattle.sbi.specs.declared.words.Word.TheVariants as words
 use Rattle.sbi_calls.specs.declared.words.Turned.{Turned}
-use Rattle.script_lang.specs.Scripts.{Script}
-use Rattle.script_lang.specs.declared.line.Line.{Line}
-use Rattle.board_model.specs.declared.console_command.ConsoleCommand.{ConsoleCommand}
-use Rattle.board_model.specs.ConsoleCommands.{console_change}
+use Rattle.script_lang.specs.{Scripts.Script, declared.{line.Line.Line, looks.Look.Look}}
 use Rattle.report_lines.specs.declared.printed.Answer.{Answer}
-use Rattle.bench_report.specs.Bench.{BenchLife, Bench, IsFailureFree, bench_with}
-use Rattle.bench_report.specs.Deeds as deeds
-use Rattle.bench_report.specs.Deeds.{Question, OfBoard, OfDisk, Deed, deed_of, IsByFirmwareAlone}
-use Rattle.bench_report.specs.Happens.{shows, unpowered, on_with, has_machine}
+use Rattle.bench_report.specs.{Bench.{BenchLife, Bench, IsFailureFree, bench_with}, Happens.{shows, unpowered, on_with, has_machine}}
+use Rattle.bench_report.specs.{Deeds.{Question, OfBoard, OfDisk, Deed, deed_of, IsByFirmwareAlone}, Reports.{AreByFirmware, IsReportWith}}
 use Rattle.bench_report.specs.Steps.{console_reported, FormatStep, OnStep, ConsoleStep, CallReported, GuestCall, TurnStep, CallStep, ReadStep, QuestionStep, DeedStep, DeedMoves, Run}
-use Rattle.bench_report.specs.Reports.{AreByFirmware, IsReportWith}
-use Rattle.bench_report.proofs.Asks.{firmware_alone}
-use Rattle.bench_report.proofs.Inspected.{ContentLaws, inspect_at}
+use Rattle.bench_report.{proofs.{Asks.firmware_alone, Inspected.{ContentLaws, inspect_at}}, specs.Looks.IsShown}
 use Rattle.bench_report.proofs.Guests.{IsOneTurn, TurnsSaid, row, comes_fair, comes_one, truth, turns_fair, turns_one}
 use Rattle.bench_report.proofs.Determined.{some_inj, HasFailed, DiskHasFailed, IsCalm, Fair, fair_to, fair_then, unmoved, spoils, fails, starved, issued_fair, Agree, same, issued, formats_fair, formats, powers_fair, powers}
-use Rattle.script_lang.specs.declared.looks.Look.{Look}
-use Rattle.script_lang.specs.declared.looks.Look.TheVariants as looks
-use Rattle.bench_report.specs.Looks.{IsShown}
-use Rattle.bench_report.specs.Asides.{Effect, Stays, CutsPower, WritesPast, aside, affected}
-use Rattle.bench_report.proofs.Beside.{OfFirmware, is_aside}
+use Rattle.bench_report.{specs.Asides.{Effect, Stays, CutsPower, WritesPast, aside, affected}, proofs.Beside.{OfFirmware, is_aside}}
 use Rattle.bench_report.proofs.Questions.{IsAsked, is_asked}
+use Rattle.bench_report.specs.Deeds as deeds
+use Rattle.script_lang.specs.declared.looks.Look.TheVariants as looks
 
 -- what the lines leave nothing open of
 abbrev pub IsOneCall : Type 0

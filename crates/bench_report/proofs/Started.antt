@@ -1,47 +1,28 @@
 -- A power-on whose open succeeded.
 use Rattle.std.proofs.Common.{◌≡◌, ◌≢◌, ◌≤◌, ◌+◌, ℕ, List, [], ◌∷◌, ◌++◌, Option, None, Some, Ok, Err, inl, inr, refl, sym, ◌∙◌, ap, subst, arith, length}
-use Rattle.board_model.specs.Durable.{DurableState, Change, after, fold, refusal_of}
-use Rattle.board_model.specs.Kept.{Kept, found_of}
-use Rattle.board_model.specs.Shapes.{Size}
-use Rattle.board_model.specs.Views.{durable_of, number_of_refusal}
-use Rattle.board_model.specs.declared.boot_mode.BootMode.{BootMode}
+use Rattle.board_model.specs.{Durable.{DurableState, Change, after, fold, refusal_of}, Kept.{Kept, found_of}, Shapes.Size}
+use Rattle.board_model.specs.{Views.{durable_of, number_of_refusal}, declared.{boot_mode.BootMode.BootMode, durable.Durable.Durable}}
+use Rattle.board_model.specs.declared.refusal.Refusal.{Refusal, TheVariants.{BadShape, Memory, Device, Down, BadImage}}
 use Rattle.board_model.specs.declared.boot_mode.BootMode.TheVariants as modes
-use Rattle.board_model.specs.declared.durable.Durable.{Durable}
-use Rattle.board_model.specs.declared.refusal.Refusal.{Refusal}
-use Rattle.board_model.specs.declared.refusal.Refusal.TheVariants.{BadShape, Memory, Device, Down, BadImage}
 use Rattle.disk.specs.Facts.{Content, Facts}
 use Rattle.simdisk.specs.declared.SimDisk.{SimDisk}
-use Rattle.store.specs.Leaves.{Leaves, LeavesOnly, LeavesEither, LeftAsBefore, IsRenewed, SameLength}
-use Rattle.store.specs.Lives.{Life as StoreLife, begun as started, now_of}
-use Rattle.store.specs.Opens.{CausedRefusal}
-use Rattle.store.specs.Views.{life_of, view_of}
+use Rattle.store.specs.{Leaves.{Leaves, LeavesOnly, LeavesEither, LeftAsBefore, IsRenewed, SameLength}, Opens.CausedRefusal}
+use Rattle.store.specs.{Lives.{Life as StoreLife, begun as started, now_of}, Views.{life_of, view_of}}
 use Rattle.machine.specs.Machine.{Machine}
-use Rattle.board.specs.Boots.{boot_refusal, life_after, PayloadsFit}
-use Rattle.board.specs.Begins.{IsBegun, IsLateRefusal, IsBootRefusal}
-use Rattle.board.specs.Moments.{commands_by, gone_before, MayLeave, AreWritten, LeavesFrom}
-use Rattle.board.specs.PowersOn.{IsOn, IsUnpowered, KeepsDisk, GivesDisk}
-use Rattle.board.specs.Unbooted.{doubt_by, IsLifeLeft, LeavesLife, CountsRefusal}
-use Rattle.report_lines.specs.declared.printed.Answer.{Answer}
-use Rattle.report_lines.specs.declared.printed.Printed.{Printed}
+use Rattle.board.specs.{Boots.{boot_refusal, life_after, PayloadsFit}, Begins.{IsBegun, IsLateRefusal, IsBootRefusal}}
+use Rattle.board.{specs.Moments.{commands_by, gone_before, MayLeave, AreWritten, LeavesFrom}, proofs.Few.few_commands}
+use Rattle.board.specs.{PowersOn.{IsOn, IsUnpowered, KeepsDisk, GivesDisk}, Unbooted.{doubt_by, IsLifeLeft, LeavesLife, CountsRefusal}}
+use Rattle.report_lines.specs.declared.printed.{Answer.Answer, Printed.Printed}
 use Rattle.report_lines.specs.declared.printed.Printed.TheVariants as printed
 use Rattle.bench_report.specs.Views.{SimStore, SimBoard, store_in, machine_in, facts, fault_state, store_size, store_now, store_facts, store_fault_state, IsLife, IsAs}
-use Rattle.bench_report.specs.Bench.{DiskState, Blank, Unknown, Formatted, BenchLife, Bench, IsClean}
+use Rattle.bench_report.specs.{Bench.{DiskState, Blank, Unknown, Formatted, BenchLife, Bench, IsClean}, Commands.{Writes, IssuesAll}}
 use Rattle.bench_report.specs.Happens.{says, out_of_memory, failed, off, on_with, has_machine, life_with, all_acknowledged, in_doubt}
-use Rattle.bench_report.specs.Commands.{Writes, IssuesAll}
-use Rattle.bench_report.specs.PowerOns.{life_begun, ShowsFound, Opens, BootsFrom, Begins, Boots, PowersOn, TellsNow}
-use Rattle.bench_report.specs.Sides.{SidesOf, SidesAre}
-use Rattle.bench_report.specs.Agree.{BoardIs, DiskIs, DeviceIs, LifeIs, OffIs, OnIs}
-use Rattle.bench_report.proofs.Adapted.{calm}
-use Rattle.bench_report.proofs.Commanded.{follows_with}
-use Rattle.bench_report.proofs.Determined.{begun_size, kept_as}
-use Rattle.bench_report.proofs.Devices.{fails_as, stays_as}
-use Rattle.bench_report.proofs.Sides.{sides_before, starved_sides, all_written}
-use Rattle.board.proofs.Few.{few_commands}
+use Rattle.bench_report.{specs.PowerOns.{life_begun, ShowsFound, Opens, BootsFrom, Begins, Boots, PowersOn, TellsNow}, proofs.Adapted.calm}
+use Rattle.bench_report.specs.{Sides.{SidesOf, SidesAre}, Agree.{BoardIs, DiskIs, DeviceIs, LifeIs, OffIs, OnIs}}
+use Rattle.bench_report.proofs.{Commanded.follows_with, Determined.{begun_size, kept_as}, Devices.{fails_as, stays_as}}
+use Rattle.bench_report.proofs.{Sides.{sides_before, starved_sides, all_written}, Ended.{left_only, left_either}, Opening.{opens, open_err}}
 use Rattle.bench_report.proofs.TurnLines.{AreTaken, taken_at, commands_taken, few_of, follows_all, all_issue, all_but}
-use Rattle.bench_report.proofs.Ended.{left_only, left_either}
-use Rattle.bench_report.proofs.KeptDisks.{KeptLaw, BlankLaw}
-use Rattle.bench_report.proofs.Opening.{opens, open_err}
-use Rattle.bench_report.proofs.Table.{mode_not_device, mode_not_down}
+use Rattle.bench_report.proofs.{KeptDisks.{KeptLaw, BlankLaw}, Table.{mode_not_device, mode_not_down}}
 
 no_doubt : (cs : List Change) (e : Refusal) → e ≢ Down → doubt_by e cs ≡ None
 no_doubt cs Down up = absurd (up refl)

@@ -1,20 +1,13 @@
 -- Lines that power no board on, as far as no armed cut strikes.
-use Rattle.std.proofs.Common.{◌≡◌, refl, ℕ, List, Option, None, Some, Result, Ok, Err}
-use Rattle.std.specs.Prelude.{IfOk, MatchResult}
+use Rattle.std.{proofs.Common.{◌≡◌, refl, ℕ, List, Option, None, Some, Result, Ok, Err}, specs.Prelude.{IfOk, MatchResult}}
 use Rattle.std.specs.declared.alloc.AllocError.{AllocError}
-use Rattle.board_model.specs.Shapes.{Size}
-use Rattle.board_model.specs.declared.boot_mode.BootMode.{BootMode}
+use Rattle.board_model.specs.{Shapes.Size, declared.boot_mode.BootMode.BootMode}
 use Rattle.script_lang.specs.declared.line.Line.{Line}
 use Rattle.script_lang.specs.declared.line.Line.TheVariants as lines
 use Rattle.report_lines.specs.declared.printed.Answer.{Answer}
 use Rattle.report_lines.specs.declared.printed.Printed.TheVariants as printed
-use Rattle.bench_report.specs.Agree.{BoardIs, IsBench, Matches}
-use Rattle.bench_report.specs.Uncut.{TellsIts}
-use Rattle.bench_report.specs.Bench.{BenchLife, Bench}
-use Rattle.bench_report.specs.Happens.{says}
-use Rattle.bench_report.specs.Steps.{OnStep, Step}
-use Rattle.bench_report.specs.Views.{SimBoard}
-use Rattle.bench_report.specs.declared.power.Power.{Power}
+use Rattle.bench_report.specs.{Agree.{BoardIs, IsBench, Matches}, Uncut.TellsIts, Bench.{BenchLife, Bench}, Happens.says, Views.SimBoard}
+use Rattle.bench_report.specs.{Steps.{OnStep, Step}, declared.power.Power.Power}
 
 -- a board that is on is not powered on
 pub busy : (size : Size) (mode : BootMode) (b : Bench) (p : Option BenchLife) (board : SimBoard) → BoardIs size b.disk_state b.kept p board → OnStep size p mode b (says printed.Busy) b

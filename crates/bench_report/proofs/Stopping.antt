@@ -1,10 +1,7 @@
 -- A run that stops before a board is made: its refusal, and no disk.
 use Rattle.std.proofs.Common.{◌≡◌, ◌∙◌, ◌⊎◌, None, Result, Ok, Err, IfOk, IfErr, MatchResult, inl, inr, refl, sym, ap, subst}
-use Rattle.std.specs.Option.{IfSome}
-use Rattle.std.specs.Result.{IsErrAnd}
-use Rattle.std.proofs.lemmas.Result.{err_from_is_err_and}
-use Rattle.board_model.specs.declared.refusal.Refusal.{Refusal}
-use Rattle.board_model.specs.declared.refusal.Refusal.TheVariants.{Memory, Output}
+use Rattle.std.{specs.{Option.IfSome, Result.IsErrAnd}, proofs.lemmas.Result.err_from_is_err_and}
+use Rattle.board_model.specs.declared.refusal.Refusal.{Refusal, TheVariants.{Memory, Output}}
 use Rattle.report_lines.specs.declared.report.Report.{Report}
 use Rattle.script_lang.specs.Scripts.{Fails, Script}
 use Rattle.simdisk.specs.declared.SimDisk.{SimDisk}

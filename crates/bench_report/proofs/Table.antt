@@ -1,12 +1,8 @@
 -- The numbers of the table of commands, and of the modes of a boot.
 use Rattle.std.proofs.Common.{◌≡◌, ◌≢◌, ◌⊎◌, ℕ, inl, inr, Option, None, Some, ◌∙◌, refl, sym, ap, arith, Bool, true, false, is_some, if◌then◌else◌}
-use Rattle.board_model.specs.Durable.{DurableState, Change, refusal_of, is_table_number}
-use Rattle.board_model.proofs.Table.{of_table}
-use Rattle.board_model.specs.Views.{number_of_refusal}
-use Rattle.board_model.specs.declared.boot_mode.BootMode.{BootMode}
+use Rattle.board_model.{specs.{Durable.{DurableState, Change, refusal_of, is_table_number}, Views.number_of_refusal}, proofs.Table.of_table}
+use Rattle.board_model.specs.declared.{boot_mode.BootMode.BootMode, refusal.Refusal.{Refusal, TheVariants.{Device, Down, Memory}}}
 use Rattle.board_model.specs.declared.boot_mode.BootMode.TheVariants as modes
-use Rattle.board_model.specs.declared.refusal.Refusal.{Refusal}
-use Rattle.board_model.specs.declared.refusal.Refusal.TheVariants.{Device, Down, Memory}
 use Rattle.board.specs.Boots.{boot_refusal}
 
 one_of : (t : Bool) (x y : Option ℕ) (n : ℕ) → (if t then x else y) ≡ Some n → (x ≡ Some n) ⊎ (y ≡ Some n)

@@ -1,17 +1,9 @@
 -- A report that goes on by one answer.
-use Rattle.std.proofs.Common.{◌≡◌, ℕ, ◌+◌, List, [], ◌∷◌, ◌++◌, Option, None, Some, refl, sym, ◌∙◌, ap, arith}
-use Rattle.std.specs.Option.{option_to_list}
-use Rattle.board_model.specs.declared.durable.Durable.{Durable}
-use Rattle.report_lines.specs.declared.printed.Printed.{Printed}
-use Rattle.std.proofs.lemmas.List.Sums.{sum_by-append}
-use Rattle.std.proofs.lemmas.List.Elements.{filter_map-append}
-use Rattle.std.proofs.lemmas.List.{append-nil}
-use Rattle.std.proofs.lemmas.Grind.{flat_map-append}
-use Rattle.report_lines.specs.declared.printed.Answer.{Answer}
-use Rattle.report_lines.specs.declared.report.Report.{Report}
+use Rattle.std.proofs.{Common.{◌≡◌, ℕ, ◌+◌, List, [], ◌∷◌, ◌++◌, Option, None, Some, refl, sym, ◌∙◌, ap, arith}, lemmas.List.append-nil}
+use Rattle.std.{specs.Option.option_to_list, proofs.lemmas.{List.{Sums.sum_by-append, Elements.filter_map-append}, Grind.flat_map-append}}
+use Rattle.board_model.{specs.declared.durable.Durable.Durable, proofs.Written.appended}
+use Rattle.report_lines.specs.{declared.{printed.{Printed.Printed, Answer.Answer}, report.Report.Report}, Counts.{Adds, Reported}}
 use Rattle.report_lines.specs.Texts.{found_count, answer_text, report_text, line_count, found_states}
-use Rattle.report_lines.specs.Counts.{Adds, Reported}
-use Rattle.board_model.proofs.Written.{appended}
 
 text_more : (answers : List Answer) (a : Answer) → report_text (answers ++ a ∷ []) ≡ report_text answers ++ answer_text a
 text_more answers a = flat_map-append answer_text answers (a ∷ []) ∙ ap (λ z. report_text answers ++ z) (append-nil (answer_text a))

@@ -1,22 +1,14 @@
 -- Commands of a life in a row, none of which the table refuses: each is acknowledged, or the disk failed.
 use Rattle.std.proofs.Common.{◌≡◌, ◌⊎◌, ◌≤◌, ◌<◌, ◌+◌, inl, inr, ℕ, List, [], ◌∷◌, ◌++◌, length, length-append, Option, None, Some, is_some, if◌then◌else◌, Result, Ok, Err, refl, sym, ◌∙◌, ap, subst, arith}
-use Rattle.std.specs.Bool.{⊤}
-use Rattle.std.proofs.lemmas.List.{append-nil}
+use Rattle.std.{specs.Bool.⊤, proofs.lemmas.List.append-nil}
 use mathlib.Core.List.{append_assoc}
-use Rattle.board_model.specs.Durable.{DurableState, Change, Discard, formatted, refusal_of, after, fold}
-use Rattle.board_model.specs.Kept.{Kept}
-use Rattle.board_model.specs.Shapes.{Size}
-use Rattle.board_model.specs.declared.boot_mode.BootMode.{BootMode}
+use Rattle.board_model.specs.{Durable.{DurableState, Change, Discard, formatted, refusal_of, after, fold}, Kept.Kept, Shapes.Size}
+use Rattle.board_model.specs.declared.{boot_mode.BootMode.BootMode, durable.Trial.Trial}
 use Rattle.board_model.specs.declared.boot_mode.BootMode.TheVariants as modes
-use Rattle.board_model.specs.declared.durable.Trial.{Trial}
-use Rattle.board.specs.Boots.{boot_refusal}
-use Rattle.board.specs.Moments.{attempts_of, commands_by}
-use Rattle.board.proofs.Issued.{fold_more}
-use Rattle.bench_report.specs.Bench.{DiskState, Blank, Unknown, Formatted, BenchLife, Bench}
+use Rattle.board.{specs.{Boots.boot_refusal, Moments.{attempts_of, commands_by}}, proofs.Issued.fold_more}
+use Rattle.bench_report.specs.{Bench.{DiskState, Blank, Unknown, Formatted, BenchLife, Bench}, Agree.LifeIs}
 use Rattle.bench_report.specs.Happens.{acknowledged, in_doubt, life_with, all_acknowledged}
-use Rattle.bench_report.specs.Commands.{Writes, IssuedBy, Issued, IssuesAll}
-use Rattle.bench_report.specs.Agree.{LifeIs}
-use Rattle.bench_report.proofs.Determined.{DiskHasFailed, fails, not_both, some_inj}
+use Rattle.bench_report.{specs.Commands.{Writes, IssuedBy, Issued, IssuesAll}, proofs.Determined.{DiskHasFailed, fails, not_both, some_inj}}
 
 -- the table refuses none of them, each in the state after those before it
 abbrev pub AreTaken : List Change → DurableState → Type 0

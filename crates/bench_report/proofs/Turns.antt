@@ -3,15 +3,11 @@ use Rattle.std.proofs.Common.{◌≡◌, ◌≤◌, ◌+◌, inl, inr, ℕ, zero
 use Rattle.board_model.specs.Shapes.{Size}
 use Rattle.machine.specs.Shows.{HasHart}
 use Rattle.machine.specs.declared.line.MachineLine.TheVariants as shown
-use Rattle.sbi.specs.Words.{ends}
-use Rattle.sbi.specs.declared.words.Word.{Word}
+use Rattle.sbi.specs.{Words.ends, declared.words.Word.Word}
 use Rattle.script_lang.specs.declared.line.Line.TheVariants as lines
 use Rattle.report_lines.specs.declared.printed.Answer.{Answer}
 use Rattle.report_lines.specs.declared.printed.Printed.TheVariants as printed
-use Rattle.bench_report.specs.Bench.{BenchLife, Bench}
-use Rattle.bench_report.specs.Happens.{says, shows, unpowered}
-use Rattle.bench_report.specs.Steps.{TurnStep, Moves}
-use Rattle.bench_report.specs.Turns.{GuestTurns}
+use Rattle.bench_report.specs.{Bench.{BenchLife, Bench}, Happens.{says, shows, unpowered}, Steps.{TurnStep, Moves}, Turns.GuestTurns}
 
 -- a row of n turns of hart h of a board that is on
 pub record Went (h n : ℕ) (b : Bench) (made : ℕ) (word : Word) (new : Bench) : Type 0 where

@@ -1,32 +1,17 @@
 -- What turns and calls of harts make of the state that the disk stands for, read backwards.
 use Rattle.std.specs.Prelude.{MatchBool}
 use Rattle.std.proofs.Common.{◌≡◌, ◌≢◌, ◌⊎◌, ℕ, zero, suc, ◌-◌, ◌^◌, inl, inr, [], ◌∷◌, Bool, true, false, Option, Some, Result, Ok, Err, refl, sym, ◌∙◌, ap, subst, arith}
-use Rattle.board_model.specs.Durable.{DurableState, Change, Reset, Suspend}
-use Rattle.board_model.specs.Kept.{Kept, MayFind}
-use Rattle.board_model.specs.declared.durable.Reason.{Reason}
-use Rattle.susp.specs.declared.sleeps.Sleep.{Sleep}
-use Rattle.susp.specs.declared.sleeps.Sleep.TheVariants.{ToRam, ToDisk}
+use Rattle.board_model.specs.{Durable.{DurableState, Change, Reset, Suspend}, Kept.{Kept, MayFind}, declared.durable.Reason.Reason}
+use Rattle.susp.specs.declared.sleeps.Sleep.{Sleep, TheVariants.{ToRam, ToDisk}}
 use Rattle.machine.specs.Machine.{Machine, hart_at}
-use Rattle.sbi.specs.Words.{ends, word_of_sleep}
-use Rattle.sbi.specs.declared.words.Word.{Word}
-use Rattle.sbi.specs.declared.words.Word.TheVariants as words
-use Rattle.sbi.specs.declared.words.LifeEnd.{LifeEnd}
-use Rattle.sbi.specs.declared.words.LifeEnd.TheVariants as life_ends
-use Rattle.sbi_calls.specs.Words.{is_answered}
-use Rattle.sbi_calls.specs.declared.words.Did.{Did}
-use Rattle.sbi_calls.specs.declared.words.Turned.{Turned}
-use Rattle.sbi_calls.specs.declared.words.Turned.TheVariants.{Made, Durable}
-use Rattle.sbi_calls.specs.declared.words.Did.TheVariants.{Next}
-use Rattle.sbi_abi.specs.Calls.{call_of}
-use Rattle.sbi_abi.specs.declared.call.Call.{Call}
-use Rattle.sbi_abi.specs.declared.call.Call.TheVariants as calls
-use Rattle.sbi_abi.specs.declared.ret.SbiError.{SbiError}
-use Rattle.sbi_abi.specs.declared.ret.SbiError.TheVariants.{Failed, NotSupported, Denied}
-use Rattle.sbi.specs.declared.resets.ResetType.{ResetType}
+use Rattle.sbi.specs.{Words.{ends, word_of_sleep}, declared.{words.{Word.Word, LifeEnd.LifeEnd}, resets.ResetType.ResetType}}
 use Rattle.sbi.specs.Resets.{reset_of}
-use Rattle.bench_report.specs.Taken.{TakesSome}
-use Rattle.bench_report.specs.Bench.{BenchLife, Bench}
-use Rattle.bench_report.specs.Prefix.{IsOfHarts, IsEndBy, EndsLife, Keeps, Hides, TellsTurns}
+use Rattle.sbi.specs.declared.words.Word.TheVariants as words
+use Rattle.sbi.specs.declared.words.LifeEnd.TheVariants as life_ends
+use Rattle.sbi_calls.specs.{Words.is_answered, declared.words.{Did.{Did, TheVariants.Next}, Turned.{Turned, TheVariants.{Made, Durable}}}}
+use Rattle.sbi_abi.specs.{Calls.call_of, declared.{call.Call.Call, ret.SbiError.{SbiError, TheVariants.{Failed, NotSupported, Denied}}}}
+use Rattle.sbi_abi.specs.declared.call.Call.TheVariants as calls
+use Rattle.bench_report.specs.{Taken.TakesSome, Bench.{BenchLife, Bench}, Prefix.{IsOfHarts, IsEndBy, EndsLife, Keeps, Hides, TellsTurns}}
 use Rattle.bench_report.proofs.Refused.{WasRefused, issued_machine, suspended_machine, shown_answer}
 use Rattle.bench_report.specs.Happens.{out_of_memory, off, on_with, has_machine}
 use Rattle.bench_report.specs.Turns.{refused, AnswersError, HartCommand, Resets, SuspendIssued, dozes, BenchFallsAsleep, BenchSleeps, BenchSleepsBy, BenchMakesCall, ComesTo, GuestTurn, GuestTurns}

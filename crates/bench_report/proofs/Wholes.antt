@@ -1,60 +1,35 @@
 -- Each image that stands has the memory of its board, through whole runs: a suspension carries that memory,
 -- and no other command makes an image. So no power-on is refused 13.
-use Rattle.board_model.specs.declared.call_words.CallWords.{CallWords}
+use Rattle.board_model.{specs.{declared.call_words.CallWords.CallWords, Kept.{Kept, found_of, MayKeep, TakesIn}}, proofs.Steps.whole_after}
+use Rattle.board_model.specs.Durable.{DurableState, Change, Reset, Suspend, formatted, refusal_of, IsWhole, CarriesWhole}
+use Rattle.board_model.specs.{Shapes.{Size, ram_bytes_of}, declared.{boot_mode.BootMode.BootMode, durable.{Reason.Reason, Trial.Trial}}}
+use Rattle.board_model.specs.{declared.console_command.ConsoleCommand.ConsoleCommand, ConsoleCommands.console_change}
+use Rattle.board_model.proofs.Console.{CarriesWhole-console}
 use Rattle.std.proofs.Common.{◌≡◌, ◌≢◌, ◌+◌, ℕ, zero, suc, inl, inr, List, [], ◌∷◌, ◌++◌, Option, None, Some, Result, Ok, Err, refl, sym, ◌∙◌, ap, subst, arith}
 use Rattle.std.specs.Bool.{⊤}
-use Rattle.board_model.specs.Durable.{DurableState, Change, Reset, Suspend, formatted, refusal_of, IsWhole, CarriesWhole}
-use Rattle.board_model.proofs.Steps.{whole_after}
-use Rattle.board_model.specs.Kept.{Kept, found_of, MayKeep, TakesIn}
-use Rattle.board_model.specs.Shapes.{Size, ram_bytes_of}
-use Rattle.board_model.specs.declared.boot_mode.BootMode.{BootMode}
 use Rattle.board_model.specs.declared.boot_mode.BootMode.TheVariants as modes
-use Rattle.board_model.specs.declared.durable.Reason.{Reason}
-use Rattle.board_model.specs.declared.durable.Trial.{Trial}
-use Rattle.board.specs.Boots.{boot_refusal}
-use Rattle.board.specs.Moments.{attempts_of, commands_by}
-use Rattle.machine.specs.Machine.{Machine, hart_at}
-use Rattle.sbi.specs.declared.words.Word.{Word}
-use Rattle.sbi.specs.declared.words.LifeEnd.{LifeEnd}
+use Rattle.board.{specs.{Boots.boot_refusal, Moments.{attempts_of, commands_by}}, proofs.Issued.fold_more}
+use Rattle.machine.specs.{Machine.{Machine, hart_at}, Turns.calling}
+use Rattle.sbi.specs.{declared.{words.{Word.Word, LifeEnd.LifeEnd}, resets.ResetType.ResetType}, Resets.reset_of}
 use Rattle.script_lang.specs.declared.line.Line.{Line}
-use Rattle.sbi.specs.declared.resets.ResetType.{ResetType}
-use Rattle.sbi.specs.Resets.{reset_of}
-use Rattle.sbi_abi.specs.Calls.{call_of}
-use Rattle.sbi_abi.specs.declared.call.Call.{Call}
+use Rattle.sbi_abi.specs.{Calls.call_of, declared.{call.Call.Call, ret.SbiError.{SbiError, TheVariants.{Failed, NotSupported, Denied}}}}
 use Rattle.sbi_abi.specs.declared.call.Call.TheVariants as calls
-use Rattle.sbi_abi.specs.declared.ret.SbiError.{SbiError}
-use Rattle.sbi_abi.specs.declared.ret.SbiError.TheVariants.{Failed, NotSupported, Denied}
 use Rattle.store.specs.Follows.{FitsBoard}
-use Rattle.sbi_calls.specs.declared.words.Turned.{Turned}
-use Rattle.sbi_calls.specs.declared.words.Turned.TheVariants.{Made, Durable}
-use Rattle.report_lines.specs.declared.printed.Answer.{Answer}
-use Rattle.board_model.specs.declared.console_command.ConsoleCommand.{ConsoleCommand}
-use Rattle.board_model.specs.ConsoleCommands.{console_change}
-use Rattle.report_lines.specs.declared.printed.Printed.{Printed}
+use Rattle.sbi_calls.specs.declared.words.Turned.{Turned, TheVariants.{Made, Durable}}
+use Rattle.report_lines.specs.declared.printed.{Answer.Answer, Printed.Printed}
 use Rattle.report_lines.specs.declared.printed.Printed.TheVariants as printed
-use Rattle.bench_report.specs.Bench.{DiskState, Blank, Unknown, Formatted, BenchLife, Bench}
-use Rattle.bench_report.specs.Deeds as deeds
-use Rattle.bench_report.specs.Deeds.{Deed, deed_of, IsByFirmwareAlone}
-use Rattle.bench_report.specs.Prefix.{AskedLine, Boot, asked_of, asked_by}
-use Rattle.bench_report.specs.Reports.{IsByFirmware, AreByFirmware}
+use Rattle.bench_report.specs.{Bench.{DiskState, Blank, Unknown, Formatted, BenchLife, Bench}, Deeds.{Deed, deed_of, IsByFirmwareAlone}}
+use Rattle.bench_report.specs.{Prefix.{AskedLine, Boot, asked_of, asked_by}, Reports.{IsByFirmware, AreByFirmware}}
 use Rattle.bench_report.specs.Happens.{out_of_memory, failed, off, on_with, unpowered, armed_with, settled, has_machine, acknowledged, in_doubt}
-use Rattle.bench_report.specs.Commands.{Writes, IssuedBy, Issued, IssuesAll}
-use Rattle.susp.specs.declared.sleeps.Sleep.{Sleep}
-use Rattle.susp.specs.declared.sleeps.Sleep.TheVariants.{ToRam, ToDisk}
-use Rattle.susp.specs.Dozes.{doze_of}
-use Rattle.machine.specs.Turns.{calling}
-use Rattle.bench_report.proofs.Dozed.{turn_size, call_size}
+use Rattle.bench_report.{specs.Commands.{Writes, IssuedBy, Issued, IssuesAll}, proofs.{Dozed.{turn_size, call_size}, Determined.begun_size}}
 use Rattle.bench_report.specs.Turns.{refused, AnswersError, HartCommand, Resets, SuspendIssued, dozes, BenchFallsAsleep, BenchSleeps, BenchSleepsBy, BenchMakesCall, ComesTo, GuestTurn, GuestTurns}
 use Rattle.bench_report.specs.PowerOns.{life_begun, FormatsOn, IsBooted, BootsFrom, Begins, Boots, Opens, IsOpenRefusal, PowersOn}
 use Rattle.bench_report.specs.Steps.{FormatStep, OnStep, ConsoleStep, GuestCall, TurnStep, CallStep, DeedStep, DeedMoves, Moves, Run}
-use Rattle.bench_report.proofs.Determined.{begun_size}
-use Rattle.bench_report.proofs.Table.{table_not_thirteen, mode_not_thirteen}
-use Rattle.board_model.proofs.Console.{CarriesWhole-console}
+use Rattle.bench_report.proofs.{Table.{table_not_thirteen, mode_not_thirteen}, Beside.{OfFirmware, FitsPower, is_aside}}
 use Rattle.bench_report.specs.Asides.{Effect, Stays, SetsPayloads, Arms, CutsPower, SetsDoze, WritesPast, aside, affected}
-use Rattle.board.proofs.Issued.{fold_more}
-use Rattle.bench_report.proofs.Beside.{OfFirmware, FitsPower, is_aside}
-use Rattle.bench_report.proofs.Questions.{IsAsked, is_asked}
-use Rattle.bench_report.proofs.Asks.{firmware_alone}
+use Rattle.bench_report.proofs.{Questions.{IsAsked, is_asked}, Asks.firmware_alone}
+use Rattle.bench_report.specs.Deeds as deeds
+use Rattle.susp.specs.{declared.sleeps.Sleep.{Sleep, TheVariants.{ToRam, ToDisk}}, Dozes.doze_of}
 
 -- a power-on was not refused 13
 abbrev pub LoadsWhole : AskedLine → Answer → Type 0

@@ -1,17 +1,13 @@
 -- The first line in which what is told of two answers is another.
 use borrow.Author.Count.{below_more}
 use Rattle.std.proofs.Common.{◌≡◌, ◌≢◌, ◌∙◌, ◌+◌, ◌<◌, ℕ, zero, suc, List, [], ◌∷◌, ◌++◌, Option, None, Some, MatchOption, get_or, refl, sym, ap, subst, arith}
-use Rattle.board_model.specs.Texts.{state_text}
+use Rattle.board_model.specs.{Texts.state_text, declared.durable.Durable.Durable}
 use Rattle.board_model.specs.declared.console_command.ConsoleCommand.TheVariants as commands
-use Rattle.board_model.specs.declared.durable.Durable.{Durable}
 use Rattle.machine.specs.declared.line.MachineLine.TheVariants as lines
-use Rattle.report_lines.specs.Texts.{line_text}
-use Rattle.report_lines.specs.declared.printed.Answer.{Answer}
-use Rattle.report_lines.specs.declared.printed.Printed.{Printed}
+use Rattle.report_lines.specs.{Texts.line_text, declared.printed.{Answer.Answer, Printed.Printed}}
 use Rattle.report_lines.specs.declared.printed.Printed.TheVariants as printed
 use Rattle.bench_schedules.specs.Told.{IsFirstApart, line_at, told_at, told_lines, told_states, told_text}
-use Rattle.bench_schedules.specs.declared.told.ToldApart.{ToldApart}
-use Rattle.bench_schedules.specs.declared.told.ToldLine.{ToldLine}
+use Rattle.bench_schedules.specs.declared.told.{ToldApart.ToldApart, ToldLine.ToldLine}
 use Rattle.bench_schedules.specs.declared.told.ToldLine.TheVariants as told
 use lib.Chars.{codes}
 

@@ -1,11 +1,9 @@
 -- Turns that are counted line by line.
 use Rattle.std.proofs.Common.{◌≡◌, ◌∙◌, ℕ, ◌+◌, ◌<◌, ◌≤◌, ◌==◌, Bool, true, false, List, length, take, get_or, All, if◌then◌else◌, sym, ap, subst, arith}
 use Rattle.std.proofs.lemmas.List.{take_more}
-use Rattle.script_lang.specs.declared.line.Line.{Line}
+use Rattle.script_lang.specs.{declared.line.Line.Line, Lines.turns_in}
 use Rattle.script_lang.specs.declared.line.Line.TheVariants as lines
-use Rattle.script_lang.specs.Lines.{turns_in}
-use Rattle.bench_schedules.specs.Orders.{IsTurn, named}
-use Rattle.bench_schedules.proofs.Deals.{named_push, turns_push}
+use Rattle.bench_schedules.{specs.Orders.{IsTurn, named}, proofs.Deals.{named_push, turns_push}}
 
 pub turns_more : (row : List Line) (i : ℕ) (line : Line) → i < length row → line ≡ get_or row i line → All IsTurn (take i row) → IsTurn line → All IsTurn (take (i + 1) row)
 turns_more row i line less e are is =

@@ -1,17 +1,10 @@
 -- Turns that are dealt out, one step after another.
 use Rattle.std.proofs.Common.{◌≡◌, ◌≢◌, ◌∙◌, ℕ, ◌+◌, ◌-◌, ◌<◌, ◌≤◌, ◌==◌, Bool, true, false, List, [], ◌∷◌, ◌++◌, length, nat_lt, take, slice_set, All, if◌then◌else◌, refl, sym, ap, subst, arith}
-use Rattle.std.proofs.lemmas.List.{get_or-set_same, get_or-set_other, get_or_past}
-use Rattle.std.proofs.Math.Seq.{take-append_seam}
-use Rattle.std.proofs.lemmas.Bool.Decides.{nat_tests}
-use Rattle.std.proofs.lemmas.List.Elements.{All-append, All-cons, All-nil, All-head, All-tail}
-use Rattle.std.proofs.lemmas.List.Sums.{sum_by_push}
-use Rattle.std.proofs.lemmas.List.{length-append}
-use Rattle.script_lang.specs.declared.line.Line.{Line}
+use Rattle.std.proofs.{lemmas.{List.{get_or-set_same, get_or-set_other, get_or_past}, Bool.Decides.nat_tests}, Math.Seq.take-append_seam}
+use Rattle.std.proofs.lemmas.List.{Elements.{All-append, All-cons, All-nil, All-head, All-tail}, Sums.sum_by_push, length-append}
+use Rattle.script_lang.specs.{declared.line.Line.Line, Lines.turns_in}
 use Rattle.script_lang.specs.declared.line.Line.TheVariants as lines
-use Rattle.script_lang.specs.Lines.{turns_in}
-use Rattle.bench_schedules.specs.declared.deal.Deal.{Deal}
-use Rattle.bench_schedules.specs.Deals.{GoesOn}
-use Rattle.bench_schedules.specs.Orders.{IsTurn, named, left_of, IsRowOf}
+use Rattle.bench_schedules.specs.{declared.deal.Deal.Deal, Deals.GoesOn, Orders.{IsTurn, named, left_of, IsRowOf}}
 
 pub goes_on_same : (a : Deal) → GoesOn a a
 goes_on_same a = record { same = λ h. refl; turns = λ are. are }

@@ -3,11 +3,8 @@ use Rattle.std.proofs.Common.{◌≡◌, ◌∙◌, ◌≤◌, ◌+◌, ℕ, Lis
 use Rattle.script_lang.specs.Scripts.{Script}
 use Rattle.report_lines.specs.declared.printed.Answer.{Answer}
 use Rattle.crew.specs.Handed.{AreRows, TakesAll, Handed}
-use Rattle.bench_schedules.specs.Drawn.{IsDrawn, TellsDrawn}
-use Rattle.bench_schedules.specs.Numbers.{place_of_other}
-use Rattle.bench_schedules.specs.Schedules.{RunText, Wrote, differing}
-use Rattle.bench_schedules.specs.declared.benches.DrawnRun.{DrawnRun}
-use Rattle.bench_schedules.specs.declared.benches.DrawnReport.{DrawnReport}
+use Rattle.bench_schedules.specs.{Drawn.{IsDrawn, TellsDrawn}, Numbers.place_of_other, Schedules.{RunText, Wrote, differing}}
+use Rattle.bench_schedules.specs.declared.benches.{DrawnRun.DrawnRun, DrawnReport.DrawnReport}
 use Rattle.bench_schedules.proofs.Ledgers.{one_differs, wrote_none, wrote_more}
 
 module _ {C W : Type 0} (contents : W → Option (List ℕ)) (said : Script) (start : List (List ℕ)) (own : List Answer) (from : ℕ) (first : DrawnReport C W) where

@@ -1,14 +1,10 @@
 -- Schedules that were run and told, one after another.
 use Rattle.std.proofs.Common.{◌≡◌, ◌∙◌, ℕ, suc, ◌+◌, List, [], ◌∷◌, ◌++◌, ◌≤◌, Option, Some, None, length, refl, sym, ap, subst, arith, append_assoc, length-append}
-use Rattle.std.proofs.lemmas.List.{append-nil}
-use Rattle.std.proofs.lemmas.List.Elements.{All-append, All-cons, All-nil}
-use Rattle.std.specs.Fmt.{decimal}
-use Rattle.std.specs.Io.KnownBytes.{Appends}
+use Rattle.std.{proofs.lemmas.List.{append-nil, Elements.{All-append, All-cons, All-nil}}, specs.{Fmt.decimal, Io.KnownBytes.Appends}}
 use Rattle.script_lang.specs.Scripts.{Script}
 use Rattle.board_model.proofs.Written.{appended, unwritten}
 use Rattle.report_lines.specs.declared.printed.Answer.{Answer}
-use Rattle.bench_schedules.specs.declared.runs.Difference.{Difference}
-use Rattle.bench_schedules.specs.Schedules.{Ran, RunText, RunsText, Wrote, differing, tight_text}
+use Rattle.bench_schedules.specs.{declared.runs.Difference.Difference, Schedules.{Ran, RunText, RunsText, Wrote, differing, tight_text}}
 use lib.Chars.{codes}
 
 texts_more : (number : ℕ → ℕ) (k : ℕ) (runs : List (Option Difference)) (text : List ℕ) (run : Option Difference) (more : List ℕ) → RunsText number k runs text

@@ -2,20 +2,14 @@
 use Rattle.std.proofs.Common.{◌≡◌, inl, inr, ◌∙◌, ℕ, suc, ◌+◌, ◌<◌, ◌≤◌, Bool, true, false, List, [], ◌∷◌, ◌++◌, length, take, drop, get_or, All, Option, Some, None, if◌then◌else◌, refl, sym, ap, subst, arith}
 use Rattle.std.proofs.lemmas.List.{at_drop_all, take_all, take_more, drop_more, length-take-le, append-nil, take-append-drop}
 use Rattle.board_model.specs.Shapes.{Size, IsSize}
-use Rattle.script_lang.specs.Lines.{FitsLine, IsLineInRange}
-use Rattle.script_lang.specs.declared.line.Line.{Line}
+use Rattle.script_lang.specs.{Lines.{FitsLine, IsLineInRange}, declared.line.Line.Line}
 use Rattle.script_lang.specs.declared.line.Line.TheVariants as lines
-use Rattle.bench_report.specs.Bench.{Bench, bench_with}
-use Rattle.bench_report.specs.Steps.{Run}
-use Rattle.report_lines.specs.declared.printed.Answer.{Answer}
-use Rattle.bench_report.proofs.RunLines.{run_snoc}
-use Rattle.bench_schedules.specs.Orders.{IsOrderFor, is_other, other_count}
-use Rattle.bench_report.specs.Lives.{Shows}
+use Rattle.bench_report.{specs.{Bench.{Bench, bench_with}, Steps.Run, Lives.Shows}, proofs.RunLines.run_snoc}
 use Rattle.bench_report.specs.declared.live.LiveBench.{LiveBench}
-use Rattle.bench_schedules.specs.declared.runs.Difference.{Difference}
+use Rattle.report_lines.specs.declared.printed.Answer.{Answer}
+use Rattle.bench_schedules.specs.{Orders.{IsOrderFor, is_other, other_count}, declared.runs.Difference.Difference}
 use Rattle.bench_schedules.specs.Schedules.{other_answer, other_answers, Ran, RanLike, RanOwn, ToldLike}
-use Rattle.bench_schedules.specs.Compared.{IsDifference, IsNextPlace}
-use Rattle.bench_schedules.specs.RunSoFar.{LineRan, RunSoFar, WentLike}
+use Rattle.bench_schedules.specs.{Compared.{IsDifference, IsNextPlace}, RunSoFar.{LineRan, RunSoFar, WentLike}}
 
 -- a line, and those after it
 here_is : (ls : List Line) (i : ℕ) (line : Line) → i < length ls → line ≡ get_or ls i line → drop i ls ≡ line ∷ drop (i + 1) ls

@@ -1,16 +1,11 @@
 -- Parts of a schedule, which take the place of parts of the script.
 use Rattle.std.proofs.Common.{◌≡◌, ◌∙◌, ℕ, ◌+◌, ◌<◌, ◌≤◌, ◌==◌, true, false, nat_lt, List, [], ◌∷◌, ◌++◌, length, take, drop, All, refl, sym, ap, subst, arith, append_assoc, ◌-◌, length-drop}
-use Rattle.std.proofs.Math.Seq.{take-length}
-use Rattle.std.proofs.lemmas.List.{take-append-drop}
-use Rattle.std.proofs.lemmas.Bool.Decides.{nat_tests}
+use Rattle.std.proofs.{Math.Seq.take-length, lemmas.{List.{take-append-drop, Sums.sum_by-cons}, Bool.Decides.nat_tests}}
 use Rattle.std.proofs.lemmas.List.Elements.{All-append, All-cons, All-nil, All-head, All-tail}
-use Rattle.std.proofs.lemmas.List.Sums.{sum_by-cons}
 use Rattle.board_model.specs.Shapes.{Size}
-use Rattle.script_lang.specs.Lines.{FitsLine, IsLineInRange, turns_in}
-use Rattle.script_lang.specs.declared.line.Line.{Line}
+use Rattle.script_lang.specs.{Lines.{FitsLine, IsLineInRange, turns_in}, declared.line.Line.Line}
 use Rattle.script_lang.specs.declared.line.Line.TheVariants as lines
-use Rattle.bench_schedules.specs.Orders.{IsTurn, named, IsRowOf, IsOrderFor, IsPartAdded, TakesPlaceOf}
-use Rattle.bench_schedules.proofs.SeenRows.{order_of_rows}
+use Rattle.bench_schedules.{specs.Orders.{IsTurn, named, IsRowOf, IsOrderFor, IsPartAdded, TakesPlaceOf}, proofs.SeenRows.order_of_rows}
 
 module _ (P : Line → Type 0) where
   all_before : (xs ys : List Line) → All P (xs ++ ys) → All P xs

@@ -2,8 +2,7 @@
 use Rattle.std.proofs.Common.{◌≡◌, ℕ, suc, ◌+◌, true, false, List, ◌∷◌, refl}
 use Rattle.script_lang.specs.declared.line.Line.{Line}
 use Rattle.script_lang.specs.declared.line.Line.TheVariants as lines
-use Rattle.bench_schedules.specs.Orders.{is_other}
-use Rattle.bench_schedules.specs.Numbers.{place_of_other}
+use Rattle.bench_schedules.specs.{Orders.is_other, Numbers.place_of_other}
 
 pub place_here : (line : Line) (more : List Line) → is_other line ≡ true → place_of_other 0 (line ∷ more) ≡ 0
 place_here (lines.Turn h n) more other = absurd (let no : ⊥ = cc in no)

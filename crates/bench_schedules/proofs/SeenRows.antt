@@ -1,10 +1,8 @@
 -- Rows of turns, as a hart sees them.
 use Rattle.std.proofs.Common.{◌≡◌, ◌∙◌, ℕ, suc, ◌+◌, ◌==◌, List, [], ◌∷◌, ◌++◌, All, if◌then◌else◌, refl, ap, sym, arith}
-use Rattle.std.proofs.lemmas.List.Elements.{All-head, All-tail}
-use Rattle.std.proofs.lemmas.List.Sums.{sum_by-cons}
-use Rattle.script_lang.specs.declared.line.Line.{Line}
+use Rattle.std.proofs.lemmas.List.{Elements.{All-head, All-tail}, Sums.sum_by-cons}
+use Rattle.script_lang.specs.{declared.line.Line.Line, Lines.turns_in}
 use Rattle.script_lang.specs.declared.line.Line.TheVariants as lines
-use Rattle.script_lang.specs.Lines.{turns_in}
 use Rattle.bench_schedules.specs.Orders.{other_count, IsTurn, named, more_turns, seen_by, AreOrderOf}
 
 pub no_more : (those : List Line) → more_turns 0 those ≡ those

@@ -2,14 +2,10 @@
 use Rattle.std.proofs.Common.{◌≡◌, ℕ, List, [], ◌∷◌, ◌++◌, ◌≤◌, length, All, Option, Some, None, Ok, refl, ap, subst}
 use Rattle.std.specs.Io.KnownBytes.{Appends}
 use Rattle.board_model.specs.Shapes.{Size, IsSize}
-use Rattle.script_lang.specs.Lines.{FitsLine, IsLineInRange}
-use Rattle.script_lang.specs.Scripts.{Script, script_of}
-use Rattle.script_lang.specs.Spellings.{script_text, IsWritable}
+use Rattle.script_lang.specs.{Lines.{FitsLine, IsLineInRange}, Scripts.{Script, script_of}, Spellings.{script_text, IsWritable}}
 use Rattle.script_lang.specs.declared.line.Line.{Line}
 use Rattle.report_lines.specs.declared.printed.Answer.{Answer}
-use Rattle.bench_schedules.specs.Orders.{IsOrderFor}
-use Rattle.bench_schedules.specs.Schedules.{RanLike, RanOwn}
-use Rattle.bench_schedules.specs.declared.runs.Difference.{Difference}
+use Rattle.bench_schedules.specs.{Orders.IsOrderFor, Schedules.{RanLike, RanOwn}, declared.runs.Difference.Difference}
 use Rattle.bench_schedules.specs.Shrunk.{IsFound, IsShortened, Shrunk}
 
 module _ (size : Size) (start : List (List ℕ)) (those : List Line) (own : List Answer) where

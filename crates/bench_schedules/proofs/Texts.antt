@@ -1,13 +1,9 @@
 -- A schedule as it is written.
-use Rattle.std.proofs.Common.{◌≡◌, ℕ, List, [], ◌∷◌, ◌++◌, ◌≤◌, length, All, Option, Ok, refl, subst}
-use Rattle.std.specs.Io.KnownBytes.{Appends}
+use Rattle.std.{proofs.Common.{◌≡◌, ℕ, List, [], ◌∷◌, ◌++◌, ◌≤◌, length, All, Option, Ok, refl, subst}, specs.Io.KnownBytes.Appends}
 use Rattle.board_model.specs.Shapes.{Size, IsSize}
-use Rattle.script_lang.specs.Lines.{FitsLine, IsLineInRange}
-use Rattle.script_lang.specs.Scripts.{Script, script_of}
-use Rattle.script_lang.specs.Spellings.{script_text, IsWritable}
+use Rattle.script_lang.specs.{Lines.{FitsLine, IsLineInRange}, Scripts.{Script, script_of}, Spellings.{script_text, IsWritable}}
 use Rattle.script_lang.specs.declared.line.Line.{Line}
-use Rattle.bench_schedules.specs.Orders.{IsOrderFor}
-use Rattle.bench_schedules.specs.Schedules.{Shown}
+use Rattle.bench_schedules.specs.{Orders.IsOrderFor, Schedules.Shown}
 
 -- what was drawn, as it was written
 pub shown_of : (size : Size) (those new xs : List Line) (old now : Option (List ℕ)) → IsSize size → IsOrderFor those new → length new ≤ 65535 → All (IsLineInRange size) those → All FitsLine those → xs ≡ new

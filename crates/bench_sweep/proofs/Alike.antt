@@ -1,21 +1,11 @@
 -- A cut that leaves the same by each fill.
-use Rattle.std.proofs.Common.{◌≡◌, ◌∙◌, ◌∷◌, ◌++◌, [], ℕ, List, All, Some, refl, sym, subst}
-use Rattle.std.proofs.lemmas.List.Elements.{All-head}
+use Rattle.std.proofs.{Common.{◌≡◌, ◌∙◌, ◌∷◌, ◌++◌, [], ℕ, List, All, Some, refl, sym, subst}, lemmas.List.Elements.All-head}
 use Rattle.board_model.specs.Shapes.{Size}
-use Rattle.disk.specs.Facts.{Content, counted}
-use Rattle.disk.specs.WriteLog.{synced}
-use Rattle.simdisk.specs.declared.SimDisk.{SimDisk}
-use Rattle.simdisk.specs.declared.fill.Fill.{Fill}
-use Rattle.bench_report.specs.Bench.{Bench}
-use Rattle.bench_report.specs.Examined.{OpensOf}
-use Rattle.bench_report.specs.Views.{sim_log_of}
-use Rattle.bench_sweep.specs.Points.{cut_fill}
-use Rattle.bench_sweep.specs.Made.{cut_content}
-use Rattle.bench_sweep.specs.Reports.{again, IsLeftBy, Keeps}
-use Rattle.bench_sweep.specs.Swept.{cell}
-use Rattle.bench_sweep.specs.declared.judging.PointRows.{PointRows}
-use Rattle.bench_sweep.specs.declared.points.Caller.{Caller}
-use Rattle.bench_sweep.specs.declared.rows.Row.{Row}
+use Rattle.disk.specs.{Facts.{Content, counted}, WriteLog.synced}
+use Rattle.simdisk.specs.declared.{SimDisk.SimDisk, fill.Fill.Fill}
+use Rattle.bench_report.specs.{Bench.Bench, Examined.OpensOf, Views.sim_log_of}
+use Rattle.bench_sweep.specs.{Points.cut_fill, Made.cut_content, Reports.{again, IsLeftBy, Keeps}, Swept.cell, declared.rows.Row.Row}
+use Rattle.bench_sweep.specs.declared.{judging.PointRows.PointRows, points.Caller.Caller}
 
 -- what was found after one of these cuts is found after another
 pub left_alike : (size : Size) (end : Bench) (disk : SimDisk) (row : Row) (caller : Caller) (number : ℕ) (fill : Fill) → ((other : Fill) → cut_content disk other ≡ synced (sim_log_of disk)) → IsLeftBy size end disk row → IsLeftBy size end disk (again row caller number fill)

@@ -1,10 +1,6 @@
 -- What two texts have alike, byte by byte.
 use Rattle.std.proofs.Common.{◌≡◌, ◌+◌, ◌<◌, ◌≤◌, ◌∙◌, inl, inr, ◌==◌, if◌then◌else◌, false, ℕ, List, [], ◌∷◌, length, drop, slice_index_or, refl, ap, arith}
-use Rattle.std.proofs.Math.Dec.{eqb}
-use Rattle.std.proofs.lemmas.Bool.{eq-eqb}
-use Rattle.std.proofs.lemmas.Bool.Decides.{eqb_tells}
-use Rattle.std.proofs.lemmas.List.Sums.{sum_by-cons}
-use Rattle.std.proofs.lemmas.List.{drop_more, drop_all}
+use Rattle.std.proofs.{Math.Dec.eqb, lemmas.{Bool.{eq-eqb, Decides.eqb_tells}, List.{Sums.sum_by-cons, drop_more, drop_all}}}
 use Rattle.bench_sweep.specs.Apart.{common, ends_of}
 
 abbrev ends_in : List ℕ → List ℕ → ℕ

@@ -2,29 +2,15 @@
 use Rattle.std.proofs.Common.{◌≡◌, ◌≤◌, ◌<◌, ◌+◌, ◌-◌, ◌++◌, ◌∷◌, [], ℕ, List, false, length, take, drop, get_or, refl, sym, ◌∙◌, ap, subst, append_assoc, arith}
 use Rattle.std.proofs.lemmas.List.{length-take, length-drop, take-take, take_more}
 use Rattle.board_model.specs.Shapes.{Size}
-use Rattle.crew.specs.Handed.{AreRows, TakesAll}
-use Rattle.crew.proofs.HandedOn.{rows_both, taken_both}
+use Rattle.crew.{specs.Handed.{AreRows, TakesAll}, proofs.HandedOn.{rows_both, taken_both}}
 use Rattle.simdisk.specs.declared.SimDisk.{SimDisk}
 use Rattle.script_lang.specs.declared.line.Line.{Line}
 use Rattle.report_lines.specs.declared.printed.Answer.{Answer}
-use Rattle.bench_report.specs.Agree.{HasDisk}
-use Rattle.bench_report.specs.Bench.{Bench}
-use Rattle.bench_report.specs.Steps.{Run}
-use Rattle.bench_sweep.specs.declared.ledgers.RunLedger.{RunLedger}
-use Rattle.bench_sweep.specs.declared.moments.Moment.{Moment}
-use Rattle.bench_sweep.specs.declared.points.BenchKind.{BenchKind}
-use Rattle.bench_sweep.specs.declared.points.Caller.{Caller}
-use Rattle.bench_sweep.specs.declared.rows.Row.{Row}
-use Rattle.bench_sweep.specs.declared.site.Site.{Site}
-use Rattle.bench_sweep.specs.Along.{CameTold}
-use Rattle.bench_sweep.specs.Points.{MadeCalls}
-use Rattle.bench_sweep.specs.Made.{RunsWith}
-use Rattle.bench_sweep.specs.Reports.{RunsAlong}
-use Rattle.bench_sweep.specs.Resumes.{line_resumes, lines_resume, Resumes}
-use Rattle.bench_sweep.specs.Runs.{RanTo, RunsCalm}
-use Rattle.bench_sweep.specs.Took.{RunTook, own_disk}
-use Rattle.bench_sweep.proofs.Made.{take_plus}
-use Rattle.bench_sweep.proofs.Took.{disk_is, has_disk, took_both}
+use Rattle.bench_report.specs.{Agree.HasDisk, Bench.Bench, Steps.Run}
+use Rattle.bench_sweep.specs.declared.{ledgers.RunLedger.RunLedger, moments.Moment.Moment, points.{BenchKind.BenchKind, Caller.Caller}}
+use Rattle.bench_sweep.specs.{declared.{rows.Row.Row, site.Site.Site}, Along.CameTold, Points.MadeCalls, Made.RunsWith, Reports.RunsAlong}
+use Rattle.bench_sweep.specs.{Resumes.{line_resumes, lines_resume, Resumes}, Runs.{RanTo, RunsCalm}, Took.{RunTook, own_disk}}
+use Rattle.bench_sweep.proofs.{Made.take_plus, Took.{disk_is, has_disk, took_both}}
 
 -- ---- moments
 run_both : (size : Size) (xs ys : List Line) (b : Bench) (said also : List Answer) (mid new : Bench) → Run size b xs said mid → Run size mid ys also new → Run size b (xs ++ ys) (said ++ also) new

@@ -1,25 +1,14 @@
 -- Where a bench begins.
 use Rattle.std.proofs.Common.{◌≡◌, ◌<◌, ◌+◌, ◌++◌, ◌∷◌, ℕ, length, take, get_or, inl, inr, List, [], Option, None, Some, sym, ◌∙◌, ap, subst}
-use Rattle.board_model.specs.Durable.{Change, CarriesWhole}
-use Rattle.board_model.specs.Kept.{Kept, nothing_kept}
-use Rattle.board_model.specs.Shapes.{Size}
+use Rattle.board_model.specs.{Durable.{Change, CarriesWhole}, Kept.{Kept, nothing_kept}, Shapes.Size}
 use Rattle.script_lang.specs.declared.line.Line.{Line}
 use Rattle.script_lang.specs.declared.line.Line.TheVariants as lines
-use Rattle.bench_report.specs.declared.power.OffDisk.{OffDisk}
-use Rattle.report_lines.specs.declared.printed.Answer.{Answer}
-use Rattle.report_lines.specs.declared.printed.Printed.{Printed}
+use Rattle.bench_report.specs.{declared.power.OffDisk.OffDisk, Bench.{DiskState, Blank, Unknown, Formatted, BenchLife, Bench, bench_with}}
+use Rattle.bench_report.specs.{Happens.{says, off, formatted_anew}, PowerOns.FormatsOn, Steps.{FormatStep, Step, Moves, Run}, Lives.Shows}
+use Rattle.bench_report.{proofs.RunLines.run_more, specs.{Agree.{OffIs, Agrees}, declared.live.LiveBench.LiveBench}}
+use Rattle.report_lines.specs.declared.printed.{Answer.Answer, Printed.Printed}
 use Rattle.report_lines.specs.declared.printed.Printed.TheVariants as printed
-use Rattle.bench_report.specs.Bench.{DiskState, Blank, Unknown, Formatted, BenchLife, Bench, bench_with}
-use Rattle.bench_report.specs.Happens.{says, off, formatted_anew}
-use Rattle.bench_report.specs.PowerOns.{FormatsOn}
-use Rattle.bench_report.specs.Steps.{FormatStep, Step, Moves, Run}
-use Rattle.bench_report.proofs.RunLines.{run_more}
-use Rattle.bench_report.specs.Agree.{OffIs, Agrees}
-use Rattle.bench_report.specs.Lives.{Shows}
-use Rattle.bench_report.specs.declared.live.LiveBench.{LiveBench}
-use Rattle.bench_sweep.specs.declared.ledgers.RunLedger.{RunLedger}
-use Rattle.bench_sweep.specs.Ledgers.{Tells}
-use Rattle.bench_sweep.specs.Made.{IsFormatted}
+use Rattle.bench_sweep.specs.{declared.ledgers.RunLedger.RunLedger, Ledgers.Tells, Made.IsFormatted}
 use Rattle.bench_sweep.specs.Runs.{TellsWhole, RunsAt, Begins, Begun, Formats}
 
 -- ---- the line that formats the disk

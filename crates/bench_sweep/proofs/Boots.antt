@@ -1,21 +1,13 @@
 -- Ledgers that follow the commands of a boot.
 use Rattle.std.proofs.Common.{◌≡◌, ℕ, inl, inr, Bool, true, false, List, [], ◌∷◌, Option, None, Some, Result, Ok, Err, OnOk, refl, sym, ◌∙◌, ap, subst}
 use Rattle.std.specs.Prelude.{is_some, if◌then◌else◌, IsSomeAnd}
-use Rattle.board_model.specs.Durable.{Image, DurableState, Change, Discard, Attempt}
-use Rattle.board_model.specs.Kept.{Kept, MayKeep, found_of}
-use Rattle.board_model.specs.Shapes.{Size}
-use Rattle.board_model.specs.Views.{durable_of, head_of}
-use Rattle.board_model.specs.declared.boot_mode.BootMode.{BootMode}
-use Rattle.board_model.specs.declared.durable.Durable.{Durable}
+use Rattle.board_model.specs.{Durable.{Image, DurableState, Change, Discard, Attempt}, Kept.{Kept, MayKeep, found_of}, Shapes.Size}
+use Rattle.board_model.specs.{Views.{durable_of, head_of}, declared.{boot_mode.BootMode.BootMode, durable.{Durable.Durable, Trial.Trial}}}
 use Rattle.board_model.specs.declared.durable.ImageHead.{ImageHead}
-use Rattle.board_model.specs.declared.durable.Trial.{Trial}
 use Rattle.board.specs.Moments.{attempts_of}
 use Rattle.report_lines.specs.declared.printed.Printed.{Printed}
-use Rattle.bench_sweep.specs.declared.ledgers.RunLedger.{RunLedger}
-use Rattle.bench_sweep.specs.Ledgers.{Tells, settled}
-use Rattle.bench_sweep.proofs.KnownLedgers.{found_more}
-use Rattle.bench_sweep.specs.Runs.{TellsWhole}
-use Rattle.bench_sweep.specs.Told.{IssuedTold, AllTold, BootTold, BootSaid, NowTold, PowerTold, commands_told}
+use Rattle.bench_sweep.{specs.{declared.ledgers.RunLedger.RunLedger, Ledgers.{Tells, settled}}, proofs.KnownLedgers.found_more}
+use Rattle.bench_sweep.specs.{Runs.TellsWhole, Told.{IssuedTold, AllTold, BootTold, BootSaid, NowTold, PowerTold, commands_told}}
 use Rattle.bench_sweep.proofs.Followed.{IssuedKept, TakesKept, as_before, settles}
 
 -- a boot of one command

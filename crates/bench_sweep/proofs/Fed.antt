@@ -2,17 +2,12 @@
 use Rattle.std.proofs.Common.{◌≡◌, ◌⊎◌, inl, inr, Bool, true, false, Option, None, ap, subst}
 use Rattle.board_model.specs.Shapes.{Size}
 use Rattle.script_lang.specs.declared.line.Line.{Line}
-use Rattle.report_lines.specs.declared.printed.Answer.{Answer}
-use Rattle.report_lines.specs.declared.printed.Printed.{Printed}
+use Rattle.report_lines.specs.declared.printed.{Answer.Answer, Printed.Printed}
 use Rattle.report_lines.specs.declared.printed.Printed.TheVariants as printed
-use Rattle.bench_report.specs.Bench.{BenchLife, Bench}
-use Rattle.bench_report.specs.Happens.{SaysEnough}
+use Rattle.bench_report.specs.{Bench.{BenchLife, Bench}, Happens.SaysEnough, Deeds.{Deed, deed_of}, Prefix.asked_of}
+use Rattle.bench_report.{specs.Steps.{TurnStep, CallStep, DeedStep, Step}, proofs.Growths.{Counts, Grows, Refuses, said_counts}}
 use Rattle.bench_report.specs.Deeds as deeds
-use Rattle.bench_report.specs.Deeds.{Deed, deed_of}
-use Rattle.bench_report.specs.Prefix.{asked_of}
-use Rattle.bench_report.specs.Steps.{TurnStep, CallStep, DeedStep, Step}
 use Rattle.bench_report.proofs.Growths as growths
-use Rattle.bench_report.proofs.Growths.{Counts, Grows, Refuses, said_counts}
 use Rattle.bench_sweep.specs.Told.{ShowsEnoughMemory, is_guest, moves_harts}
 
 -- of a line that was not lost

@@ -2,36 +2,22 @@
 use Rattle.std.proofs.Common.{◌≡◌, ◌⊎◌, ℕ, inl, inr, Bool, true, false, List, [], ◌∷◌, ◌++◌, Option, None, Some, Result, Ok, Err, OnOk, length, refl, sym, ◌∙◌, ap, subst, if◌then◌else◌, ◌==◌, is_some}
 use Rattle.std.proofs.lemmas.Bool.Decides.{Decides-eqb}
 use Rattle.board_model.specs.Durable.{DurableState, Change, Slot, Reset, Suspend, Consume, Discard, Tries, Good, Attempt, refusal_of, after, IsWhole, CarriesWhole}
-use Rattle.board_model.specs.Kept.{Kept, MayKeep, TakesIn, found_of}
-use Rattle.board_model.specs.Shapes.{Size}
-use Rattle.board_model.specs.Plains.{image_in, state_in}
-use Rattle.board_model.specs.Views.{change_in, durable_of, number_of_refusal}
-use Rattle.board_model.specs.declared.durable.Entry.{Entry}
+use Rattle.board_model.specs.{Kept.{Kept, MayKeep, TakesIn, found_of}, Shapes.Size, Plains.{image_in, state_in}, declared.plain.Plain.Plain}
+use Rattle.board_model.specs.{Views.{change_in, durable_of, number_of_refusal}, declared.durable.{Entry.Entry, ImageHead.ImageHead}}
+use Rattle.board_model.specs.declared.{durable.Reason.Reason, refusal.Refusal.{Refusal, TheVariants.{Memory, NoImage}}}
+use Rattle.board_model.specs.declared.{plain.PlainImage.PlainImage, console_command.ConsoleCommand.ConsoleCommand}
+use Rattle.board_model.{specs.ConsoleCommands.console_change, proofs.{Console.CarriesWhole-console, Steps.whole_after}}
 use Rattle.board_model.specs.declared.durable.Entry.TheVariants as entries
-use Rattle.board_model.specs.declared.durable.ImageHead.{ImageHead}
-use Rattle.board_model.specs.declared.durable.Reason.{Reason}
-use Rattle.board_model.specs.declared.plain.Plain.{Plain}
-use Rattle.board_model.specs.declared.refusal.Refusal.{Refusal}
-use Rattle.board_model.specs.declared.refusal.Refusal.TheVariants.{Memory, NoImage}
 use Rattle.report_lines.specs.declared.printed.Printed.{Printed}
-use Rattle.board_model.specs.declared.plain.PlainImage.{PlainImage}
 use Rattle.sbi_calls.specs.declared.words.Did.{Did}
-use Rattle.sbi.specs.declared.resets.ResetType.{ResetType}
-use Rattle.sbi.specs.declared.words.Word.{Word}
+use Rattle.sbi.specs.declared.{resets.ResetType.ResetType, words.Word.Word}
 use Rattle.sbi.specs.declared.words.Word.TheVariants as words
 use Rattle.sbi.specs.declared.words.LifeEnd.TheVariants as life_ends
-use Rattle.bench_report.specs.Views.{SimBoard, store_in, machine_in, store_now, store_doubt}
+use Rattle.bench_report.specs.{Views.{SimBoard, store_in, machine_in, store_now, store_doubt}, Agree.{BoardIs, OnIs, IsOver}}
 use Rattle.bench_report.specs.Bench.{DiskState, Formatted, BenchLife, Bench}
-use Rattle.bench_report.specs.Agree.{BoardIs, OnIs, IsOver}
-use Rattle.bench_sweep.specs.declared.ledgers.RunLedger.{RunLedger}
-use Rattle.bench_sweep.specs.Ledgers.{Tells, more_kept, in_doubt, settled, doubted, kept_by}
-use Rattle.bench_sweep.proofs.KnownLedgers.{found_more}
-use Rattle.bench_sweep.specs.Runs.{TellsWhole, Follows, HartMoves}
+use Rattle.bench_sweep.specs.{declared.ledgers.RunLedger.RunLedger, Ledgers.{Tells, more_kept, in_doubt, settled, doubted, kept_by}}
+use Rattle.bench_sweep.{proofs.KnownLedgers.found_more, specs.Runs.{TellsWhole, Follows, HartMoves}}
 use Rattle.bench_sweep.specs.Told.{IssuedTold, CommandTold, IsOfHart, HartTold}
-use Rattle.board_model.specs.declared.console_command.ConsoleCommand.{ConsoleCommand}
-use Rattle.board_model.specs.ConsoleCommands.{console_change}
-use Rattle.board_model.proofs.Console.{CarriesWhole-console}
-use Rattle.board_model.proofs.Steps.{whole_after}
 
 pub whole_more : (size : Size) (cs : List Change) (c : Change) → IsWhole size (found_of cs) → CarriesWhole size c → IsWhole size (found_of (cs ++ c ∷ []))
 whole_more size cs c whole carries =

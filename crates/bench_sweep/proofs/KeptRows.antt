@@ -2,19 +2,10 @@
 use Rattle.std.proofs.Common.{◌≡◌, ℕ, Option, ap, sym, subst}
 use Rattle.board_model.specs.Shapes.{Size}
 use Rattle.disk.specs.Facts.{Content}
-use Rattle.simdisk.specs.declared.SimDisk.{SimDisk}
-use Rattle.simdisk.specs.declared.fill.Fill.{Fill}
-use Rattle.bench_report.specs.Bench.{Bench}
-use Rattle.bench_report.specs.Examined.{OpensOf}
-use Rattle.bench_report.specs.Happens.{unpowered}
-use Rattle.bench_report.specs.Views.{facts}
-use Rattle.bench_sweep.specs.declared.judging.PointRows.{PointRows}
-use Rattle.bench_sweep.specs.declared.points.Caller.{Caller}
-use Rattle.bench_sweep.specs.Made.{cut_content}
-use Rattle.bench_sweep.specs.Points.{cut_fill}
-use Rattle.bench_sweep.specs.Reports.{IsFoundOn, IsLeftBy, Keeps}
-use Rattle.bench_sweep.specs.Swept.{Cell, cell}
-use Rattle.bench_sweep.specs.Took.{StandsOn}
+use Rattle.simdisk.specs.declared.{SimDisk.SimDisk, fill.Fill.Fill}
+use Rattle.bench_report.specs.{Bench.Bench, Examined.OpensOf, Happens.unpowered, Views.facts}
+use Rattle.bench_sweep.specs.{declared.{judging.PointRows.PointRows, points.Caller.Caller}, Made.cut_content, Points.cut_fill}
+use Rattle.bench_sweep.specs.{Reports.{IsFoundOn, IsLeftBy, Keeps}, Swept.{Cell, cell}, Took.StandsOn}
 
 pub left_row : (size : Size) (end : Bench) (disk off : SimDisk) (caller : Caller) (number : ℕ) (fill : Option Fill) (bytes : Fill) (old new : PointRows) → StandsOn size end disk → bytes ≡ cut_fill fill → (facts off).content ≡ cut_content disk bytes
     → Keeps (IsFoundOn size (unpowered end) off) old new (cell caller number fill) → Keeps (IsLeftBy size end disk) old new (cell caller number fill)

@@ -1,63 +1,32 @@
 -- What a run leaves, and what a power-on that keeps its image finds of it.
 use Rattle.std.proofs.Common.{◌≡◌, ◌≤◌, ◌⊎◌, ℕ, inl, inr, true, false, List, [], ◌∷◌, Option, None, Some, Result, Ok, Err, OnOk, refl, sym, ◌∙◌, ap, subst, arith, length}
-use Rattle.std.specs.Prelude.{IfSome, is_some, if◌then◌else◌, length}
-use Rattle.board_model.proofs.Attempts.{attempt_image}
-use Rattle.board_model.specs.Durable.{DurableState, Image, Change, Attempt, IsWhole, after, refusal_of}
-use Rattle.board_model.specs.Kept.{Kept, MayKeep, found_of}
-use Rattle.board_model.specs.Plains.{HasMemory, state_in, IsPlainOf}
-use Rattle.board_model.specs.Shapes.{Size, IsSize, ram_bytes_of}
-use Rattle.board_model.specs.Views.{head_of, durable_of}
-use Rattle.board_model.specs.declared.boot_mode.BootMode.{BootMode}
+use Rattle.std.{specs.Prelude.{IfSome, is_some, if◌then◌else◌, length}, proofs.lemmas.List.{append-nil, Elements.{All-cons, All-nil}}}
+use Rattle.board_model.{proofs.Attempts.attempt_image, specs.Durable.{DurableState, Image, Change, Attempt, IsWhole, after, refusal_of}}
+use Rattle.board_model.specs.{Kept.{Kept, MayKeep, found_of}, Plains.{HasMemory, state_in, IsPlainOf}, Shapes.{Size, IsSize, ram_bytes_of}}
+use Rattle.board_model.specs.{Views.{head_of, durable_of}, declared.{boot_mode.BootMode.BootMode, durable.{Durable.Durable, Trial.Trial}}}
+use Rattle.board_model.specs.declared.{durable.ImageHead.ImageHead, plain.Plain.Plain}
 use Rattle.board_model.specs.declared.boot_mode.BootMode.TheVariants as modes
-use Rattle.board_model.specs.declared.durable.Durable.{Durable}
-use Rattle.board_model.specs.declared.durable.ImageHead.{ImageHead}
-use Rattle.board_model.specs.declared.durable.Trial.{Trial}
-use Rattle.board_model.specs.declared.plain.Plain.{Plain}
-use Rattle.disk.specs.Facts.{IsLeft}
-use Rattle.disk.specs.FaultState.{Armed, Unarmed, FaultArmed, CutArmed, FaultState, Cause, fault_state_left}
+use Rattle.disk.specs.{Facts.IsLeft, FaultState.{Armed, Unarmed, FaultArmed, CutArmed, FaultState, Cause, fault_state_left}}
 use Rattle.disk.specs.declared.device.ArmedFault.{ArmedFault}
 use Rattle.simdisk.specs.declared.SimDisk.{SimDisk}
-use Rattle.std.proofs.lemmas.List.{append-nil}
-use Rattle.std.proofs.lemmas.List.Elements.{All-cons, All-nil}
-use Rattle.board.specs.Boots.{PayloadsFit}
-use Rattle.board.specs.Moments.{attempts_of}
-use Rattle.bench_report.specs.declared.power.OffDisk.{OffDisk}
-use Rattle.bench_report.specs.declared.power.Power.{Power}
-use Rattle.bench_report.specs.declared.power.Power.TheVariants.{Off, On}
-use Rattle.report_lines.specs.declared.printed.Answer.{Answer}
-use Rattle.report_lines.specs.declared.printed.Printed.{Printed}
-use Rattle.report_lines.specs.declared.printed.Printed.TheVariants as printed
-use Rattle.bench_report.specs.Views.{SimBoard, store_in, facts, fault_state, store_now}
-use Rattle.bench_report.specs.Bench.{DiskState, Formatted, BenchLife, Bench, no_payloads}
+use Rattle.board.specs.{Boots.PayloadsFit, Moments.attempts_of}
+use Rattle.bench_report.specs.{declared.power.{OffDisk.OffDisk, Power.{Power, TheVariants.{Off, On}}}, Commands.{Writes, Issued, IssuesAll}}
+use Rattle.bench_report.specs.{Views.{SimBoard, store_in, facts, fault_state, store_now}, Uncut.TellsIts, Lives.Shows, Steps.Step}
+use Rattle.bench_report.specs.{Bench.{DiskState, Formatted, BenchLife, Bench, no_payloads}, declared.live.LiveBench.LiveBench}
 use Rattle.bench_report.specs.Happens.{FailsByFault, acknowledged, armed_with, in_doubt, off, on_with, says, settled, unpowered, has_machine}
-use Rattle.bench_report.specs.Commands.{Writes, Issued, IssuesAll}
-use Rattle.bench_report.specs.Uncut.{TellsIts}
-use Rattle.bench_report.specs.Lives.{Shows}
-use Rattle.bench_report.specs.Steps.{Step}
-use Rattle.bench_report.specs.declared.live.LiveBench.{LiveBench}
-use Rattle.bench_report.specs.PowerOns.{life_begun, IsBooted, Boots, Opens, ShowsFound, IsOpenRefusal, PowersOn}
-use Rattle.bench_report.specs.Agree.{BoardIs, OffIs, OnIs, Agrees, IsUnstruck, Matches}
-use Rattle.bench_report.proofs.Determined.{found_as}
-use Rattle.bench_report.proofs.Ended.{left_on, cut_leaves}
-use Rattle.bench_report.proofs.KeptDisks.{GoesOn as KeepsOn, less}
-use Rattle.bench_report.proofs.Sides.{sides_stay}
-use Rattle.bench_report.proofs.Issues.{GoesOn, IsSound}
+use Rattle.bench_report.{specs.PowerOns.{life_begun, IsBooted, Boots, Opens, ShowsFound, IsOpenRefusal, PowersOn}, proofs.Sides.sides_stay}
+use Rattle.bench_report.{specs.Agree.{BoardIs, OffIs, OnIs, Agrees, IsUnstruck, Matches}, proofs.Determined.found_as}
+use Rattle.bench_report.proofs.{Ended.{left_on, cut_leaves}, KeptDisks.{GoesOn as KeepsOn, less}, Issues.{GoesOn, IsSound}}
+use Rattle.bench_report.specs.Prefix.{AskedLine, Boot, asked_by}
+use Rattle.report_lines.specs.declared.printed.{Answer.Answer, Printed.Printed}
+use Rattle.report_lines.specs.declared.printed.Printed.TheVariants as printed
 use Rattle.script_lang.specs.declared.line.Line.{Line}
 use Rattle.script_lang.specs.declared.line.Line.TheVariants as lines
-use Rattle.bench_sweep.specs.declared.ledgers.RunLedger.{RunLedger}
-use Rattle.bench_sweep.specs.Ledgers.{Tells}
-use Rattle.bench_report.specs.Prefix.{AskedLine, Boot, asked_by}
-use Rattle.bench_sweep.specs.Lines.{LineMoves}
-use Rattle.bench_sweep.specs.Resumes.{asked_resumes, line_resumes, Resumes}
-use Rattle.bench_sweep.specs.Made.{shows}
-use Rattle.bench_sweep.specs.declared.site.Going.{Going}
-use Rattle.bench_sweep.specs.declared.site.Site.{Site}
+use Rattle.bench_sweep.specs.{declared.{ledgers.RunLedger.RunLedger, site.Going.Going}, Ledgers.Tells, Lines.LineMoves, Made.shows}
+use Rattle.bench_sweep.specs.{Resumes.{asked_resumes, line_resumes, Resumes}, declared.site.Site.Site, Swept.IsPlainLine}
 use Rattle.bench_sweep.specs.Runs.{TellsWhole, Follows, Runs, RunsAt, RunsCalm, LeftAt, LeftOff, IsSpoilt, FindsState, Finds, PowerFinds}
-use Rattle.bench_sweep.specs.Swept.{IsPlainLine}
-use Rattle.bench_sweep.specs.Told.{ShowsEnoughMemory, is_boot, moves_harts, powers_on, LineTold}
-use Rattle.bench_sweep.proofs.Followed.{whole_found}
-use Rattle.bench_sweep.proofs.Fed.{line_grows}
-use Rattle.bench_sweep.proofs.Told.{line_tells}
+use Rattle.bench_sweep.{specs.Told.{ShowsEnoughMemory, is_boot, moves_harts, powers_on, LineTold}, proofs.Followed.whole_found}
+use Rattle.bench_sweep.proofs.{Fed.line_grows, Told.line_tells}
 
 -- ---- a power cut
 pub left_off : KeepsOn → (size : Size) (b : Bench) (old new : SimDisk) → OffIs size b old → IsLeft (facts old) (facts new) → fault_state new ≡ fault_state_left (fault_state old) → OffIs size (unpowered b) new

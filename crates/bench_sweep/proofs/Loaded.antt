@@ -1,26 +1,16 @@
 -- An image that stands is loaded, unless the disk's record was refused memory.
 use Rattle.std.proofs.Common.{◌≡◌, ◌⊎◌, ℕ, true, false, inl, inr, List, Option, None, Some, Result, Ok, Err, IfOk, refl, sym, ◌∙◌, ap, subst, length}
-use Rattle.std.specs.Prelude.{is_some}
-use Rattle.board_model.specs.Durable.{DurableState, Image, IsWhole}
-use Rattle.board_model.specs.Plains.{HasMemory, IsPlainOf}
-use Rattle.board_model.specs.Shapes.{Size, IsSize, ram_bytes_of}
-use Rattle.board_model.specs.Views.{durable_of, head_of}
-use Rattle.board_model.specs.declared.durable.Durable.{Durable}
-use Rattle.board_model.specs.declared.durable.ImageHead.{ImageHead}
-use Rattle.board_model.specs.declared.plain.Plain.{Plain}
-use Rattle.board_model.specs.declared.refusal.Refusal.{Refusal}
-use Rattle.std.specs.declared.alloc.AllocError.{AllocError}
-use Rattle.board_model.specs.declared.refusal.Refusal.TheVariants.{Device, NoImage}
+use Rattle.std.specs.{Prelude.is_some, declared.alloc.AllocError.AllocError}
+use Rattle.board_model.specs.{Durable.{DurableState, Image, IsWhole}, Plains.{HasMemory, IsPlainOf}, Shapes.{Size, IsSize, ram_bytes_of}}
+use Rattle.board_model.specs.{Views.{durable_of, head_of}, declared.{durable.{Durable.Durable, ImageHead.ImageHead}, plain.Plain.Plain}}
+use Rattle.board_model.specs.declared.refusal.Refusal.{Refusal, TheVariants.{Device, NoImage}}
 use Rattle.disk.specs.FaultState.{FaultState}
 use Rattle.simdisk.specs.declared.SimDisk.{SimDisk}
-use Rattle.store.specs.Lives.{IsLoaded, LoadRefused}
-use Rattle.store.specs.Views.{device_of}
-use Rattle.bench_report.specs.declared.power.Power.{Power}
-use Rattle.bench_report.specs.declared.power.Power.TheVariants.{On}
-use Rattle.report_lines.specs.declared.printed.Printed.{Printed}
+use Rattle.store.specs.{Lives.{IsLoaded, LoadRefused}, Views.device_of}
+use Rattle.bench_report.specs.declared.power.Power.{Power, TheVariants.On}
 use Rattle.bench_report.specs.Views.{SimStore, SimBoard, facts, fault_state, store_now, store_size, store_facts, store_fault_state}
-use Rattle.bench_sweep.specs.Runs.{FindsState, FoundSo, PowerFinds, IsSpoilt}
-use Rattle.bench_sweep.proofs.Left.{plain_is, has_none, has_loaded, fails_itself}
+use Rattle.report_lines.specs.declared.printed.Printed.{Printed}
+use Rattle.bench_sweep.{specs.Runs.{FindsState, FoundSo, PowerFinds, IsSpoilt}, proofs.Left.{plain_is, has_none, has_loaded, fails_itself}}
 
 -- it was put together with that memory
 abbrev pub MadeOf : Option Plain → Durable → List ℕ → Type 0

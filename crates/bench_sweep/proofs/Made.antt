@@ -1,33 +1,17 @@
 -- Rows of runs that were made.
 use Rattle.std.proofs.Common.{◌≡◌, ◌≤◌, ◌<◌, ◌+◌, ◌-◌, ◌⊎◌, ◌++◌, ◌∷◌, [], ℕ, suc, List, None, inl, inr, length, take, drop, refl, sym, ◌∙◌, ap, subst, arith}
 use Rattle.std.proofs.lemmas.List.{take-append-drop, take-take, take_all, drop_all, drop-drop, drop-take, length-drop, length-take-le, append-nil}
-use Rattle.std.proofs.lemmas.Bool.{cases_lt}
-use Rattle.std.proofs.lemmas.Grind.{flat_map-append}
-use Rattle.std.specs.List.{flat_map, AllZip}
+use Rattle.std.{proofs.lemmas.{Bool.cases_lt, Grind.flat_map-append}, specs.List.{flat_map, AllZip}}
 use Rattle.board_model.specs.Shapes.{Size}
 use Rattle.disk.specs.FaultState.{FaultState}
 use Rattle.script_lang.specs.declared.line.Line.{Line}
-use Rattle.bench_report.specs.declared.power.Power.{Power}
+use Rattle.bench_report.specs.{declared.power.Power.Power, Bench.Bench, Happens.{off, unpowered, armed_with}, Steps.Run, Views.fault_state}
 use Rattle.report_lines.specs.declared.printed.Answer.{Answer}
-use Rattle.bench_report.specs.Bench.{Bench}
-use Rattle.bench_report.specs.Happens.{off, unpowered, armed_with}
-use Rattle.bench_report.specs.Steps.{Run}
-use Rattle.bench_report.specs.Views.{fault_state}
-use Rattle.bench_sweep.specs.declared.ledgers.RunLedger.{RunLedger}
-use Rattle.bench_sweep.specs.declared.points.BenchKind.{BenchKind}
-use Rattle.bench_sweep.specs.declared.points.BenchKind.TheVariants.{Cuts, Fails}
-use Rattle.bench_sweep.specs.declared.points.Caller.{Caller}
-use Rattle.bench_sweep.specs.declared.points.Point.{Point}
-use Rattle.bench_sweep.specs.declared.rows.Row.{Row}
-use Rattle.bench_sweep.specs.declared.site.Going.{Going}
-use Rattle.bench_sweep.specs.declared.site.Site.{Site}
-use Rattle.bench_sweep.specs.Made.{Lives, ComesTo, IsEnded, IsPlainRun, IsRunOf, RunsArmed, RunsWith}
-use Rattle.bench_sweep.specs.Points.{fault_at, MadeCalls}
+use Rattle.bench_sweep.specs.declared.{ledgers.RunLedger.RunLedger, points.{BenchKind.{BenchKind, TheVariants.{Cuts, Fails}}, Point.Point}}
+use Rattle.bench_sweep.specs.{declared.{points.Caller.Caller, rows.Row.Row, site.{Going.Going, Site.Site}}, Points.{fault_at, MadeCalls}}
+use Rattle.bench_sweep.specs.{Made.{Lives, ComesTo, IsEnded, IsPlainRun, IsRunOf, RunsArmed, RunsWith}, Reports.{IsLeftBy, RunsAlong}}
+use Rattle.bench_sweep.{specs.{Runs.{RunsAt, RanTo, IsEnd, IsLife}, Took.RunTook}, proofs.Took.took_both}
 use Rattle.simdisk.specs.declared.SimDisk.{SimDisk}
-use Rattle.bench_sweep.specs.Reports.{IsLeftBy, RunsAlong}
-use Rattle.bench_sweep.specs.Runs.{RunsAt, RanTo, IsEnd, IsLife}
-use Rattle.bench_sweep.specs.Took.{RunTook}
-use Rattle.bench_sweep.proofs.Took.{took_both}
 
 -- ---- a run with a fault armed
 -- by how it ended

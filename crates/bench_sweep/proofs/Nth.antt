@@ -1,16 +1,11 @@
 -- The run of a number among all runs of a bench.
 use Rattle.std.proofs.Common.{◌≡◌, ◌≤◌, ◌<◌, ◌+◌, ◌*◌, ◌⊎◌, ◌^◌, ◌++◌, ◌∷◌, [], ℕ, zero, suc, List, Option, inl, inr, length, take, get_or, refl, sym, ◌∙◌, ap, subst, append_assoc, length-append, arith}
-use Rattle.std.proofs.lemmas.Bool.{cases_lt}
-use Rattle.std.proofs.lemmas.List.{append-nil, take_all}
+use Rattle.std.proofs.lemmas.{Bool.cases_lt, List.{append-nil, take_all}}
 use Rattle.disk.specs.Facts.{counted}
-use Rattle.bench_sweep.specs.declared.points.BenchKind.{BenchKind}
-use Rattle.bench_sweep.specs.declared.points.BenchKind.TheVariants.{Cuts, Fails}
-use Rattle.bench_sweep.specs.declared.points.Caller.{Caller}
-use Rattle.simdisk.specs.declared.fill.Fill.{Fill}
-use Rattle.bench_sweep.specs.Shown.{fill_at, runs_each, HasFewer, IsNthRun}
-use Rattle.bench_sweep.specs.Points.{callers}
+use Rattle.bench_sweep.specs.{declared.points.{BenchKind.{BenchKind, TheVariants.{Cuts, Fails}}, Caller.Caller}, Points.callers}
+use Rattle.bench_sweep.{specs.Shown.{fill_at, runs_each, HasFewer, IsNthRun}, proofs.Written.{runs_more, total}}
 use Rattle.bench_sweep.specs.Swept.{Cell, all_points, cell, points_from, runs_at, runs_of, spot}
-use Rattle.bench_sweep.proofs.Written.{runs_more, total}
+use Rattle.simdisk.specs.declared.fill.Fill.{Fill}
 
 -- a run stands at that place, from 0
 record At (cells : List Cell) (place : ℕ) (run : Cell) : Type 0 where

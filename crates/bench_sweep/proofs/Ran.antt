@@ -2,19 +2,12 @@
 use Rattle.std.proofs.Common.{◌≡◌, ◌<◌, ◌+◌, ◌∷◌, ◌++◌, [], ℕ, true, false, Bool, List, inl, inr, length, take, get_or, refl, sym, ◌∙◌, ap, subst, append_assoc, length-append, arith}
 use Rattle.std.proofs.lemmas.List.{append-nil, take_more}
 use Rattle.board_model.specs.Shapes.{Size}
-use Rattle.bench_report.proofs.RunLines.{run_more}
-use Rattle.bench_report.specs.Agree.{Agrees}
-use Rattle.bench_report.specs.Bench.{Bench}
-use Rattle.bench_report.specs.Happens.{says, off, unpowered}
-use Rattle.bench_report.specs.Steps.{Moves, Run}
+use Rattle.bench_report.{proofs.RunLines.run_more, specs.{Agree.Agrees, Bench.Bench, Happens.{says, off, unpowered}, Steps.{Moves, Run}}}
 use Rattle.bench_report.specs.declared.power.Power.{Power}
 use Rattle.report_lines.specs.declared.printed.Answer.{Answer}
 use Rattle.report_lines.specs.declared.printed.Printed.TheVariants as printed
 use Rattle.script_lang.specs.declared.line.Line.{Line}
-use Rattle.bench_sweep.specs.declared.site.Going.{Going}
-use Rattle.bench_sweep.specs.declared.site.Site.{Site}
-use Rattle.bench_sweep.specs.Lines.{LineMoves}
-use Rattle.bench_sweep.specs.Resumes.{line_resumes, lines_resume, Resumes}
+use Rattle.bench_sweep.specs.{declared.site.{Going.Going, Site.Site}, Lines.LineMoves, Resumes.{line_resumes, lines_resume, Resumes}}
 use Rattle.bench_sweep.specs.Runs.{RunsAt, RunsCalm, RanTo, IsLife, StopsOff}
 
 -- ---- serials of lines

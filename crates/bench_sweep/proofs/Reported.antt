@@ -1,14 +1,9 @@
 -- Reports that go on one after another, and the lines that they are of.
 use Rattle.std.proofs.Common.{◌≡◌, ◌≤◌, ◌+◌, ℕ, Bool, List, [], ◌++◌, take, drop, length, Option, refl, sym, ◌∙◌, subst, arith, length-append}
-use Rattle.std.proofs.lemmas.List.{length-drop, length-take}
-use Rattle.std.proofs.lemmas.List.Elements.{All-take, All-drop}
+use Rattle.std.proofs.lemmas.List.{length-drop, length-take, Elements.{All-take, All-drop}}
 use Rattle.board_model.specs.Shapes.{Size}
-use Rattle.script_lang.specs.Lines.{IsLineInRange}
-use Rattle.script_lang.specs.declared.line.Line.{Line}
-use Rattle.bench_sweep.specs.declared.points.BenchKind.{BenchKind}
-use Rattle.bench_sweep.specs.declared.rows.Row.{Row}
-use Rattle.bench_sweep.specs.declared.sweeps.SweepReport.{SweepReport}
-use Rattle.bench_sweep.specs.Reports.{Reports}
+use Rattle.script_lang.specs.{Lines.IsLineInRange, declared.line.Line.Line}
+use Rattle.bench_sweep.specs.{declared.{points.BenchKind.BenchKind, rows.Row.Row, sweeps.SweepReport.SweepReport}, Reports.Reports}
 use Rattle.bench_sweep.specs.Swept.{Spot, runs_at, IsPlainLine, AreSwept, Writes}
 use Rattle.bench_sweep.proofs.Written.{runs_more, writes_none, writes_more, writes_as, writes_weaker}
 

@@ -1,25 +1,16 @@
 -- The rows of a point, and how they are written one point after another.
 use Rattle.std.proofs.Common.{◌≡◌, ◌<◌, ◌+◌, ◌^◌, ◌++◌, ◌∷◌, [], ℕ, List, Option, length, map, sym, ◌∙◌, ap, subst, length-append, arith}
-use Rattle.std.proofs.lemmas.List.Elements.{All-nil, All-cons, All-append, All-weaker}
-use Rattle.std.specs.List.{All}
+use Rattle.std.{proofs.lemmas.List.{Elements.{All-nil, All-cons, All-append, All-weaker}, append-nil}, specs.List.All}
 use Rattle.disk.specs.Facts.{counted}
 use Rattle.board_model.specs.Shapes.{Size}
 use Rattle.script_lang.specs.declared.line.Line.{Line}
-use Rattle.bench_report.specs.Bench.{Bench}
-use Rattle.bench_report.specs.Happens.{unpowered}
+use Rattle.bench_report.specs.{Bench.Bench, Happens.unpowered}
 use Rattle.crew.specs.Handed.{AreRows, TakesAll, Handed}
-use Rattle.bench_sweep.specs.declared.judging.PointRows.{PointRows}
-use Rattle.bench_sweep.specs.declared.points.BenchKind.{BenchKind}
-use Rattle.bench_sweep.specs.declared.points.Caller.{Caller}
-use Rattle.bench_sweep.specs.declared.rows.Row.{Row}
-use Rattle.bench_sweep.specs.declared.site.Site.{Site}
-use Rattle.bench_sweep.specs.declared.sweeps.SweepReport.{SweepReport}
+use Rattle.bench_sweep.specs.declared.{judging.PointRows.PointRows, points.{BenchKind.BenchKind, Caller.Caller}, rows.Row.Row}
+use Rattle.bench_sweep.specs.{declared.{site.Site.Site, sweeps.SweepReport.SweepReport}, Runs.RunsAt}
 use Rattle.bench_sweep.specs.Reports.{Keeps, Judged, IsOfCall, TakesPoint, Reports, RunsAlong}
-use Rattle.bench_sweep.specs.Runs.{RunsAt}
 use Rattle.bench_sweep.specs.Swept.{Cell, spot, cell_of, runs_of, points_from, GoesOn}
-use Rattle.std.proofs.lemmas.List.{append-nil}
-use Rattle.bench_sweep.proofs.Written.{cells_more, each_at, next_point, one_more}
-use Rattle.bench_sweep.proofs.Reported.{reports_none, reports_more, reports_as}
+use Rattle.bench_sweep.proofs.{Written.{cells_more, each_at, next_point, one_more}, Reported.{reports_none, reports_more, reports_as}}
 
 -- ---- rows of a point
 pub judged_none : (Is : Row → Type 0) (now : PointRows) → now.rows.items ≡ [] → now.sweep.runs ≡ 0 → now.sweep.wrong ≡ 0 → Judged Is now []

@@ -1,12 +1,8 @@
 -- Scripts that no bench runs.
-use Rattle.std.proofs.Common.{◌≡◌, ◌⊎◌, ℕ, List, Result, Ok, Err, inl, inr, sym, ◌∙◌, subst}
-use Rattle.std.specs.Result.{IsErrAnd}
-use Rattle.board_model.specs.declared.refusal.Refusal.{Refusal}
-use Rattle.board_model.specs.declared.refusal.Refusal.TheVariants.{Memory, NotPlain}
-use Rattle.script_lang.specs.Scripts.{script_of, Script}
-use Rattle.script_lang.specs.declared.line.Line.{Line}
+use Rattle.std.{proofs.Common.{◌≡◌, ◌⊎◌, ℕ, List, Result, Ok, Err, inl, inr, sym, ◌∙◌, subst}, specs.Result.IsErrAnd}
+use Rattle.board_model.{specs.declared.refusal.Refusal.{Refusal, TheVariants.{Memory, NotPlain}}, proofs.Exits.err_is}
+use Rattle.script_lang.specs.{Scripts.{script_of, Script}, declared.line.Line.Line}
 use Rattle.bench_sweep.specs.Swept.{IsNotPlain, NoBenchRuns}
-use Rattle.board_model.proofs.Exits.{err_is}
 
 -- a script with such lines
 pub unswept : (script : List ℕ) (said : Script) (lines : List Line) → script_of script ≡ Ok said → lines ≡ said.lines → IsNotPlain lines → NoBenchRuns script

@@ -1,24 +1,14 @@
 -- Ledgers that tell which images were resumed.
 use Rattle.std.proofs.Common.{◌≡◌, ℕ, List, [], ◌∷◌, ◌++◌, Option, None, Some, Result, Ok, Err, OnOk, ◌⊎◌, inl, inr, refl, sym, ◌∙◌, ap, subst}
 use Rattle.std.proofs.lemmas.List.{append-nil}
-use Rattle.board_model.specs.Durable.{DurableState, Change}
-use Rattle.board_model.specs.Kept.{Kept, MayKeep, found_of}
-use Rattle.board_model.specs.Plains.{image_in}
-use Rattle.board_model.specs.Shapes.{Size}
-use Rattle.board_model.specs.Views.{durable_of, head_of}
-use Rattle.board_model.specs.declared.boot_mode.BootMode.{BootMode}
-use Rattle.board_model.specs.declared.boot_mode.BootMode.TheVariants as modes
-use Rattle.board_model.specs.declared.durable.Durable.{Durable}
-use Rattle.board_model.specs.declared.durable.ImageHead.{ImageHead}
-use Rattle.board_model.specs.declared.plain.PlainImage.{PlainImage}
-use Rattle.board_model.specs.declared.refusal.Refusal.{Refusal}
+use Rattle.board_model.specs.{Durable.{DurableState, Change}, Kept.{Kept, MayKeep, found_of}, Plains.image_in, Shapes.Size}
+use Rattle.board_model.specs.{Views.{durable_of, head_of}, declared.{boot_mode.BootMode.BootMode, durable.Durable.Durable}}
+use Rattle.board_model.specs.declared.{durable.ImageHead.ImageHead, plain.PlainImage.PlainImage, refusal.Refusal.Refusal}
 use Rattle.board_model.specs.declared.refusal.Refusal.TheVariants.{Memory, NoImage}
+use Rattle.board_model.specs.declared.boot_mode.BootMode.TheVariants as modes
 use Rattle.report_lines.specs.declared.printed.Printed.{Printed}
-use Rattle.bench_sweep.specs.declared.ledgers.RunLedger.{RunLedger}
-use Rattle.bench_sweep.specs.Ledgers.{Tells, settled}
-use Rattle.bench_sweep.specs.Runs.{TellsWhole}
+use Rattle.bench_sweep.specs.{declared.ledgers.RunLedger.RunLedger, Ledgers.{Tells, settled}, Runs.TellsWhole, Told.PowerTold}
 use Rattle.bench_sweep.specs.Resumes.{image_told, serial_of, booted, powered, power_resumes, Resumes}
-use Rattle.bench_sweep.specs.Told.{PowerTold}
 
 -- none more
 none_more : (l m : RunLedger) → m.resumed ≡ l.resumed → Resumes l m []

@@ -1,26 +1,15 @@
 -- Rows that are written as scripts.
 use Rattle.std.proofs.Common.{◌≡◌, ◌≤◌, ◌<◌, ◌⊎◌, ◌++◌, ◌∷◌, [], ℕ, List, Option, None, Result, Ok, Err, IfErr, All, inl, inr, length, take, subst}
-use Rattle.std.proofs.lemmas.List.Elements.{All-append, All-cons, All-nil}
-use Rattle.std.specs.Io.KnownBytes.{Appends}
-use Rattle.board_model.specs.Shapes.{Size, IsSize}
-use Rattle.board_model.specs.declared.boot_mode.BootMode.TheVariants.{Keep}
-use Rattle.board_model.specs.declared.refusal.Refusal.{Refusal}
+use Rattle.std.{proofs.lemmas.List.Elements.{All-append, All-cons, All-nil}, specs.Io.KnownBytes.Appends}
+use Rattle.board_model.specs.{Shapes.{Size, IsSize}, declared.{boot_mode.BootMode.TheVariants.Keep, refusal.Refusal.Refusal}}
 use Rattle.board_model.specs.declared.refusal.Refusal.TheVariants.{BadShape, Memory, Output}
 use Rattle.simdisk.specs.declared.SimDisk.{SimDisk}
-use Rattle.script_lang.specs.Armings.{IsArmingInRange}
-use Rattle.script_lang.specs.Lines.{FitsLine, IsLineInRange}
-use Rattle.script_lang.specs.Scripts.{Script, script_of}
-use Rattle.script_lang.specs.Spellings.{script_text, IsWritable}
-use Rattle.script_lang.specs.declared.armings.Arming.{Arming}
-use Rattle.script_lang.specs.declared.line.Line.{Line}
+use Rattle.script_lang.specs.{Armings.IsArmingInRange, Lines.{FitsLine, IsLineInRange}, Scripts.{Script, script_of}}
+use Rattle.script_lang.specs.{Spellings.{script_text, IsWritable}, declared.{armings.Arming.Arming, line.Line.Line}}
 use Rattle.script_lang.specs.declared.line.Line.TheVariants as lines
 use Rattle.bench_report.specs.Bench.{Bench}
-use Rattle.bench_sweep.specs.declared.points.BenchKind.{BenchKind}
-use Rattle.bench_sweep.specs.declared.points.BenchKind.TheVariants.{Cuts, Fails}
-use Rattle.bench_sweep.specs.Made.{RunsArmed}
-use Rattle.bench_sweep.specs.Points.{cut_fill}
+use Rattle.bench_sweep.specs.{declared.points.BenchKind.{BenchKind, TheVariants.{Cuts, Fails}}, Made.RunsArmed, Points.cut_fill, Swept.Cell}
 use Rattle.bench_sweep.specs.Shown.{arming, cut_part, row_lines, HasRun, ShowsFrom, ShowsNone, WroteScript}
-use Rattle.bench_sweep.specs.Swept.{Cell}
 
 -- ---- the lines of a row
 cut_in_range : (size : Size) (kind : BenchKind) → All (IsLineInRange size) (cut_part kind)

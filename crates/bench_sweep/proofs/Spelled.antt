@@ -1,10 +1,8 @@
 -- What `{:02x}` writes of a byte is how a script has it.
 use Rattle.std.proofs.Common.{◌≡◌, ◌<◌, ◌/◌, ◌%◌, ◌&&◌, ◌==◌, Bool, true, false, ℕ, zero, suc, [], ◌∷◌, Option, Some, slice_index, refl, ◌∙◌, ap, inl, inr, arith}
-use Rattle.std.proofs.lemmas.Fmt.{hex_byte}
-use Rattle.std.proofs.lemmas.Bool.{and_parts, cases_lt, eqb-true}
+use Rattle.std.proofs.lemmas.{Fmt.hex_byte, Bool.{and_parts, cases_lt, eqb-true}}
 use Rattle.std.specs.Fmt.{digits, digit_glyph, padded_integral, format_spec}
-use Rattle.simdisk.specs.declared.fill.Fill.{Fill}
-use Rattle.simdisk.specs.declared.fill.Fill.TheVariants.{Byte}
+use Rattle.simdisk.specs.declared.fill.Fill.{Fill, TheVariants.Byte}
 use Rattle.bench_sweep.specs.Rows.{fill_part}
 use Rattle.hex.specs.Hex.{encode_lower, encode_with, lower_digits}
 

@@ -1,37 +1,23 @@
 -- What a line's answer tells of the commands kept, by what the line may make of the bench.
 use Rattle.std.proofs.Common.{◌≡◌, ◌≢◌, ℕ, inl, inr, false, List, [], ◌∷◌, Option, None, Some, Result, Ok, Err, refl, sym, ◌∙◌, ap, subst, arith}
-use Rattle.board_model.specs.Durable.{DurableState, Change, refusal_of}
-use Rattle.board_model.specs.Kept.{MayKeep, found_of}
-use Rattle.board_model.specs.Shapes.{Size}
-use Rattle.board_model.specs.Views.{durable_of}
-use Rattle.board_model.specs.declared.boot_mode.BootMode.{BootMode}
-use Rattle.board_model.specs.declared.boot_mode.BootMode.TheVariants as modes
-use Rattle.board_model.specs.declared.durable.Durable.{Durable}
-use Rattle.board.specs.Boots.{boot_refusal}
-use Rattle.board.specs.Moments.{commands_by}
-use Rattle.script_lang.specs.declared.line.Line.{Line}
-use Rattle.board_model.specs.declared.console_command.ConsoleCommand.{ConsoleCommand}
+use Rattle.board_model.specs.{Durable.{DurableState, Change, refusal_of}, Kept.{MayKeep, found_of}, Shapes.Size, Views.durable_of}
+use Rattle.board_model.specs.declared.{boot_mode.BootMode.BootMode, durable.Durable.Durable, console_command.ConsoleCommand.ConsoleCommand}
 use Rattle.board_model.specs.ConsoleCommands.{console_change}
-use Rattle.report_lines.specs.declared.printed.Printed.{Printed}
+use Rattle.board_model.specs.declared.boot_mode.BootMode.TheVariants as modes
+use Rattle.board.specs.{Boots.boot_refusal, Moments.commands_by}
+use Rattle.script_lang.specs.declared.line.Line.{Line}
+use Rattle.report_lines.specs.declared.printed.{Printed.Printed, Answer.Answer}
 use Rattle.report_lines.specs.declared.printed.Printed.TheVariants as printed
-use Rattle.report_lines.specs.declared.printed.Answer.{Answer}
-use Rattle.bench_report.specs.Uncut.{TellsAsked, TellsIts}
-use Rattle.bench_report.specs.Bench.{DiskState, Formatted, BenchLife, Bench}
-use Rattle.bench_report.specs.Deeds as deeds
-use Rattle.bench_report.specs.Deeds.{WritePast, Deed, Beside, IsByFirmwareAlone, deed_of}
+use Rattle.bench_report.specs.{Uncut.{TellsAsked, TellsIts}, Bench.{DiskState, Formatted, BenchLife, Bench}, Prefix.asked_of}
+use Rattle.bench_report.specs.{Deeds.{WritePast, Deed, Beside, IsByFirmwareAlone, deed_of}, Commands.{Writes, IssuedBy, Issued, IssuesAll}}
 use Rattle.bench_report.specs.Happens.{says, out_of_memory, failed, off, on_with, settled, acknowledged, in_doubt}
-use Rattle.bench_report.specs.Commands.{Writes, IssuedBy, Issued, IssuesAll}
 use Rattle.bench_report.specs.PowerOns.{FormatsOn, life_begun, IsBooted, BootsFrom, Begins, Boots, Opens, ShowsFound, IsOpenRefusal, PowersOn, TellsNow}
-use Rattle.bench_report.specs.Prefix.{asked_of}
 use Rattle.bench_report.specs.Steps.{console_reported, FormatStep, OnStep, ConsoleStep, DeedStep, Step}
-use Rattle.bench_report.proofs.Issues.{GoesOn, IsSound, issued_back}
-use Rattle.bench_report.proofs.Table.{table_not_six, of_modes}
-use Rattle.bench_sweep.specs.Swept.{IsSweptDeed, IsPlainLine}
+use Rattle.bench_report.proofs.{Issues.{GoesOn, IsSound, issued_back}, Table.{table_not_six, of_modes}, Beside.{OfFirmware, is_aside}}
+use Rattle.bench_report.{specs.Asides.{Effect, Stays, WritesPast, aside, affected}, proofs.Questions.{IsAsked, is_asked}}
+use Rattle.bench_report.specs.Deeds as deeds
+use Rattle.bench_sweep.{specs.Swept.{IsSweptDeed, IsPlainLine}, proofs.Fed.never}
 use Rattle.bench_sweep.specs.Told.{is_guest, moves_harts, IssuedTold, CommandTold, AllTold, BootSaid, PowerTold, AskedTold, LineTold, commands_told}
-use Rattle.bench_report.specs.Asides.{Effect, Stays, WritesPast, aside, affected}
-use Rattle.bench_report.proofs.Beside.{OfFirmware, is_aside}
-use Rattle.bench_report.proofs.Questions.{IsAsked, is_asked}
-use Rattle.bench_sweep.proofs.Fed.{never}
 
 -- the number with which a command was refused
 abbrev pub number_in : Result ℕ ℕ → Option ℕ

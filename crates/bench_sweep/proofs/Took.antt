@@ -4,13 +4,8 @@ use Rattle.std.proofs.lemmas.List.{take_more}
 use Rattle.board_model.specs.Shapes.{Size}
 use Rattle.simdisk.specs.declared.SimDisk.{SimDisk}
 use Rattle.script_lang.specs.declared.line.Line.{Line}
-use Rattle.bench_report.specs.Agree.{HasDisk}
-use Rattle.bench_report.specs.Bench.{Bench}
-use Rattle.bench_report.specs.declared.power.Power.{Power}
-use Rattle.bench_report.specs.declared.power.Power.TheVariants.{Off, On}
-use Rattle.bench_sweep.specs.declared.site.Going.{Going}
-use Rattle.bench_sweep.specs.Lines.{LineMoves}
-use Rattle.bench_sweep.specs.Runs.{RunsCalm}
+use Rattle.bench_report.specs.{Agree.HasDisk, Bench.Bench, declared.power.Power.{Power, TheVariants.{Off, On}}}
+use Rattle.bench_sweep.specs.{declared.site.Going.Going, Lines.LineMoves, Runs.RunsCalm}
 use Rattle.bench_sweep.specs.Took.{CountsAlike, LineTook, RunTook, disk_at, own_disk}
 
 -- ---- the disk of a board

@@ -1,60 +1,33 @@
 -- What a turn of a hart, or its call, tells of the commands kept.
-use Rattle.board_model.specs.declared.call_words.CallWords.{CallWords}
-use Rattle.std.proofs.Common.{◌≡◌, ◌⊎◌, ◌-◌, ◌<◌, ◌≤◌, ℕ, suc, inl, inr, true, false, List, Option, None, Some, Result, Ok, Err, length, refl, sym, ◌∙◌, ap, subst, arith}
-use Rattle.board_model.specs.Durable.{Change, Reset, Suspend}
-use Rattle.board_model.specs.Kept.{Kept}
+use Rattle.board_model.specs.{declared.{call_words.CallWords.CallWords, durable.Reason.Reason}, Durable.{Change, Reset, Suspend}, Kept.Kept}
 use Rattle.board_model.specs.Shapes.{Size, ram_bytes_of}
-use Rattle.board_model.specs.declared.durable.Reason.{Reason}
-use Rattle.store.specs.Follows.{FitsBoard}
-use Rattle.store.specs.Views.{was_refused_memory}
-use Rattle.sbi_abi.specs.Calls.{call_of}
-use Rattle.sbi_abi.specs.declared.call.Call.{Call}
+use Rattle.std.proofs.Common.{◌≡◌, ◌⊎◌, ◌-◌, ◌<◌, ◌≤◌, ℕ, suc, inl, inr, true, false, List, Option, None, Some, Result, Ok, Err, length, refl, sym, ◌∙◌, ap, subst, arith}
+use Rattle.store.specs.{Follows.FitsBoard, Views.was_refused_memory}
+use Rattle.sbi_abi.specs.{Calls.call_of, declared.{call.Call.Call, ret.SbiError.{SbiError, TheVariants.{Failed, NotSupported, Denied}}}}
 use Rattle.sbi_abi.specs.declared.call.Call.TheVariants as calls
-use Rattle.sbi_abi.specs.declared.ret.SbiError.{SbiError}
-use Rattle.sbi_abi.specs.declared.ret.SbiError.TheVariants.{Failed, NotSupported, Denied}
-use Rattle.susp.specs.Dozes.{doze_of}
-use Rattle.susp.specs.declared.sleeps.Sleep.{Sleep}
-use Rattle.susp.specs.declared.sleeps.Sleep.TheVariants.{ToRam, ToDisk}
-use Rattle.sbi.specs.declared.resets.ResetType.{ResetType}
-use Rattle.sbi.specs.Resets.{reset_of}
-use Rattle.sbi_calls.specs.declared.words.Turned.{Turned}
-use Rattle.sbi_calls.specs.declared.words.Turned.TheVariants.{Made, Durable}
-use Rattle.sbi_calls.specs.declared.words.Did.TheVariants.{Next}
-use Rattle.machine.specs.Machine.{Machine, hart_at}
-use Rattle.machine.specs.Turns.{MakesTurn, MakesOneCall, calling}
-use Rattle.sbi.specs.Words.{ends, word_of_sleep}
-use Rattle.sbi.specs.declared.words.Word.{Word}
+use Rattle.susp.specs.{Dozes.doze_of, declared.sleeps.Sleep.{Sleep, TheVariants.{ToRam, ToDisk}}}
+use Rattle.sbi.specs.{declared.{resets.ResetType.ResetType, words.Word.Word}, Resets.reset_of, Words.{ends, word_of_sleep}}
+use Rattle.sbi_calls.specs.declared.words.{Turned.{Turned, TheVariants.{Made, Durable}}, Did.TheVariants.Next}
+use Rattle.machine.specs.{Machine.{Machine, hart_at}, Turns.{MakesTurn, MakesOneCall, calling}, Shows.{HasHart, own_line}}
 use Rattle.sbi.specs.declared.words.Word.TheVariants as words
 use Rattle.sbi.specs.declared.words.LifeEnd.TheVariants as life_ends
-use Rattle.machine.specs.Shows.{HasHart, own_line}
 use Rattle.machine.specs.declared.line.MachineLine.TheVariants as shown
 use Rattle.script_lang.specs.declared.line.Line.{Line}
 use Rattle.script_lang.specs.declared.line.Line.TheVariants as lines
 use Rattle.disk.specs.FaultState.{FaultState}
 use Rattle.board.specs.Turns as boards
 use Rattle.bench_report.specs.Views.{SimStore, SimBoard, store_in, machine_in, store_size, store_facts, store_fault_state}
-use Rattle.bench_report.specs.Bench.{DiskState, Formatted, BenchLife, Bench}
-use Rattle.report_lines.specs.declared.printed.Answer.{Answer}
-use Rattle.bench_report.specs.Happens.{shows, out_of_memory, off, on_with, has_machine}
-use Rattle.bench_report.specs.Commands.{Issued}
+use Rattle.bench_report.specs.{Bench.{DiskState, Formatted, BenchLife, Bench}, Happens.{shows, out_of_memory, off, on_with, has_machine}}
+use Rattle.bench_report.{specs.{Commands.Issued, Steps.{CallReported, GuestCall, TurnStep, CallStep}}, proofs.Came.{has_other, comes}}
 use Rattle.bench_report.specs.Turns.{refused, AnswersError, HartCommand, Resets, dozes, BenchFallsAsleep, BenchSleeps, BenchSleepsBy, BenchMakesCall, ComesTo, IsLastTurn, GuestTurns}
-use Rattle.bench_report.specs.Steps.{CallReported, GuestCall, TurnStep, CallStep}
-use Rattle.bench_report.specs.Agree.{LifeIs, StoreIs, BoardIs, DeviceIs, OffIs, OnIs, BoardAfter, Agrees}
-use Rattle.bench_report.proofs.Came.{has_other, comes}
-use Rattle.bench_report.proofs.Dozed.{turn_size, call_size}
-use Rattle.bench_report.proofs.Issues.{GoesOn}
-use Rattle.bench_report.proofs.Lines.{stands_by}
-use Rattle.bench_report.specs.declared.power.Power.{Power}
-use Rattle.bench_report.specs.declared.power.Power.TheVariants.{Off, On}
-use Rattle.bench_sweep.specs.declared.ledgers.RunLedger.{RunLedger}
-use Rattle.bench_sweep.specs.declared.site.Going.{Going}
-use Rattle.bench_sweep.specs.Runs.{Follows, RunsCalm, HartMoves}
-use Rattle.bench_sweep.specs.Lines.{TurnsOnce, TurnsMany, DoesLine, HartGoes, LineGoes, LineMoves}
+use Rattle.bench_report.{specs.Agree.{LifeIs, StoreIs, BoardIs, DeviceIs, OffIs, OnIs, BoardAfter, Agrees}, proofs.Issues.GoesOn}
+use Rattle.bench_report.{proofs.{Dozed.{turn_size, call_size}, Lines.stands_by}, specs.declared.power.Power.{Power, TheVariants.{Off, On}}}
 use Rattle.bench_report.specs.Prefix.{AskedLine, Boot, asked_by}
-use Rattle.bench_sweep.specs.Told.{is_boot, is_guest, moves_harts, powers_on, IssuedTold, IsOfHart, HartTold}
-use Rattle.bench_sweep.proofs.Left.{no_serials}
+use Rattle.report_lines.specs.declared.printed.Answer.{Answer}
+use Rattle.bench_sweep.specs.{declared.{ledgers.RunLedger.RunLedger, site.Going.Going}, Runs.{Follows, RunsCalm, HartMoves}}
+use Rattle.bench_sweep.{specs.Lines.{TurnsOnce, TurnsMany, DoesLine, HartGoes, LineGoes, LineMoves}, proofs.Left.no_serials}
+use Rattle.bench_sweep.{specs.Told.{is_boot, is_guest, moves_harts, powers_on, IssuedTold, IsOfHart, HartTold}, proofs.Told.issued_tells}
 use Rattle.bench_sweep.proofs.Followed.{follows_same}
-use Rattle.bench_sweep.proofs.Told.{issued_tells}
 
 -- ---- what comes of what a hart did
 abbrev TurnTold : Size → List ℕ → Bench → Word → Bench → Type 0

@@ -1,33 +1,18 @@
 -- Rows that are written one after another, and counted.
 use Rattle.std.proofs.Common.{◌≡◌, ◌⊎◌, inl, inr, ◌^◌, Bool, true, false, ◌<◌, ◌≤◌, ℕ, zero, suc, ◌+◌, ◌-◌, min, List, [], ◌∷◌, ◌++◌, Option, None, Some, length, map, take, drop, get_or, refl, sym, ◌∙◌, ap, subst, append_assoc, add_assoc, length-append, zero-add, add-one, arith}
-use Rattle.std.proofs.lemmas.List.{append-nil, take_more, length-take-le}
-use Rattle.std.proofs.lemmas.Grind.{flat_map-append}
-use Rattle.std.proofs.lemmas.Bool.{cases_lt}
+use Rattle.std.{proofs.lemmas.{List.{append-nil, take_more, length-take-le}, Grind.flat_map-append, Bool.cases_lt}, specs.List.All}
 use Rattle.std.proofs.lemmas.List.Elements.{All-nil, All-cons, All-head, All-tail, All-append, All-weaker}
-use Rattle.std.specs.List.{All}
-use Rattle.std.proofs.Math.Seq.{drop-append_seam, take-append_seam}
-use Rattle.crew.specs.Parts.{window}
-use Rattle.crew.proofs.Pieces.{window_at, window_cut, window_more}
-use Rattle.bench_sweep.specs.declared.plan.SweepPlan.{SweepPlan}
-use Rattle.std.specs.Io.KnownBytes.{Appends, Keeps}
-use Rattle.disk.specs.Facts.{counted}
-use Rattle.bench_sweep.specs.declared.points.BenchKind.{BenchKind}
-use Rattle.bench_sweep.specs.declared.points.BenchKind.TheVariants.{Cuts, Fails}
-use Rattle.bench_sweep.specs.declared.points.Caller.{Caller}
-use Rattle.simdisk.specs.declared.SimDisk.{SimDisk}
-use Rattle.simdisk.specs.declared.fill.Fill.{Fill}
-use Rattle.simdisk.specs.declared.fill.Fill.TheVariants.{Byte, Alternating, Old, New}
-use Rattle.board_model.specs.Shapes.{Size}
-use Rattle.script_lang.specs.declared.line.Line.{Line}
-use Rattle.bench_report.specs.Bench.{Bench}
-use Rattle.bench_report.specs.Happens.{unpowered}
-use Rattle.board_model.proofs.Written.{appended, unwritten}
-use Rattle.bench_sweep.specs.Made.{BeginsOn, CallsIn, IsRunOf}
-use Rattle.bench_sweep.specs.Points.{callers}
-use Rattle.bench_sweep.specs.declared.judges.Sweep.{Sweep}
-use Rattle.bench_sweep.specs.declared.rows.Row.{Row}
+use Rattle.std.{proofs.Math.Seq.{drop-append_seam, take-append_seam}, specs.Io.KnownBytes.{Appends, Keeps}}
+use Rattle.crew.{specs.Parts.window, proofs.Pieces.{window_at, window_cut, window_more}}
+use Rattle.bench_sweep.specs.declared.{plan.SweepPlan.SweepPlan, points.{BenchKind.{BenchKind, TheVariants.{Cuts, Fails}}, Caller.Caller}}
+use Rattle.bench_sweep.specs.{Made.{BeginsOn, CallsIn, IsRunOf}, Points.callers, declared.{judges.Sweep.Sweep, rows.Row.Row}}
 use Rattle.bench_sweep.specs.Rows.{row_text, sweep_text}
 use Rattle.bench_sweep.specs.Swept.{Cell, Spot, spot, cell, cell_of, runs_of, runs_at, all_points, own_points, points_from, rows_text, GoesOn, Writes, WroteAll}
+use Rattle.disk.specs.Facts.{counted}
+use Rattle.simdisk.specs.declared.{SimDisk.SimDisk, fill.Fill.{Fill, TheVariants.{Byte, Alternating, Old, New}}}
+use Rattle.board_model.{specs.Shapes.Size, proofs.Written.{appended, unwritten}}
+use Rattle.script_lang.specs.declared.line.Line.{Line}
+use Rattle.bench_report.specs.{Bench.Bench, Happens.unpowered}
 
 -- what is handed on stays written
 pub handed_on : (a b c : Option (List ℕ)) (x : List ℕ) → Appends a b x → Keeps b c → Appends a c x

@@ -1,23 +1,13 @@
 -- How many calls of the disk a boot makes, put together from those of its parts.
 use Rattle.std.proofs.Common.{◌≡◌, ◌≢◌, ◌⊎◌, ◌∙◌, inl, inr, ℕ, ◌+◌, ◌*◌, ◌≤◌, List, length, Option, None, Some, Result, Ok, Err, OnOk, refl, sym, ap, subst, subst₂, arith, length-append}
-use Rattle.disk.specs.Facts.{Content, Facts, counted, most}
-use Rattle.disk.specs.FaultState.{FaultState}
-use Rattle.board_model.specs.Durable.{DurableState, Change}
-use Rattle.board_model.specs.Shapes.{Size}
-use Rattle.board_model.specs.declared.boot_mode.BootMode.{BootMode}
-use Rattle.board_model.specs.declared.boot_mode.BootMode.TheVariants as modes
-use Rattle.board_model.specs.declared.refusal.Refusal.{Refusal}
+use Rattle.disk.specs.{Facts.{Content, Facts, counted, most}, FaultState.FaultState}
+use Rattle.board_model.specs.{Durable.{DurableState, Change}, Shapes.Size, declared.{boot_mode.BootMode.BootMode, refusal.Refusal.Refusal}}
 use Rattle.board_model.specs.declared.refusal.Refusal.TheVariants.{Device, Down, BadShape, Memory, NoImage, ImageThere, BadImage}
-use Rattle.store.specs.Answers.{StoreView}
-use Rattle.store.specs.Lives.{Life, LoadRefused, now_of}
-use Rattle.store.specs.Opens.{IsBoard, open_calls}
-use Rattle.store.specs.Standing.{StandsFor}
+use Rattle.board_model.specs.declared.boot_mode.BootMode.TheVariants as modes
+use Rattle.store.specs.{Answers.StoreView, Lives.{Life, LoadRefused, now_of}, Opens.{IsBoard, open_calls}, Standing.StandsFor}
 use Rattle.susp.specs.Wakes.{WakeStops}
-use Rattle.board.specs.Issues.{AreIssued, drops_by}
-use Rattle.board.specs.Moments.{attempts_of, commands_by}
-use Rattle.board.specs.Readies.{IsOpen, IsIssued, boot_calls, UnbootedCalls}
-use Rattle.board.specs.Unbooted.{IsStartRefusal, RefusesMode}
-use Rattle.board.proofs.Issued.{commands_are, drops_none}
+use Rattle.board.specs.{Issues.{AreIssued, drops_by}, Moments.{attempts_of, commands_by}, Unbooted.{IsStartRefusal, RefusesMode}}
+use Rattle.board.{specs.Readies.{IsOpen, IsIssued, boot_calls, UnbootedCalls}, proofs.Issued.{commands_are, drops_none}}
 
 -- ---- sums of calls
 pub no_call : (n : ℕ) → n ≤ most → n ≡ counted n 0

@@ -1,8 +1,7 @@
 -- What a crash leaves of a store that ends, by whether a command is in doubt.
 use Rattle.std.proofs.Common.{◌≡◌, Option, None, Some, refl}
 use Rattle.disk.specs.Facts.{Facts}
-use Rattle.board_model.specs.Durable.{DurableState, Change, after}
-use Rattle.board_model.specs.Shapes.{Size}
+use Rattle.board_model.specs.{Durable.{DurableState, Change, after}, Shapes.Size}
 use Rattle.store.specs.Leaves.{LeavesOnly, LeavesEither}
 use Rattle.board.specs.Unbooted.{LeavesLife}
 

@@ -1,15 +1,11 @@
 -- How many commands a boot issues. Of one at most that its disk refused none was acknowledged, and after 6 the first is in doubt.
 use Rattle.std.proofs.Common.{◌≡◌, ◌≤◌, List, [], ◌∷◌, ◌++◌, Option, None, Some, length, refl, sym, ap, ◌∙◌, subst, arith, length-append}
 use Rattle.disk.specs.Facts.{Facts}
-use Rattle.board_model.specs.Durable.{DurableState, Change}
-use Rattle.board_model.specs.Shapes.{Size}
-use Rattle.board_model.specs.declared.boot_mode.BootMode.{BootMode}
-use Rattle.board_model.specs.declared.boot_mode.BootMode.TheVariants as modes
-use Rattle.board_model.specs.declared.durable.Trial.{Trial}
+use Rattle.board_model.specs.{Durable.{DurableState, Change}, Shapes.Size, declared.{boot_mode.BootMode.BootMode, durable.Trial.Trial}}
 use Rattle.board_model.specs.declared.refusal.Refusal.{Refusal}
+use Rattle.board_model.specs.declared.boot_mode.BootMode.TheVariants as modes
 use Rattle.store.specs.Lives.{Life, begun, now_of}
-use Rattle.board.specs.Moments.{attempts_of, commands_by}
-use Rattle.board.specs.Unbooted.{doubt_by, IsLifeLeft, LeavesLife}
+use Rattle.board.specs.{Moments.{attempts_of, commands_by}, Unbooted.{doubt_by, IsLifeLeft, LeavesLife}}
 
 one_attempt : (trial : Option Trial) → length (attempts_of trial) ≤ 1
 one_attempt None = omega arith

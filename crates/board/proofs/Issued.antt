@@ -1,27 +1,17 @@
 -- What a boot leaves of its store by its commands, acknowledged or refused, and by an image that is not loaded.
 use Rattle.std.proofs.Common.{◌≡◌, ◌≢◌, ◌⊎◌, ◌∙◌, inl, inr, ⊎_elim, ℕ, ◌≤◌, List, [], ◌∷◌, ◌++◌, length, Option, None, Some, Bool, true, false, is_some, if◌then◌else◌, Result, Ok, Err, OnOk, IfErr, refl, sym, ap, subst, subst₂, append_assoc, append-nil, arith}
-use Rattle.disk.specs.Facts.{Content, Facts, LeavesSince, LeavesAfter, Passes, Stays, Failed}
-use Rattle.disk.specs.FaultState.{FaultState}
+use Rattle.disk.specs.{Facts.{Content, Facts, LeavesSince, LeavesAfter, Passes, Stays, Failed}, FaultState.FaultState}
 use Rattle.disk.specs.Moments.{leaves_none, leaves_then, leaves_weaker}
-use Rattle.board_model.specs.Durable.{DurableState, Change, Attempt, after, fold, ends_life, refusal_of}
-use Rattle.board_model.specs.Shapes.{Size}
-use Rattle.board_model.specs.declared.boot_mode.BootMode.{BootMode}
-use Rattle.board_model.specs.declared.boot_mode.BootMode.TheVariants as modes
-use Rattle.board_model.specs.declared.durable.Trial.{Trial}
-use Rattle.board_model.specs.declared.refusal.Refusal.{Refusal}
+use Rattle.board_model.specs.{Durable.{DurableState, Change, Attempt, after, fold, ends_life, refusal_of}, Shapes.Size}
+use Rattle.board_model.specs.declared.{boot_mode.BootMode.BootMode, durable.Trial.Trial, refusal.Refusal.Refusal}
 use Rattle.board_model.specs.declared.refusal.Refusal.TheVariants.{Device, Down, BadShape, NoImage, BadImage}
-use Rattle.store.specs.Answers.{StoreView, Answered, StaysOpen, CountedRefusal}
-use Rattle.store.specs.Leaves.{Leaves, LeavesOnly, IsKept, StandsForEither, WroteACommand}
-use Rattle.store.specs.Lives.{Life, now_of, Applied, Refused, LoadRefused}
-use Rattle.store.specs.Opens.{CausedRefusal}
-use Rattle.store.specs.Standing.{StandsFor}
-use Rattle.board.specs.Begins.{Issues}
-use Rattle.board.specs.Issues.{MayIssue, TakesCommands, AreIssued, AreStopped, drops_by}
+use Rattle.board_model.specs.declared.boot_mode.BootMode.TheVariants as modes
+use Rattle.store.specs.{Answers.{StoreView, Answered, StaysOpen, CountedRefusal}, Lives.{Life, now_of, Applied, Refused, LoadRefused}}
+use Rattle.store.specs.{Leaves.{Leaves, LeavesOnly, IsKept, StandsForEither, WroteACommand}, Opens.CausedRefusal, Standing.StandsFor}
+use Rattle.board.{specs.{Begins.Issues, Issues.{MayIssue, TakesCommands, AreIssued, AreStopped, drops_by}}, proofs.Unmoved.none_issued}
 use Rattle.board.specs.Moments.{attempts_of, commands_by, gone_before, IsAlong, MayLeave, AreWritten}
-use Rattle.board.specs.Readies.{IsOpen, IsIssued, IsUnissued}
-use Rattle.board.specs.Unbooted.{doubt_by, IsLifeLeft, CountsRefusal}
+use Rattle.board.specs.{Readies.{IsOpen, IsIssued, IsUnissued}, Unbooted.{doubt_by, IsLifeLeft, CountsRefusal}}
 use Rattle.board.proofs.Moments.{IsNow, untouched_moments}
-use Rattle.board.proofs.Unmoved.{none_issued}
 
 -- what a crash may leave where it leaves that state alone stands for it
 pub stands_alone : (disk : Facts) (size : Size) (s : DurableState) → LeavesOnly disk size s → (x : Content) → disk.may_leave x → StandsFor x size s

@@ -1,6 +1,5 @@
 -- Lists that are mapped.
-use Rattle.std.proofs.Common.{◌≡◌, List, [], ◌∷◌, map, refl, ◌∙◌, ap}
-use Rattle.std.specs.List.{All, AllZip}
+use Rattle.std.{proofs.Common.{◌≡◌, List, [], ◌∷◌, map, refl, ◌∙◌, ap}, specs.List.{All, AllZip}}
 use Rattle.std.proofs.lemmas.List.Elements.{All-nil, All-cons, All-head, All-tail}
 
 -- a fact of each element of a mapped list is one of each element of the list

@@ -2,10 +2,8 @@
 use Rattle.std.proofs.Common.{inl, inr, List, [], ◌∷◌}
 use Rattle.disk.specs.Facts.{Content, Facts, LeavesSince, Passes, Stays, Unchanged}
 use Rattle.disk.specs.Moments.{passes_unchanged, leaves_none, leaves_stays, leaves_then, leaves_weaker}
-use Rattle.board_model.specs.Durable.{DurableState, Change}
-use Rattle.board_model.specs.Shapes.{Size}
-use Rattle.store.specs.Leaves.{LeftAsBefore}
-use Rattle.store.proofs.Renewing.{left_then}
+use Rattle.board_model.specs.{Durable.{DurableState, Change}, Shapes.Size}
+use Rattle.store.{specs.Leaves.LeftAsBefore, proofs.Renewing.left_then}
 use Rattle.board.specs.Moments.{MayLeave}
 
 -- what is asked of a disk: that moment is now

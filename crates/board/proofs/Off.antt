@@ -1,20 +1,11 @@
 -- A board that is off after an open that succeeded, put together from the open and from what the boot made of
 -- the store.
 use Rattle.std.proofs.Common.{◌≡◌, ℕ, List, ap, ◌∙◌, subst}
-use Rattle.board_model.specs.Shapes.{Size}
-use Rattle.board_model.specs.Views.{durable_of}
-use Rattle.board_model.specs.declared.durable.Durable.{Durable}
-use Rattle.board_model.specs.declared.boot_mode.BootMode.{BootMode}
+use Rattle.board_model.specs.{Shapes.Size, Views.durable_of, declared.{durable.Durable.Durable, boot_mode.BootMode.BootMode}}
 use Rattle.board_model.specs.declared.refusal.Refusal.{Refusal}
 use Rattle.disk.specs.Facts.{Facts, LeavesSince, Unchanged}
-use Rattle.store.specs.Leaves.{LeftAsBefore}
-use Rattle.store.specs.Lives.{Life, now_of}
-use Rattle.store.specs.Answers.{StoreView, Opened}
-use Rattle.board.specs.Begins.{RefusesBoot}
-use Rattle.board.specs.Moments.{commands_by, gone_before}
-use Rattle.board.specs.PowersOn.{IsOff}
-use Rattle.board.specs.Readies.{IsUnissued}
-use Rattle.board.specs.Unbooted.{LeavesLife}
+use Rattle.store.specs.{Leaves.LeftAsBefore, Lives.{Life, now_of}, Answers.{StoreView, Opened}}
+use Rattle.board.specs.{Begins.RefusesBoot, Moments.{commands_by, gone_before}, PowersOn.IsOff, Readies.IsUnissued, Unbooted.LeavesLife}
 use Rattle.board.proofs.Moments.{kept_meanwhile}
 
 pub is_off : (mode : BootMode) (payloads : List (List ℕ)) (found now : Durable) (disk : Facts) (old new : StoreView) (e : Refusal) (left : Facts) → Opened disk old → LeavesSince disk old.disk (LeftAsBefore disk) → found ≡ durable_of new.life.found

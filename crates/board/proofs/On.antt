@@ -1,20 +1,11 @@
 -- A board that is on, put together from the open and from what the boot made of the store.
 use Rattle.std.proofs.Common.{◌≡◌, ℕ, List, None, ap, sym, ◌∙◌, subst₂}
-use Rattle.board_model.specs.Durable.{DurableState}
-use Rattle.board_model.specs.Shapes.{Size}
-use Rattle.board_model.specs.declared.boot_mode.BootMode.{BootMode}
+use Rattle.board_model.specs.{Durable.DurableState, Shapes.Size, declared.boot_mode.BootMode.BootMode}
 use Rattle.disk.specs.Facts.{Content, Facts, LeavesSince}
-use Rattle.store.specs.Leaves.{Leaves, LeftAsBefore}
-use Rattle.store.specs.Lives.{Life}
-use Rattle.store.specs.Standing.{StandsFor}
-use Rattle.store.specs.Answers.{StoreView, Opened}
+use Rattle.store.specs.{Leaves.{Leaves, LeftAsBefore}, Lives.Life, Standing.StandsFor, Answers.{StoreView, Opened}}
 use Rattle.machine.specs.Machine.{Machine}
-use Rattle.board.specs.Begins.{IsBegun}
-use Rattle.board.specs.Boots.{PayloadsFit, boot_refusal, life_after}
-use Rattle.board.specs.Moments.{commands_by, MayLeave, AreWritten, LeavesFrom}
-use Rattle.board.specs.PowersOn.{IsOn}
-use Rattle.board.specs.Readies.{IsIssued}
-use Rattle.board.proofs.Moments.{meanwhile}
+use Rattle.board.specs.{Begins.IsBegun, Boots.{PayloadsFit, boot_refusal, life_after}, PowersOn.IsOn, Readies.IsIssued}
+use Rattle.board.{specs.Moments.{commands_by, MayLeave, AreWritten, LeavesFrom}, proofs.Moments.meanwhile}
 
 module _ (mode : BootMode) (payloads : List (List ℕ)) (disk : Facts) (old new : StoreView) (machine : Machine) (opened : Opened disk old) (first : LeavesSince disk old.disk (LeftAsBefore disk)) (issued : IsIssued mode old new) where
   found : new.life.found ≡ old.life.found

@@ -1,13 +1,9 @@
 -- A store that was just opened takes a boot.
 use Rattle.std.proofs.Common.{◌≡◌, ◌<◌, ℕ, Option, None, Some, IfSome, refl, sym, subst}
-use Rattle.board_model.specs.Durable.{DurableState, Image}
-use Rattle.board_model.specs.Shapes.{Size}
+use Rattle.board_model.specs.{Durable.{DurableState, Image}, Shapes.Size}
 use Rattle.disk.specs.Facts.{Content, Facts}
-use Rattle.store.specs.Answers.{StoreView, Opened}
-use Rattle.store.specs.Leaves.{IsSettled}
-use Rattle.store.specs.Standing.{image_of, StandsFor}
-use Rattle.board.specs.Begins.{HasItsHart}
-use Rattle.board.specs.Readies.{IsOpen}
+use Rattle.store.specs.{Answers.{StoreView, Opened}, Leaves.IsSettled, Standing.{image_of, StandsFor}}
+use Rattle.board.specs.{Begins.HasItsHart, Readies.IsOpen}
 
 -- an image that is made of what is saved has its hart
 as_saved : {S : Type 0} (made : Option S → Option Image) (hart : S → ℕ) (harts : ℕ) (saved : Option S) → made None ≡ None → ((x : S) → (i : Image) × (made (Some x) ≡ Some i) × (i.hart ≡ hart x)) → ((x : S) → saved ≡ Some x → hart x < harts)

@@ -1,14 +1,10 @@
 -- Refusals before anything is done: the disk did not fail, and nothing is in doubt.
 use Rattle.std.proofs.Common.{◌≡◌, ◌⊎◌, inl, inr, ℕ, List, Option, None, Some, refl, sym, subst, arith}
-use Rattle.board_model.specs.Durable.{Change, DurableState}
-use Rattle.board_model.specs.Shapes.{Size}
-use Rattle.board_model.specs.declared.boot_mode.BootMode.{BootMode}
-use Rattle.disk.specs.FaultState.{FaultState}
-use Rattle.board_model.specs.declared.refusal.Refusal.{Refusal}
+use Rattle.board_model.specs.{Durable.{Change, DurableState}, Shapes.Size, declared.{boot_mode.BootMode.BootMode, refusal.Refusal.Refusal}}
 use Rattle.board_model.specs.declared.refusal.Refusal.TheVariants.{NoImage, ImageThere, BadShape, Memory}
+use Rattle.disk.specs.FaultState.{FaultState}
 use Rattle.store.specs.Opens.{CausedRefusal}
-use Rattle.board.specs.Begins.{IsBootRefusal, IsLateRefusal}
-use Rattle.board.specs.Unbooted.{IsStartRefusal, RefusesMode, doubt_by, CountsRefusal}
+use Rattle.board.specs.{Begins.{IsBootRefusal, IsLateRefusal}, Unbooted.{IsStartRefusal, RefusesMode, doubt_by, CountsRefusal}}
 
 -- nothing is in doubt after such a refusal, and the disk did not fail
 pub record IsQuiet (e : Refusal) : Type 0 where

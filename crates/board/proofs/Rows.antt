@@ -1,17 +1,11 @@
 -- Turns in a line, put together from rows of which the last turn alone may ask the store.
 use Rattle.std.proofs.Common.{◌≡◌, ℕ, zero, suc, ◌+◌, ◌-◌, ◌≤◌, false, refl, subst, inl, inr, arith}
-use Rattle.disk.specs.declared.device.Disk.{Ghosts}
-use Rattle.disk.specs.declared.device.Lane.{Ghosts as Lanes}
-use Rattle.store.specs.declared.stores.Store.{Store}
-use Rattle.store.specs.Views.{fault_state_of}
-use Rattle.sbi_calls.specs.declared.words.Turned.{Turned}
-use Rattle.sbi_calls.specs.declared.words.Did.TheVariants.{Next}
-use Rattle.sbi_calls.specs.declared.words.Turned.TheVariants.{Made}
+use Rattle.disk.specs.{declared.{device.{Disk.Ghosts, Lane.{Ghosts as Lanes}}}}
+use Rattle.store.specs.{declared.stores.Store.Store, Views.fault_state_of}
+use Rattle.sbi_calls.specs.declared.words.{Turned.{Turned, TheVariants.Made}, Did.TheVariants.Next}
 use Rattle.machine.specs.Machine.{Machine}
 use Rattle.machine.specs.Turns as machines
-use Rattle.sbi.specs.Words.{ends}
-use Rattle.sbi.specs.declared.words.Word.{Word}
-use Rattle.sbi.specs.declared.words.Word.TheVariants.{Goes}
+use Rattle.sbi.specs.{Words.ends, declared.words.Word.{Word, TheVariants.Goes}}
 use Rattle.board.specs.Turns.{Comes, TurnsHeld, IsLastHeld, TurnsManyHeld, RowHeld}
 
 module _ {D L : Type 0} {g : Ghosts D L} {l : Lanes L} where

@@ -1,16 +1,10 @@
 -- A boot that is refused before it issued anything leaves the life as the open made it.
 use Rattle.std.proofs.Common.{◌≡◌, ◌∙◌, List, [], Option, None, refl, sym, ap, arith}
 use Rattle.disk.specs.Moments.{passes_none}
-use Rattle.board_model.specs.Durable.{DurableState, Change}
-use Rattle.board_model.specs.declared.boot_mode.BootMode.{BootMode}
-use Rattle.board_model.specs.declared.refusal.Refusal.{Refusal}
-use Rattle.store.specs.Lives.{Life, begun}
-use Rattle.store.specs.Answers.{StoreView}
-use Rattle.board.specs.Moments.{commands_by, gone_before}
-use Rattle.board.specs.Readies.{IsOpen, IsUnissued}
-use Rattle.board.specs.Unbooted.{doubt_by, IsLifeLeft}
-use Rattle.board.proofs.Moments.{IsNow, untouched_moments}
-use Rattle.board.proofs.Refused.{IsQuiet}
+use Rattle.board_model.specs.{Durable.{DurableState, Change}, declared.{boot_mode.BootMode.BootMode, refusal.Refusal.Refusal}}
+use Rattle.store.specs.{Lives.{Life, begun}, Answers.StoreView}
+use Rattle.board.specs.{Moments.{commands_by, gone_before}, Readies.{IsOpen, IsUnissued}, Unbooted.{doubt_by, IsLifeLeft}}
+use Rattle.board.proofs.{Moments.{IsNow, untouched_moments}, Refused.IsQuiet}
 
 abbrev in_doubt_of : DurableState → Option Change → Life
 in_doubt_of s doubt = record (begun s) { doubt = doubt }

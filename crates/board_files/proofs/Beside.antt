@@ -1,8 +1,6 @@
 -- A call of a disk is one of the disk with a file beside it.
 use Rattle.std.proofs.Common.{◌≡◌, ◌∙◌, ℕ, ap, arith, inl, inr, refl, ⊎_elim, Result, Ok, Err}
-use Rattle.disk.specs.Calls.{MakesCalls}
-use Rattle.disk.specs.Facts.{Content, Facts, Passes, Stays, counted}
-use Rattle.disk.specs.FaultState.{FaultState, Cause}
+use Rattle.disk.specs.{Calls.MakesCalls, Facts.{Content, Facts, Passes, Stays, counted}, FaultState.{FaultState, Cause}}
 use Rattle.disk.specs.Moments.{passes_none}
 use Rattle.board_files.specs.Beside.{facts_beside, faults_beside}
 

@@ -1,11 +1,8 @@
 -- A sector that was laid into its block is the one that a reader takes from there.
 use Rattle.std.proofs.Common.{◌≡◌, ◌∙◌, ℕ, ◌≤◌, ◌+◌, ◌-◌, true, List, ◌++◌, length, take, drop, replicate, arith, refl, sym, ap, length-append, length-take, length-drop, append_assoc}
 use Rattle.std.proofs.lemmas.List.{drop-replicate, drop-drop, length-take-le, take-append-drop, take_at, drop_at, take_all, length-replicate}
-use Rattle.std.proofs.lemmas.Slice.{drop-put_mid, take-put_mid, drop-append-drop}
-use Rattle.std.proofs.lemmas.Cmp.{nat_list_eq_equiv}
-use Rattle.std.specs.Prelude.{nat_eq}
-use Rattle.std.specs.List.{starts_with}
-use Rattle.std.specs.Cmp.Lexicographic.{pointwise}
+use Rattle.std.{proofs.lemmas.{Slice.{drop-put_mid, take-put_mid, drop-append-drop}, Cmp.nat_list_eq_equiv}, specs.Prelude.nat_eq}
+use Rattle.std.specs.{List.starts_with, Cmp.Lexicographic.pointwise}
 use borrow.Rule.Slice.PartMut.{mid_of, put_mid}
 use Rattle.board_files.specs.Blocks.{block_of, sector_of}
 

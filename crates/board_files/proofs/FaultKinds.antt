@@ -1,9 +1,6 @@
 -- The fault of a file, by the kind of its error.
-use Rattle.std.proofs.Common.{◌≡◌, inl, inr, refl}
-use Rattle.std.specs.declared.io.ErrorKind.{ErrorKind}
-use Rattle.std.specs.declared.io.ErrorKind.TheVariants.{OutOfMemory}
-use Rattle.command_line.specs.Faults.{fault_of_kind}
-use Rattle.command_line.specs.declared.fault.ProgramFault.{ProgramFault}
+use Rattle.std.{proofs.Common.{◌≡◌, inl, inr, refl}, specs.declared.io.ErrorKind.{ErrorKind, TheVariants.OutOfMemory}}
+use Rattle.command_line.specs.{Faults.fault_of_kind, declared.fault.ProgramFault.ProgramFault}
 use Rattle.board_files.specs.Faults.{IsFileFault}
 
 by_kind : (kind : ErrorKind) → IsFileFault (fault_of_kind kind)

@@ -1,15 +1,11 @@
 -- What is read of a file whose bytes may be known.
 use Rattle.std.proofs.Common.{◌≡◌, ◌⊎◌, ◌≤◌, ◌*◌, ◌/◌, ◌%◌, ◌≢◌, ℕ, List, Option, None, Some, Result, Ok, Err, IfOk, IfSome, MatchResult, length, take, inl, inr, refl, subst, arith}
-use Rattle.std.proofs.lemmas.Bool.{cases_lt}
-use Rattle.std.specs.Simd.{first_chunks}
-use Rattle.board_model.specs.Shapes.{Size, sectors_of}
-use Rattle.board_model.specs.declared.refusal.Refusal.{Refusal}
-use Rattle.board_model.specs.declared.refusal.Refusal.TheVariants.{BadShape, NotFormatted}
+use Rattle.std.{proofs.lemmas.Bool.cases_lt, specs.Simd.first_chunks}
+use Rattle.board_model.specs.{Shapes.{Size, sectors_of}, declared.refusal.Refusal.{Refusal, TheVariants.{BadShape, NotFormatted}}}
 use Rattle.disk.specs.Facts.{Facts, IsFresh}
 use Rattle.layout.specs.Superblocks.{HasMagic, IsSuperblock}
 use Rattle.board_files.specs.Disks.{IsDiskFile, IsLookedAt, IsNoDisk, RefusesFile, first_sectors}
-use Rattle.command_line.specs.declared.fault.ProgramFault.{ProgramFault}
-use Rattle.command_line.specs.declared.fault.ProgramFault.TheVariants.{Refused}
+use Rattle.command_line.specs.declared.fault.ProgramFault.{ProgramFault, TheVariants.Refused}
 
 -- what is seen of a file: a shape, or why there is none
 abbrev pub seen : Size → Result Size Refusal

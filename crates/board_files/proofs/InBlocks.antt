@@ -1,7 +1,6 @@
 -- A sector in its block, and the sectors of a device.
 use Rattle.std.proofs.Common.{zero, suc, ◌≡◌, ◌∙◌, ℕ, ◌<◌, ◌⊎◌, ◌+◌, Bool, true, false, cond, List, [], ◌∷◌, length, map, take, drop, Result, Ok, Err, arith, inl, inr, refl, sym, ap, subst, ⊎_elim}
-use Rattle.std.specs.Prelude.{nat_eq}
-use Rattle.std.specs.List.{starts_with}
+use Rattle.std.specs.{Prelude.nat_eq, List.starts_with}
 use Rattle.disk.specs.Facts.{Content, Torn, Written, sector}
 use Rattle.board_files.specs.Blocks.{sector_of, sectors_of, mark_at, known_in, facts_in, HoldsSectors}
 use Rattle.board_files.specs.Files.{FileFacts, FileKnown, Unknown, Known, Goes, WritesSector, LeavesBut}

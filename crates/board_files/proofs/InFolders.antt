@@ -1,15 +1,10 @@
 -- A disk comes into its file by one that is written beside and renamed.
 use Rattle.std.proofs.Common.{zero, suc, ◌≡◌, ◌∙◌, ◌⊎◌, ◌==◌, ℕ, ◌<◌, ◌≤◌, ◌+◌, ◌*◌, ◌-◌, ◌^◌, ◌++◌, Bool, true, false, cond, if◌then◌else◌, List, [], ◌∷◌, length, take, drop, map, replicate, min, Option, None, Some, Result, Ok, Err, IfOk, IfSome, IsOk, OnOk, OnErr, arith, inl, inr, refl, sym, ap, subst, ⊎_elim, mul_comm}
-use Rattle.std.proofs.Math.Nat.{min-eq_left, min-eq_right}
-use Rattle.std.proofs.lemmas.Bool.{cases_lt, false≢true}
-use Rattle.std.proofs.lemmas.Bool.Decides.{nat_tests}
+use Rattle.std.{proofs.{Math.Nat.{min-eq_left, min-eq_right}, lemmas.Bool.{cases_lt, false≢true, Decides.nat_tests}}, specs.List.concat}
 use Rattle.std.proofs.lemmas.List.{append-nil, append_assoc, drop-replicate, drop-take, drop_all, get_or-map, length-map, replicate-append-replicate, take-append-drop, take-replicate, take-take, take_all, take_more}
-use Rattle.std.specs.Option.{option_map}
-use Rattle.std.proofs.lemmas.List.Folds.{concat-append}
-use Rattle.std.specs.List.{concat}
+use Rattle.std.{specs.Option.option_map, proofs.lemmas.List.Folds.concat-append}
 use Rattle.disk.specs.Facts.{Content, sector}
-use Rattle.board_files.specs.Blocks.{block_of, mark_at, mark_of}
-use Rattle.board_files.specs.Disks.{HoldsDisk, KeepsOrHolds}
+use Rattle.board_files.specs.{Blocks.{block_of, mark_at, mark_of}, Disks.{HoldsDisk, KeepsOrHolds}}
 use Rattle.board_files.specs.Folders.{FolderFacts, IsBlankOf, IsKept, IsReady, MakesBeside, OneOfTwo, Puts, PutsDisk, Renames, Replaces, Stays, SyncsBeside, SyncsFolder, SyncsHeld, TakesPlace, blank_disk, block_in, blocks_of, cached_facts, left_of, with_disk}
 
 -- ---- what is known

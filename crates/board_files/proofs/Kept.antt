@@ -1,9 +1,7 @@
 -- The marks, the file and the disk in memory stay as one another, over each call of the disk.
 use Rattle.std.proofs.Common.{suc, ◌≡◌, ◌∙◌, ℕ, ◌<◌, ◌≤◌, ◌+◌, ◌-◌, ◌*◌, Bool, false, List, [], ◌∷◌, ◌++◌, length, get_or, replicate, Result, Ok, Err, ◌⊎◌, ap, arith, inl, inr, refl, sym, subst, ⊎_elim, zero}
-use Rattle.std.proofs.lemmas.List.{map-append, length-append, length-replicate}
-use Rattle.std.proofs.lemmas.Bool.{cases_lt, false≢true, false_from_ne_true}
-use Rattle.std.proofs.Math.Logic.{∥∥₁_map}
-use Rattle.std.specs.Prelude.{OnErr, OnOk, map}
+use Rattle.std.proofs.lemmas.{List.{map-append, length-append, length-replicate}, Bool.{cases_lt, false≢true, false_from_ne_true}}
+use Rattle.std.{proofs.Math.Logic.∥∥₁_map, specs.Prelude.{OnErr, OnOk, map}}
 use Rattle.disk.specs.Facts.{Content, Facts, Only, Torn, Passes, Lent, lent_sectors, nothing, sector}
 use Rattle.disk.specs.WriteLog.{WriteLog, Piece, Untouched, AgreesOutside, NotedOrRefused, more_synced, more_written, piece_in, ranges, range}
 use Rattle.board_files.specs.Files.{FileFacts, FileKnown, Unknown, Known, IfKnown, Goes, IsDurable, IsMarked, AgreesOff, LeavesNoMore, AllowedSince, EverAllowed, IsKeptIn, AreMarks, Marks, Pushes, PushesSome}

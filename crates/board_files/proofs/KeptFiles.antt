@@ -1,9 +1,7 @@
 -- A file in memory, over its calls.
 use Rattle.std.proofs.Common.{◌≡◌, ◌∙◌, ◌⊎◌, ◌≤◌, ℕ, List, [], ◌∷◌, length, Ok, inl, inr, ⊎_elim, subst, arith}
-use Rattle.disk.specs.Facts.{Content}
-use Rattle.disk.specs.WriteLog.{Piece, WriteLog, new_log}
-use Rattle.board_files.specs.Files.{IsDurable, SyncsFile}
-use Rattle.board_files.specs.Kept.{IsOneOf, IsSince, kept_facts, noted, synced_once}
+use Rattle.disk.specs.{Facts.Content, WriteLog.{Piece, WriteLog, new_log}}
+use Rattle.board_files.specs.{Files.{IsDurable, SyncsFile}, Kept.{IsOneOf, IsSince, kept_facts, noted, synced_once}}
 
 -- both as they were given, and nothing before
 pub is_made : (given sectors stood : Content) (past : WriteLog) → sectors ≡ given → stood ≡ given → past ≡ new_log []

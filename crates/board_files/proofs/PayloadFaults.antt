@@ -1,11 +1,7 @@
 -- The fault of a payload file, by the kind of its error.
-use Rattle.std.proofs.Common.{◌≡◌, ◌⊎◌, inl, inr, refl}
-use Rattle.std.specs.declared.io.ErrorKind.{ErrorKind}
-use Rattle.std.specs.declared.io.ErrorKind.TheVariants.{OutOfMemory}
+use Rattle.std.{proofs.Common.{◌≡◌, ◌⊎◌, inl, inr, refl}, specs.declared.io.ErrorKind.{ErrorKind, TheVariants.OutOfMemory}}
 use Rattle.board_model.specs.declared.refusal.Refusal.TheVariants.{Memory}
-use Rattle.command_line.specs.Faults.{fault_of_kind}
-use Rattle.command_line.specs.declared.fault.ProgramFault.{ProgramFault}
-use Rattle.command_line.specs.declared.fault.ProgramFault.TheVariants.{File, Refused}
+use Rattle.command_line.specs.{Faults.fault_of_kind, declared.fault.ProgramFault.{ProgramFault, TheVariants.{File, Refused}}}
 
 by_kind : (kind : ErrorKind) → (fault_of_kind kind ≡ File) ⊎ (fault_of_kind kind ≡ Refused Memory)
 by_kind OutOfMemory = inr refl

@@ -1,8 +1,6 @@
 -- What an attempt leaves.
-use Rattle.std.proofs.Common.{◌≡◌, ℕ, ◌≤◌, zero, suc, Option, None, Some, refl, ap, arith}
-use Rattle.std.specs.Prelude.{IfSome}
-use Rattle.board_model.specs.Durable.{DurableState, Image, HasValidNumbers, attempted, booted_by}
-use Rattle.board_model.specs.declared.durable.Trial.{Trial}
+use Rattle.std.{proofs.Common.{◌≡◌, ℕ, ◌≤◌, zero, suc, Option, None, Some, refl, ap, arith}, specs.Prelude.IfSome}
+use Rattle.board_model.specs.{Durable.{DurableState, Image, HasValidNumbers, attempted, booted_by}, declared.durable.Trial.Trial}
 
 booted_next : (s : DurableState) (f l : ℕ) → (booted_by s f l).next ≡ s.next
 booted_next s f zero = refl

@@ -1,11 +1,8 @@
 -- What all commands of the operator's console have in common.
 use Rattle.std.proofs.Common.{◌≡◌, false, true, refl, rules}
-use Rattle.board_model.specs.Durable.{ends_life, CarriesWhole}
-use Rattle.board_model.specs.Shapes.{Size}
-use Rattle.board_model.specs.ConsoleCommands.{console_change}
+use Rattle.board_model.specs.{Durable.{ends_life, CarriesWhole}, Shapes.Size, ConsoleCommands.console_change}
+use Rattle.board_model.specs.declared.console_command.ConsoleCommand.{ConsoleCommand, TheVariants.{Slot, Discard, Tries, Good}}
 use Rattle.board_model.specs.contracts.console_command.ConsoleCommandPartialEq.TheImpl as equality
-use Rattle.board_model.specs.declared.console_command.ConsoleCommand.{ConsoleCommand}
-use Rattle.board_model.specs.declared.console_command.ConsoleCommand.TheVariants.{Slot, Discard, Tries, Good}
 
 -- it ends no life
 pub ends_life-console : (command : ConsoleCommand) → ends_life (console_change command) ≡ false

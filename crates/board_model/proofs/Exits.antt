@@ -1,7 +1,5 @@
 -- A call was refused, and so is the function that made it: for any crate.
-use Rattle.std.proofs.Common.{◌≡◌, ◌∙◌, Result, Ok, Err, IfErr, OnErr, sym, ap, subst}
-use Rattle.std.specs.Prelude.{IfOk, OnOk}
-use Rattle.std.specs.Result.{IsErrAnd}
+use Rattle.std.{proofs.Common.{◌≡◌, ◌∙◌, Result, Ok, Err, IfErr, OnErr, sym, ap, subst}, specs.{Prelude.{IfOk, OnOk}, Result.IsErrAnd}}
 use Rattle.std.proofs.lemmas.Result.{err_from_is_err_and}
 
 -- with the same refusal

@@ -1,14 +1,10 @@
 -- What each command does to the image and to a trial: proofs above split on these, and not on the commands.
-use Rattle.std.proofs.Common.{◌≡◌, ◌∙◌, ℕ, ◌+◌, List, length, Option, Some, None, refl, sym, ap, subst, arith}
-use Rattle.std.specs.Prelude.{IfSome}
+use Rattle.std.{proofs.Common.{◌≡◌, ◌∙◌, ℕ, ◌+◌, List, length, Option, Some, None, refl, sym, ap, subst, arith}, specs.Prelude.IfSome}
 use Rattle.board_model.specs.Durable.{DurableState, Image, Change, Suspend, Consume, Discard, Attempt, after, image_step, DropsImage, LeavesImage, trial_step, DecidesTrial, CountsBoot, SparesTrial, TrialStep, IsWhole, CarriesWhole}
-use Rattle.board_model.specs.Shapes.{Size, ram_bytes_of}
-use Rattle.board_model.specs.Views.{change_of, change_in, entry_of}
-use Rattle.board_model.specs.declared.durable.Command.{Command}
+use Rattle.board_model.specs.{Shapes.{Size, ram_bytes_of}, Views.{change_of, change_in, entry_of}, declared.durable.Command.Command}
+use Rattle.board_model.{specs.declared.durable.Entry.Entry, proofs.Attempts.{attempt_next, attempt_apart}}
 use Rattle.board_model.specs.declared.durable.Command.TheVariants as commands
-use Rattle.board_model.specs.declared.durable.Entry.{Entry}
 use Rattle.board_model.specs.declared.durable.Entry.TheVariants as entries
-use Rattle.board_model.proofs.Attempts.{attempt_next, attempt_apart}
 
 -- a command that leaves the image does the same whatever image stands, and takes no serial
 pub record Leaves (c : Change) : Type 0 where

@@ -1,14 +1,9 @@
 -- What the table of commands looks at, and what it refuses by.
 use Rattle.std.proofs.Common.{◌≡◌, ◌∙◌, ℕ, ◌^◌, ◌-◌, ◌≤◌, ◌==◌, ◌||◌, Bool, true, false, Option, Some, None, is_some, nat_lt, if◌then◌else◌, refl, sym, ap, arith}
-use Rattle.std.specs.Prelude.{IfSome}
-use Rattle.std.proofs.lemmas.Bool.Decides.{nat_tests}
+use Rattle.std.{specs.Prelude.IfSome, proofs.lemmas.Bool.Decides.nat_tests}
 use Rattle.board_model.specs.Durable.{DurableState, Image, Change, Slot, Reset, Suspend, Consume, Discard, Tries, Good, Attempt, after, refusal_of, fallback_by, is_table_number, HasValidNumbers}
-use Rattle.board_model.specs.Views.{durable_of, head_of}
-use Rattle.board_model.specs.declared.durable.Durable.{Durable}
-use Rattle.board_model.specs.declared.durable.ImageHead.{ImageHead}
-use Rattle.board_model.specs.declared.durable.Trial.{Trial}
-use Rattle.board_model.proofs.Attempts.{attempt_valid}
-use Rattle.board_model.proofs.Steps.{ByImage, Made, Dropped, Left, by_image}
+use Rattle.board_model.specs.{Views.{durable_of, head_of}, declared.durable.{Durable.Durable, ImageHead.ImageHead, Trial.Trial}}
+use Rattle.board_model.proofs.{Attempts.attempt_valid, Steps.{ByImage, Made, Dropped, Left, by_image}}
 
 -- ---- all but the memory of the image
 there : (i : Option Image) → is_some (head_of i) ≡ is_some i

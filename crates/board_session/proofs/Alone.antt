@@ -1,48 +1,25 @@
 -- A suspension to disk found every other hart STOPPED: what the log of the hart table has of the hart that asked for it.
 use Rattle.std.proofs.Common.{◌≡◌, ◌∙◌, ◌⊎◌, ◌<◌, ◌+◌, ◌==◌, ℕ, zero, suc, Bool, true, false, List, [], ◌∷◌, ◌++◌, All, Option, Some, None, length, drop, if◌then◌else◌, inl, inr, arith, refl, sym, ap, subst}
-use Rattle.std.specs.Prelude.{IfSome, slice_get}
-use Rattle.std.proofs.lemmas.Bool.Decides.{nat_tests}
-use Rattle.std.proofs.lemmas.List.Elements.{All-head, All-tail}
+use Rattle.std.{specs.Prelude.{IfSome, slice_get}, proofs.lemmas.{Bool.Decides.nat_tests, List.Elements.{All-head, All-tail}}}
 use Rattle.std.proofs.Math.Logic.{∥∥₁_elim, ∥∥₁_map, ∥∥₁_prop}
-use Rattle.board_model.specs.Durable.{Change, Suspend}
-use Rattle.board_model.specs.Shapes.{Size}
-use Rattle.board_model.specs.declared.durable.Entry.{Entry}
-use Rattle.hsm.specs.Words.{HartView}
-use Rattle.hsm.specs.declared.view.Action.{Action}
-use Rattle.hsm.specs.declared.view.Action.TheVariants.{Looked, Quieted}
-use Rattle.hsm.specs.declared.view.Stage.{Stage}
-use Rattle.hsm.specs.Calls.{stage_of}
+use Rattle.board_model.specs.{Durable.{Change, Suspend}, Shapes.Size, declared.durable.Entry.Entry}
+use Rattle.hsm.specs.{Words.HartView, declared.view.{Action.{Action, TheVariants.{Looked, Quieted}}, Stage.Stage}, Calls.stage_of}
 use Rattle.hsm.specs.Outcomes.{after_quiet}
 use Rattle.hart.specs.State.{ArchState}
 use Rattle.ipi.specs.declared.view.IpiAction.{IpiAction}
 use Rattle.machine.specs.Machine.{Machine}
-use Rattle.sbi.specs.Words.{life_goes_on}
-use Rattle.sbi.specs.declared.words.LifeEnd.TheVariants.{Asleep}
-use Rattle.sbi.specs.declared.words.Word.{Word}
-use Rattle.sbi.specs.declared.words.Word.TheVariants.{Over}
-use Rattle.sbi_abi.specs.Calls.{call_of}
-use Rattle.sbi_abi.specs.declared.call.Call.{Call}
-use Rattle.sbi_calls.specs.declared.words.Turned.{Turned}
-use Rattle.sbi_calls.specs.declared.words.Turned.TheVariants.{Made, Durable}
-use Rattle.susp.specs.Sleeps.{AreUnclaimed}
-use Rattle.susp.specs.declared.buses.Bus.{Bus}
-use Rattle.susp.specs.declared.buses.Doze.{Doze}
-use Rattle.tallies.specs.Books.{Each, told_by}
-use Rattle.tallies.specs.Logs.{Log, actions_in, log_places}
-use Rattle.tallies.specs.Notes.{HasNoted, hart_notes, noted}
+use Rattle.sbi.specs.{Words.life_goes_on, declared.words.{LifeEnd.TheVariants.Asleep, Word.{Word, TheVariants.Over}}}
+use Rattle.sbi_abi.specs.{Calls.call_of, declared.call.Call.Call}
+use Rattle.sbi_calls.specs.declared.words.Turned.{Turned, TheVariants.{Made, Durable}}
+use Rattle.susp.specs.{Sleeps.AreUnclaimed, declared.buses.{Bus.Bus, Doze.Doze}}
+use Rattle.tallies.specs.{Books.{Each, told_by}, Logs.{Log, actions_in, log_places}, Notes.{HasNoted, hart_notes, noted}}
 use Rattle.tallies.specs.declared.book_views.PartView.{PartView}
-use Rattle.turns.specs.Own.{StepsIf}
-use Rattle.turns.specs.declared.readies.Ready.{Ready}
+use Rattle.turns.specs.{Own.StepsIf, declared.readies.Ready.Ready}
 use Rattle.turns.specs.declared.readies.Ready.TheVariants as readies
 use Rattle.hart_threads.specs.Bused.{HasEnded, IsMoment, StepsBus, TakesBus, begun_bus, call_turn, held_call, part_of_hart, store_part}
-use Rattle.hart_threads.specs.Dozes.{is_woken}
-use Rattle.hart_threads.specs.LifeEnds.{AllEndAs, EndsAs}
-use Rattle.hart_threads.specs.Ends.{AnyAnswer, AnyWord, AreNumberedFrom, IsEnding, IsOfHart, own_receipt}
-use Rattle.hart_threads.specs.Threads.{ComesOnce, DozeOnce, HeldOnce, LoopOnce, Seated, TurnOnceBy, TurnsOn}
-use Rattle.hart_threads.specs.declared.bus_turns.BusTurn.{BusTurn}
-use Rattle.hart_threads.specs.declared.bus_turns.HeldCall.{HeldCall}
-use Rattle.hart_threads.specs.declared.ends.HartEnd.{HartEnd}
-use Rattle.hart_threads.specs.declared.loops.Why.{Why}
+use Rattle.hart_threads.specs.{Dozes.is_woken, LifeEnds.{AllEndAs, EndsAs}, declared.bus_turns.{BusTurn.BusTurn, HeldCall.HeldCall}}
+use Rattle.hart_threads.specs.{Ends.{AnyAnswer, AnyWord, AreNumberedFrom, IsEnding, IsOfHart, own_receipt}, declared.ends.HartEnd.HartEnd}
+use Rattle.hart_threads.specs.{Threads.{ComesOnce, DozeOnce, HeldOnce, LoopOnce, Seated, TurnOnceBy, TurnsOn}, declared.loops.Why.Why}
 use Rattle.hart_threads.specs.declared.loops.Why.TheVariants as whys
 use Rattle.board_session.specs.Histories.{AreDriven, FoundAlone, IsHistory, SleptAlone, harts_after, known_by, noted_by, took_by}
 use Rattle.board_session.specs.declared.talks.Left.{Left}

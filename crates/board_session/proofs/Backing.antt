@@ -1,20 +1,10 @@
 -- Parts that come back to the store, and the receipts that they were told.
 use Rattle.std.proofs.Common.{◌≡◌, ◌∙◌, ℕ, zero, suc, ◌≤◌, List, [], ◌∷◌, ◌++◌, All, Option, Some, None, true, length, map, arith, refl, sym, ap, subst}
-use Rattle.std.proofs.lemmas.List.{append_assoc, append-nil}
-use Rattle.std.proofs.lemmas.List.Elements.{All-push}
-use Rattle.std.specs.Prelude.{slice_get}
-use Rattle.std.specs.Option.{option_to_list}
-use Rattle.board_model.specs.Durable.{Change}
-use Rattle.board_model.specs.Shapes.{Size}
-use Rattle.board_model.specs.declared.durable.Entry.{Entry}
-use Rattle.tallies.specs.Closed.{AreReceiptsOf, told_in}
-use Rattle.tallies.specs.declared.book_views.PartView.{PartView}
-use Rattle.hart_threads.specs.Noted.{boot_told, entries_in}
-use Rattle.hart_threads.specs.Threads.{ends_life}
-use Rattle.hart_threads.specs.Ends.{own_receipt}
-use Rattle.hart_threads.specs.declared.ends.HartEnd.{HartEnd}
-use Rattle.board_session.specs.Backs.{AreBack}
-use Rattle.board_session.specs.Sessions.{IsAcknowledged, hart_receipts}
+use Rattle.std.{proofs.lemmas.List.{append_assoc, append-nil, Elements.All-push}, specs.{Prelude.slice_get, Option.option_to_list}}
+use Rattle.board_model.specs.{Durable.Change, Shapes.Size, declared.durable.Entry.Entry}
+use Rattle.tallies.specs.{Closed.{AreReceiptsOf, told_in}, declared.book_views.PartView.PartView}
+use Rattle.hart_threads.specs.{Noted.{boot_told, entries_in}, Threads.ends_life, Ends.own_receipt, declared.ends.HartEnd.HartEnd}
+use Rattle.board_session.specs.{Backs.AreBack, Sessions.{IsAcknowledged, hart_receipts}}
 
 abbrev HartsTold : List (Option (ℕ × Entry)) → Type 0
 HartsTold harts = All (λ told. ends_life told ≡ true) harts

@@ -1,7 +1,6 @@
 -- The disk that a session begins with, and why none begins.
 use Rattle.std.proofs.Common.{◌≡◌, ◌∙◌, ℕ, Bool, true, false, List, Option, None, Some, IfSome, inl, subst}
-use Rattle.board_files.specs.Disks.{IsDiskFile, first_sectors}
-use Rattle.board_files.specs.Faults.{IsFileFault}
+use Rattle.board_files.specs.{Disks.{IsDiskFile, first_sectors}, Faults.IsFileFault}
 use Rattle.board_model.specs.Shapes.{Size, sectors_of}
 use Rattle.board_session.specs.Operated.{Begins, IsUnread}
 use Rattle.command_line.specs.declared.fault.ProgramFault.{ProgramFault}

@@ -1,8 +1,6 @@
 -- The command is one of which the words alone give the matches, and what they name.
-use Rattle.std.proofs.Common.{◌≡◌, ℕ, Bool, true, false, List, Bor, Option, None, Some, codes, refl, sym}
-use Rattle.std.specs.Option.{option_map}
-use Rattle.clap.proofs.OnLiterals.{clap_on_literals}
-use Rattle.clap.specs.Words.{first_value, is_simple_and_free, one_text}
+use Rattle.std.{proofs.Common.{◌≡◌, ℕ, Bool, true, false, List, Bor, Option, None, Some, codes, refl, sym}, specs.Option.option_map}
+use Rattle.clap.{proofs.OnLiterals.clap_on_literals, specs.Words.{first_value, is_simple_and_free, one_text}}
 use Rattle.clap.specs.declared.parser.matches.Found.{Found}
 use Rattle.command_line.specs.Parses.{AreParsed}
 use Rattle.board_session.specs.ExaminerUsage.{IsNamedBy, NamesNoPath, asked_of, sbidisk}

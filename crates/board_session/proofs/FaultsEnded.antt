@@ -1,15 +1,9 @@
 -- How a session ends, with which file a fault was left out.
 use Rattle.std.proofs.Common.{◌≡◌, ◌∙◌, ℕ, Bool, List, Option, None, Some, Result, Ok, Err, IfErr, IfSome, OnErr, OnOk, ap, inl, inr, ⊎_elim}
-use Rattle.board_files.specs.Disks.{HoldsDisk, KeepsOrHolds}
-use Rattle.board_files.specs.Faults.{IsFileFault}
-use Rattle.board_files.specs.Folders.{LeftAt, PutsDisk}
+use Rattle.board_files.specs.{Disks.{HoldsDisk, KeepsOrHolds}, Faults.IsFileFault, Folders.{LeftAt, PutsDisk}}
 use Rattle.board_model.specs.declared.refusal.Refusal.{Refusal}
-use Rattle.board_session.specs.Operated.{IsWritten, LeavesDisk}
-use Rattle.board_session.specs.Ran.{told_of}
-use Rattle.command_line.specs.Faults.{first_fault}
-use Rattle.command_line.specs.Told.{fault_of}
-use Rattle.command_line.specs.declared.fault.ProgramFault.{ProgramFault}
-use Rattle.command_line.specs.declared.files.FileFault.{FileFault}
+use Rattle.board_session.specs.{Operated.{IsWritten, LeavesDisk}, Ran.told_of}
+use Rattle.command_line.specs.{Faults.first_fault, Told.fault_of, declared.{fault.ProgramFault.ProgramFault, files.FileFault.FileFault}}
 use Rattle.disk.specs.Facts.{Content, Facts}
 
 pub same_fault : (fault of : ProgramFault) → fault ≡ of → IsFileFault of → IsFileFault fault

@@ -1,27 +1,17 @@
 -- From what an examiner makes of a disk to what the program writes of its file.
 use Rattle.std.proofs.Common.{◌≡◌, ◌≢◌, ◌⊎◌, ◌%◌, ℕ, Bool, true, false, List, [], ◌++◌, Option, None, Some, Result, Ok, Err, IfErr, IfOk, IfSome, OnOk, inl, inr, length, refl, subst}
 use Rattle.std.specs.Io.KnownBytes.{Appends}
-use Rattle.board_files.specs.Disks.{IsLookedAt, first_sectors}
-use Rattle.board_files.specs.Faults.{IsFileFault}
+use Rattle.board_files.specs.{Disks.{IsLookedAt, first_sectors}, Faults.IsFileFault}
 use Rattle.board_model.specs.declared.refusal.Refusal.{Refusal}
 use Rattle.board_model.specs.declared.refusal.Refusal.TheVariants.{NotFormatted, BadShape, BadRecord, Device, Memory, NoImage, BadImage, Output}
-use Rattle.command_line.specs.declared.fault.ProgramFault.{ProgramFault}
-use Rattle.command_line.specs.declared.fault.ProgramFault.TheVariants.{Refused}
-use Rattle.clap.specs.Words.{IsAmong, fault_of as kinds_of}
-use Rattle.clap.specs.declared.error.kind.ErrorKind.{ErrorKind}
-use Rattle.clap.specs.declared.error.kind.ErrorKind.TheVariants.{OutOfMemory}
-use Rattle.command_line.specs.Kinds.{no_work}
-use Rattle.command_line.specs.Told.{fault_of}
-use Rattle.command_line.specs.declared.NoWork.{NoWork}
-use Rattle.command_line.specs.declared.files.FileFault.{FileFault}
+use Rattle.command_line.specs.{declared.fault.ProgramFault.{ProgramFault, TheVariants.Refused}, Kinds.no_work, Told.fault_of}
+use Rattle.command_line.specs.declared.{NoWork.NoWork, files.FileFault.FileFault}
+use Rattle.clap.specs.{Words.{IsAmong, fault_of as kinds_of}, declared.error.kind.ErrorKind.{ErrorKind, TheVariants.OutOfMemory}}
 use Rattle.disk.specs.Facts.{Content, Facts, IsFresh}
 use Rattle.board_session.specs.Examined.{IfLookedAt, IsFaultOf, IsFaultOver, IsWorked, RefusesBytes, RefusesLines, RefusesMemory, WritesMemory, WritesNothing, WritesSeen, WritesWork, has_bad, status_of}
-use Rattle.board_session.specs.ExaminerTexts.{block_text, seen_text}
-use Rattle.board_session.specs.ExaminerUsage.{AskForNone, sbidisk}
+use Rattle.board_session.specs.{ExaminerTexts.{block_text, seen_text}, ExaminerUsage.{AskForNone, sbidisk}}
 use Rattle.board_session.specs.declared.examiner_usage.DiskWork.{DiskWork}
-use Rattle.report_lines.specs.Memories.{HoldsMemory, MemoryRefused}
-use Rattle.report_lines.specs.Sights.{IsSeen, SeeRefused}
-use Rattle.report_lines.specs.declared.sees.Seen.{Seen}
+use Rattle.report_lines.specs.{Memories.{HoldsMemory, MemoryRefused}, Sights.{IsSeen, SeeRefused}, declared.sees.Seen.Seen}
 
 -- a disk that has just the sectors of the file that are looked at
 abbrev Shows : Option (List ℕ) → Facts → Type 0

@@ -1,37 +1,19 @@
 -- From the clause of a session to what the program made of its files.
 use Rattle.std.proofs.Common.{◌≡◌, ◌⊎◌, ◌∙◌, ◌==◌, ℕ, Bool, true, false, List, [], Option, None, Some, Result, Ok, Err, IfSome, OnErr, OnOk, if◌then◌else◌, inl, inr, map, refl, string_bytes, subst, ⊎_elim}
-use Rattle.std.specs.Io.Buffered.{reader_buffer, reader_capacity, reader_inner, reader_remaining}
-use Rattle.std.specs.Io.KnownBytes.{prepend_known}
-use Rattle.std.specs.Option.{option_map}
-use Rattle.std.specs.declared.io.buffered.BufReader.{BufReader}
-use Rattle.board_session.specs.Commands.{party}
-use Rattle.board_session.specs.Dialogues.{Written, dialogue_ends}
-use Rattle.board_session.specs.declared.talks.Left.{Left}
-use Rattle.board_model.specs.declared.refusal.Refusal.{Refusal}
-use Rattle.board_model.specs.declared.refusal.Refusal.TheVariants.{Memory}
-use Rattle.board_session.specs.declared.given.Options.{Options}
-use Rattle.board_session.proofs.DiskBegun.{begins_unchanged}
-use Rattle.board_session.specs.Parses.{AreRefused}
-use Rattle.board_session.specs.Refused.{AreNoOptions}
+use Rattle.std.specs.Io.{Buffered.{reader_buffer, reader_capacity, reader_inner, reader_remaining}, KnownBytes.prepend_known}
+use Rattle.std.specs.{Option.option_map, declared.io.buffered.BufReader.BufReader}
+use Rattle.board_session.specs.{Commands.party, Dialogues.{Written, dialogue_ends}, declared.{talks.Left.Left, given.Options.Options}}
+use Rattle.board_session.{proofs.DiskBegun.begins_unchanged, specs.{Parses.AreRefused, Refused.AreNoOptions, Ran.HasRun}}
 use Rattle.board_session.specs.Operated.{AskForNone, Begins, EndsInFile, HasLeft, IsUnread, IsWritten, Known, LeavesDisk, StaysInFile, known}
-use Rattle.board_session.specs.Ran.{HasRun}
-use Rattle.board_session.specs.declared.runs.FileLeft.{FileLeft}
+use Rattle.board_session.specs.{declared.runs.FileLeft.FileLeft, Sessions.{RanOver, RefusesSession, outcome_of}}
+use Rattle.board_model.specs.declared.refusal.Refusal.{Refusal, TheVariants.Memory}
 use Rattle.board_session.specs.declared.runs.FileLeft.TheVariants as lefts
-use Rattle.board_files.specs.Faults.{IsFileFault}
-use Rattle.board_session.specs.Sessions.{RanOver, RefusesSession, outcome_of}
-use Rattle.clap.specs.declared.error.kind.ErrorKind.{ErrorKind}
-use Rattle.clap.specs.declared.error.kind.ErrorKind.TheVariants.{OutOfMemory, ValueValidation}
-use Rattle.command_line.specs.Kinds.{no_work}
-use Rattle.command_line.specs.declared.NoWork.{NoWork}
-use Rattle.command_line.specs.declared.fault.ProgramFault.{ProgramFault}
-use Rattle.command_line.specs.declared.fault.ProgramFault.TheVariants.{Refused}
-use Rattle.board_files.specs.Disks.{HoldsDisk, KeepsOrHolds}
-use Rattle.board_files.specs.Files.{FileKnown}
-use Rattle.board_files.specs.Folders.{LeftAt, NoMore}
-use Rattle.disk.specs.Facts.{Content, Facts, Unchanged}
-use Rattle.hart_threads.specs.declared.ends.HartEnd.{HartEnd}
+use Rattle.board_files.specs.{Faults.IsFileFault, Disks.{HoldsDisk, KeepsOrHolds}, Files.FileKnown, Folders.{LeftAt, NoMore}}
 use Rattle.board_files.specs.Named.{AreFilesOf}
-use Rattle.hart_threads.specs.Heard.{Hearing, heard_nothing}
+use Rattle.clap.specs.declared.error.kind.ErrorKind.{ErrorKind, TheVariants.{OutOfMemory, ValueValidation}}
+use Rattle.command_line.specs.{Kinds.no_work, declared.{NoWork.NoWork, fault.ProgramFault.{ProgramFault, TheVariants.Refused}}}
+use Rattle.disk.specs.Facts.{Content, Facts, Unchanged}
+use Rattle.hart_threads.specs.{declared.ends.HartEnd.HartEnd, Heard.{Hearing, heard_nothing}}
 use Rattle.simdisk.specs.declared.sim.SimDisk.{SimDisk}
 
 -- ---- a session

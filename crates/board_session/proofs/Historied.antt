@@ -1,39 +1,22 @@
 -- The parts of a history that has ended, and what they say of it.
 use Rattle.std.proofs.Common.{◌≡◌, ◌∙◌, ℕ, suc, Bool, true, false, List, [], ◌∷◌, ◌++◌, ◌==◌, All, Option, Some, None, length, if◌then◌else◌, arith, inl, inr, refl, sym, ap, subst}
-use Rattle.std.proofs.lemmas.Bool.Decides.{nat_tests}
-use Rattle.std.proofs.lemmas.List.{append_assoc}
-use Rattle.std.proofs.lemmas.List.Elements.{All-push}
-use Rattle.std.specs.Prelude.{IfSome, get_or}
+use Rattle.std.{proofs.lemmas.{Bool.Decides.nat_tests, List.{append_assoc, Elements.All-push}}, specs.Prelude.{IfSome, get_or}}
 use Rattle.std.proofs.Math.Logic.{∥∥₁_map, ∥∥₁_map₂}
-use Rattle.board_model.specs.Durable.{Change}
-use Rattle.board_model.specs.Shapes.{Size}
+use Rattle.board_model.specs.{Durable.Change, Shapes.Size}
 use Rattle.hart.specs.State.{ArchState}
-use Rattle.hsm.specs.Words.{HartView}
-use Rattle.hsm.specs.declared.view.Action.{Action}
-use Rattle.hsm.specs.declared.view.Stage.{Stage}
-use Rattle.ipi.specs.Ledger.{PendingView}
-use Rattle.ipi.specs.declared.view.IpiAction.{IpiAction}
+use Rattle.hsm.specs.{Words.HartView, declared.view.{Action.Action, Stage.Stage}}
+use Rattle.ipi.specs.{Ledger.PendingView, declared.view.IpiAction.IpiAction}
 use Rattle.machine.specs.Machine.{Machine}
 use Rattle.sbi.specs.declared.words.LifeEnd.{LifeEnd}
-use Rattle.sbi_calls.specs.Both.{Known, known, pending_views, views}
-use Rattle.sbi_calls.specs.declared.tables.Seats.{Seats}
+use Rattle.sbi_calls.specs.{Both.{Known, known, pending_views, views}, declared.tables.Seats.Seats}
 use Rattle.store.specs.Lives.{Life}
 use Rattle.susp.specs.declared.buses.Bus.{Bus}
-use Rattle.tallies.specs.Books.{Each, IsPart, part_view, told_by}
-use Rattle.tallies.specs.Logs.{IsOfLog, Log, actions_in, log_places}
-use Rattle.tallies.specs.Notes.{numbers}
-use Rattle.tallies.specs.declared.view.HartNotes.{HartNotes}
-use Rattle.tallies.specs.declared.book_views.PartView.{PartView}
+use Rattle.tallies.specs.{Books.{Each, IsPart, part_view, told_by}, Logs.{IsOfLog, Log, actions_in, log_places}, Notes.numbers}
+use Rattle.tallies.specs.declared.{view.HartNotes.HartNotes, book_views.PartView.PartView}
 use Rattle.hart_threads.specs.Bused.{AreCalls, AreSaved, AreWakes, AsksSo, FoundSo, HasEnded, HasFailed, IsMoment, IsSaving, IsWaking, LooksFor, Makes, SavedBy, WasTold, begun_bus, console_part, count_of, part_of_hart, store_part}
-use Rattle.hart_threads.specs.Ends.{IsEnding, IsOfHart}
-use Rattle.hart_threads.specs.Seated.{AreOfHart}
-use Rattle.hart_threads.specs.declared.ends.HartEnd.{HartEnd}
-use Rattle.hart_threads.specs.LifeEnds.{AllEndAs, EndsAs, IsEndedAs}
-use Rattle.hart_threads.specs.declared.bus_turns.BusTurn.{BusTurn}
-use Rattle.hart_threads.specs.declared.bus_turns.HeldCall.{HeldCall}
-use Rattle.hart_threads.specs.declared.closing.AfterConsole.{AfterConsole}
-use Rattle.hart_threads.proofs.Bussing.{ended_more}
-use Rattle.hart_threads.proofs.Whose.{hart_whose}
+use Rattle.hart_threads.specs.{Ends.{IsEnding, IsOfHart}, Seated.AreOfHart, declared.{ends.HartEnd.HartEnd, bus_turns.BusTurn.BusTurn}}
+use Rattle.hart_threads.{specs.{LifeEnds.{AllEndAs, EndsAs, IsEndedAs}, declared.bus_turns.HeldCall.HeldCall}, proofs.Bussing.ended_more}
+use Rattle.hart_threads.{specs.declared.closing.AfterConsole.AfterConsole, proofs.Whose.hart_whose}
 use Rattle.board_session.specs.Histories.{EndsHistory, EndsWith, HasTables, IsAmong, IsHistory, IsOneOf, IsUnended, known_by, noted_by, took_by}
 
 -- ---- a life that no command was to end yet

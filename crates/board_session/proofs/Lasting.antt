@@ -1,9 +1,7 @@
 -- How the harts ended whose loops a command ended, by the last command of the journal.
 use Rattle.std.proofs.Common.{◌≡◌, ℕ, List, All, Option, Some, None, IfSome, sym, subst}
-use Rattle.board_model.specs.Durable.{Change}
-use Rattle.board_model.specs.declared.durable.Entry.{Entry}
-use Rattle.hart_threads.specs.declared.ends.HartEnd.{HartEnd}
-use Rattle.hart_threads.specs.Called.{IsLastOf}
+use Rattle.board_model.specs.{Durable.Change, declared.durable.Entry.Entry}
+use Rattle.hart_threads.specs.{declared.ends.HartEnd.HartEnd, Called.IsLastOf}
 use Rattle.board_session.specs.Sessions.{IsOver}
 
 -- that command is the journal's last

@@ -1,9 +1,6 @@
 -- Ends of harts, one after another.
-use Rattle.std.proofs.Common.{◌≡◌, ℕ, suc, ◌+◌, List, [], ◌∷◌, ◌++◌, length, arith, sym, subst}
-use Rattle.std.proofs.lemmas.List.{length_push}
-use Rattle.hart_threads.specs.Begun.{AreFromLast}
-use Rattle.hart_threads.specs.Ends.{AreNumberedFrom}
-use Rattle.hart_threads.specs.declared.ends.HartEnd.{HartEnd}
+use Rattle.std.proofs.{Common.{◌≡◌, ℕ, suc, ◌+◌, List, [], ◌∷◌, ◌++◌, length, arith, sym, subst}, lemmas.List.length_push}
+use Rattle.hart_threads.specs.{Begun.AreFromLast, Ends.AreNumberedFrom, declared.ends.HartEnd.HartEnd}
 
 -- one more, of the next hart
 pub numbered_more : (first : ℕ) (es : List HartEnd) (e : HartEnd) → AreNumberedFrom first es → e.hart.id ≡ first + length es → AreNumberedFrom first (es ++ e ∷ [])

@@ -1,13 +1,8 @@
 -- What the parser's own clauses say of the command `sbiboard`.
 use Rattle.std.proofs.Common.{◌≡◌, ◌∙◌, ◌⊎◌, ℕ, true, List, Result, Ok, Err, IfErr, IfOk, ap, inl, inr, subst}
-use Rattle.board_session.proofs.Simple.{sbiboard_free}
-use Rattle.board_session.specs.Usage.{TakesModes, sbiboard}
-use Rattle.board_session.specs.Parses.{AreParsed, AreRefused}
-use Rattle.clap.specs.Words.{App, HasKind, IsAmong, fault_of, found_of, is_simple_and_free, kind_of}
-use Rattle.clap.specs.declared.builder.value_parser.ValueParser.{ValueParser}
-use Rattle.clap.specs.declared.error.Error.{Error}
-use Rattle.clap.specs.declared.error.kind.ErrorKind.{ErrorKind}
-use Rattle.clap.specs.declared.error.kind.ErrorKind.TheVariants.{OutOfMemory}
+use Rattle.board_session.{proofs.Simple.sbiboard_free, specs.{Usage.{TakesModes, sbiboard}, Parses.{AreParsed, AreRefused}}}
+use Rattle.clap.specs.{Words.{App, HasKind, IsAmong, fault_of, found_of, is_simple_and_free, kind_of}, declared.error.Error.Error}
+use Rattle.clap.specs.declared.{builder.value_parser.ValueParser.ValueParser, error.kind.ErrorKind.{ErrorKind, TheVariants.OutOfMemory}}
 use Rattle.clap.specs.declared.parser.matches.ArgMatches.{ArgMatches}
 use Rattle.command_line.specs.Parses as parses
 

@@ -1,37 +1,18 @@
 -- What is made of a disk on the way to a board that is on, and what a board that is not on, or a life that has
 -- ended, leaves of it.
 use Rattle.std.proofs.Common.{◌≡◌, ◌⊎◌, ◌≤◌, ◌&&◌, inl, inr, ℕ, Bool, true, false, List, [], ◌++◌, Option, Some, None, length, drop, arith, ap, refl, sym, ◌∙◌, subst, subst₂}
-use Rattle.std.proofs.lemmas.List.{take-append-drop}
-use Rattle.std.specs.Prelude.{is_none, is_some, if◌then◌else◌}
-use Rattle.board_model.specs.Durable.{DurableState, Change, Attempt, Consume, Discard, after, fold, formatted}
-use Rattle.board_model.specs.Shapes.{Size}
-use Rattle.board_model.specs.declared.boot_mode.BootMode.{BootMode}
-use Rattle.board_model.specs.declared.durable.Command.{Command}
-use Rattle.board_model.specs.declared.durable.Durable.{Durable}
-use Rattle.board_model.specs.declared.durable.Trial.{Trial}
-use Rattle.board_model.specs.declared.durable.Entry.{Entry}
-use Rattle.board_model.specs.declared.refusal.Refusal.{Refusal}
-use Rattle.board_model.specs.Views.{number_of_refusal}
-use Rattle.board_model.specs.declared.refusal.Refusal.TheVariants.{Device, Down, Memory}
+use Rattle.std.{proofs.lemmas.List.take-append-drop, specs.Prelude.{is_none, is_some, if◌then◌else◌}}
+use Rattle.board_model.specs.{Durable.{DurableState, Change, Attempt, Consume, Discard, after, fold, formatted}, Shapes.Size}
+use Rattle.board_model.specs.declared.{boot_mode.BootMode.BootMode, durable.{Command.Command, Durable.Durable, Trial.Trial, Entry.Entry}}
+use Rattle.board_model.specs.{declared.refusal.Refusal.{Refusal, TheVariants.{Device, Down, Memory}}, Views.number_of_refusal}
 use Rattle.disk.specs.Facts.{Content, Facts, Failed, LeavesSince, Passes, Stays}
-use Rattle.store.specs.Leaves.{IsBlank, IsKept, IsMarked, LeavesEither, LeavesOnly, LeftAsBefore, NoMore}
-use Rattle.store.specs.Answers.{StoreView}
-use Rattle.store.specs.Opens.{OpenRefused, FormatRefused}
-use Rattle.store.specs.Formats.{WritesHead}
-use Rattle.store.specs.Standing.{StandsFor}
-use Rattle.board.specs.Begins.{RefusesBoot}
-use Rattle.board.specs.PowersOn.{IsOn, IsUnpowered}
+use Rattle.store.specs.{Leaves.{IsBlank, IsKept, IsMarked, LeavesEither, LeavesOnly, LeftAsBefore, NoMore}, Answers.StoreView}
+use Rattle.store.specs.{Opens.{OpenRefused, FormatRefused}, Formats.WritesHead, Standing.StandsFor, Lives.{Life, now_of}, Taken.are_taken}
+use Rattle.board.specs.{Begins.RefusesBoot, PowersOn.{IsOn, IsUnpowered}, Unbooted.{doubt_by, LeavesLife}, Boots.{boot_refusal, life_after}}
+use Rattle.board.{specs.Moments.{MayLeave, attempts_of, commands_by}, proofs.Few.{few_commands, left_at}}
 use Rattle.machine.specs.Machine.{Machine}
-use Rattle.board.specs.Unbooted.{doubt_by, LeavesLife}
 use Rattle.board_model.specs.declared.boot_mode.BootMode.TheVariants as modes
-use Rattle.store.specs.Lives.{Life, now_of}
-use Rattle.store.specs.Taken.{are_taken}
-use Rattle.hart_threads.specs.Legal.{BeginsWith}
-use Rattle.hart_threads.specs.LifeEnds.{AllEndAs, IsEndedAs}
-use Rattle.hart_threads.proofs.LifeEnding.{none_end, more_end, going_on}
-use Rattle.board.specs.Boots.{boot_refusal, life_after}
-use Rattle.board.specs.Moments.{MayLeave, attempts_of, commands_by}
-use Rattle.board.proofs.Few.{few_commands, left_at}
+use Rattle.hart_threads.{specs.{Legal.BeginsWith, LifeEnds.{AllEndAs, IsEndedAs}}, proofs.LifeEnding.{none_end, more_end, going_on}}
 use Rattle.board_session.specs.Sessions.{Begins, Allows, TakesFormat, RunsOver, RefusesNew, RefusesDisk, IsOfLife, IsBooted}
 
 -- ---- of a format

@@ -1,19 +1,11 @@
 -- A session of a board that was on.
-use Rattle.std.proofs.Common.{◌≡◌, ◌⊎◌, ◌≤◌, ℕ, Bool, List, Option, Some, inl, inr, arith, subst, sym}
-use Rattle.std.proofs.Math.Logic.{∥∥₁_map}
-use Rattle.board_model.specs.Durable.{DurableState, Change}
-use Rattle.board_model.specs.Shapes.{Size}
-use Rattle.board_model.specs.declared.boot_mode.BootMode.{BootMode}
-use Rattle.board_model.specs.declared.durable.Entry.{Entry}
+use Rattle.std.proofs.{Common.{◌≡◌, ◌⊎◌, ◌≤◌, ℕ, Bool, List, Option, Some, inl, inr, arith, subst, sym}, Math.Logic.∥∥₁_map}
+use Rattle.board_model.specs.{Durable.{DurableState, Change}, Shapes.Size, declared.{boot_mode.BootMode.BootMode, durable.Entry.Entry}}
 use Rattle.disk.specs.Facts.{Content, Facts}
-use Rattle.board.specs.Begins.{IsBegun}
-use Rattle.board.specs.Moments.{commands_by}
+use Rattle.board.specs.{Begins.IsBegun, Moments.commands_by}
 use Rattle.machine.specs.Machine.{Machine}
-use Rattle.hart_threads.specs.Heard.{Hearing}
-use Rattle.board_session.specs.Commands.{party}
-use Rattle.board_session.specs.Dialogues.{DialogueEnds, Talks, Written, dialogue_ends}
-use Rattle.board_session.specs.declared.talks.Left.{Left}
-use Rattle.hart_threads.specs.declared.ends.HartEnd.{HartEnd}
+use Rattle.hart_threads.specs.{Heard.Hearing, declared.ends.HartEnd.HartEnd}
+use Rattle.board_session.specs.{Commands.party, Dialogues.{DialogueEnds, Talks, Written, dialogue_ends}, declared.talks.Left.Left}
 use Rattle.board_session.specs.Histories.{HasHistory}
 use Rattle.board_session.specs.Sessions.{RunsOver, Begins, IsOfLife, TalksIf, AreOfLife, RanOver, LeftBefore, said_since}
 

@@ -1,9 +1,7 @@
 -- A line as it is read, byte by byte.
 use Rattle.std.proofs.Common.{◌≡◌, ◌≢◌, ◌<◌, ◌∙◌, ℕ, List, [], ◌∷◌, ◌++◌, length, take, Option, sym, ap, arith, inl, inr}
-use Rattle.std.proofs.lemmas.Bool.{cases_lt}
-use Rattle.std.proofs.lemmas.List.{take_all, take-append-le, length-take-le, length-append}
-use Rattle.std.proofs.lemmas.List.Elements.{All-nil, All-cons, All-append}
-use Rattle.std.proofs.KnownBytes.{Consumes-nil, Consumes-trans, Consumes-kept}
+use Rattle.std.proofs.lemmas.{Bool.cases_lt, List.{take_all, take-append-le, length-take-le, length-append}}
+use Rattle.std.proofs.{lemmas.List.Elements.{All-nil, All-cons, All-append}, KnownBytes.{Consumes-nil, Consumes-trans, Consumes-kept}}
 use Rattle.std.specs.Io.KnownBytes.{Consumes, IsAtEnd, Keeps}
 use Rattle.board_session.specs.declared.lines.LineEnd.TheVariants as line_ends
 use Rattle.board_session.specs.Lines.{HasNoFeed, TakesLine}

@@ -1,10 +1,7 @@
 -- What a call of the wake-up device comes to.
 use Rattle.std.proofs.Common.{◌≡◌, ◌↔◌, ◌∙◌, Bool, true, false, List, ℕ, Option, Result, Ok, Err, IsOk, OnOk, IfErr, refl, sym, ap, subst}
-use Rattle.board_model.specs.declared.refusal.Refusal.{Refusal}
-use Rattle.board_model.specs.declared.refusal.Refusal.TheVariants.{NotDozing}
-use Rattle.susp.specs.Dozes.{can_wake, after_wake}
-use Rattle.susp.specs.declared.buses.Bus.{Bus}
-use Rattle.susp.specs.declared.buses.Doze.{Doze}
+use Rattle.board_model.specs.declared.refusal.Refusal.{Refusal, TheVariants.NotDozing}
+use Rattle.susp.specs.{Dozes.{can_wake, after_wake}, declared.buses.{Bus.Bus, Doze.Doze}}
 use Rattle.board_session.specs.Wakes.{WakesIf, Wakes, MayWake}
 
 not_true : (b : Bool) → (b ≡ true → ⊥) → false ≡ b

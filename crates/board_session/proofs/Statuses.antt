@@ -1,22 +1,15 @@
 -- No session has the status of a fault of the command line.
 use Rattle.std.proofs.Common.{◌≡◌, ◌≤◌, ℕ, Bool, true, false, List, Option, Result, Ok, Err, IfErr, arith, inl, inr, refl, sym}
-use Rattle.board_files.specs.Faults.{IsFileFault}
+use Rattle.board_files.specs.{Faults.IsFileFault, Files.FileKnown, Folders.LeftAt}
 use Rattle.board_model.specs.declared.refusal.Refusal.{Refusal}
-use Rattle.board_session.specs.declared.given.Options.{Options}
+use Rattle.board_session.specs.{declared.{given.Options.Options, runs.FileLeft.FileLeft}, Ran.told_of, Parses.AreRefused}
 use Rattle.board_session.specs.Operated.{AskForNone, EndsInFile, GiveNoOptions, HasLeft, IsNotBegun, Known, StaysInFile}
-use Rattle.board_session.specs.Ran.{told_of}
-use Rattle.board_session.specs.declared.runs.FileLeft.{FileLeft}
 use Rattle.board_session.specs.declared.runs.FileLeft.TheVariants as lefts
 use Rattle.clap.specs.declared.error.kind.ErrorKind.{ErrorKind}
-use Rattle.command_line.specs.Faults.{first_fault, status_after, without_work}
-use Rattle.command_line.specs.Kinds.{no_work}
-use Rattle.command_line.specs.declared.NoWork.{NoWork}
-use Rattle.command_line.specs.declared.NoWork.TheVariants as whys
+use Rattle.command_line.specs.{Faults.{first_fault, status_after, without_work}, Kinds.no_work, declared.NoWork.NoWork}
 use Rattle.command_line.specs.declared.fault.ProgramFault.{ProgramFault}
+use Rattle.command_line.specs.declared.NoWork.TheVariants as whys
 use Rattle.disk.specs.Facts.{Facts}
-use Rattle.board_files.specs.Files.{FileKnown}
-use Rattle.board_files.specs.Folders.{LeftAt}
-use Rattle.board_session.specs.Parses.{AreRefused}
 use Rattle.simdisk.specs.declared.sim.SimDisk.{SimDisk}
 
 by_file : (done : Result (Unit {0}) ProgramFault) (fault : ProgramFault) → done ≡ Err fault → IsFileFault fault → status_after done ≤ 1

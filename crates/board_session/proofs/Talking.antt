@@ -1,20 +1,15 @@
 -- Lines and answers, one after another.
 use Rattle.std.proofs.Common.{◌≡◌, ◌∙◌, ℕ, zero, suc, Bool, true, false, List, [], ◌∷◌, length, not, ◌==◌, Option, Some, None, Result, Ok, Err, arith, refl, sym, ap, subst, inl, inr}
 use Rattle.std.proofs.lemmas.Bool.Decides.{nat_tests}
-use Rattle.board_model.specs.Durable.{Change, DurableState}
-use Rattle.board_session.specs.declared.lines.LineEnd.{LineEnd}
-use Rattle.board_session.specs.declared.lines.LineEnd.TheVariants as line_ends
-use Rattle.board_session.specs.declared.words.Said.{Said}
-use Rattle.board_session.specs.declared.words.Said.TheVariants as saids
-use Rattle.board_session.specs.declared.reply.Reply.{Reply}
-use Rattle.board_session.specs.declared.talks.Left.{Left}
-use Rattle.board_session.specs.declared.talks.Left.TheVariants as lefts
-use Rattle.board_model.specs.ConsoleCommands.{command_of}
+use Rattle.board_model.specs.{Durable.{Change, DurableState}, ConsoleCommands.command_of, declared.refusal.Refusal.Refusal}
 use Rattle.board_model.specs.declared.console_command.ConsoleCommand.{ConsoleCommand}
-use Rattle.board_model.specs.declared.refusal.Refusal.{Refusal}
+use Rattle.board_session.specs.declared.{lines.LineEnd.LineEnd, words.Said.Said, reply.Reply.Reply, talks.Left.Left}
 use Rattle.board_session.specs.Commands.{HoldsReceipt, IsAnswerTo, Party, command_answer, party_after}
 use Rattle.board_session.specs.Dialogues.{DialogueEnds, Obeyed, Exchanged, HasNone, Leaves, TalksOn, Talks, left_after, left_before, left_before_if, left_behind}
 use Rattle.board_session.specs.Lines.{TakesLine, is_line, line_meaning}
+use Rattle.board_session.specs.declared.lines.LineEnd.TheVariants as line_ends
+use Rattle.board_session.specs.declared.words.Said.TheVariants as saids
+use Rattle.board_session.specs.declared.talks.Left.TheVariants as lefts
 
 module _ (found : DurableState) (issued : List Change) where
   -- so far none of the lines said `quit`, and the input failed in none

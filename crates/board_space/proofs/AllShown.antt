@@ -1,11 +1,8 @@
 -- What all ends among the first rows show.
-use Rattle.std.proofs.Common.{◌≡◌, ⊎_elim, ℕ, ◌+◌, ◌<◌, ◌≤◌, List, Option, Some, None, IfSome, subst, arith}
-use Rattle.std.proofs.lemmas.Bool.{cases_lt}
+use Rattle.std.proofs.{Common.{◌≡◌, ⊎_elim, ℕ, ◌+◌, ◌<◌, ◌≤◌, List, Option, Some, None, IfSome, subst, arith}, lemmas.Bool.cases_lt}
 use Rattle.model_board.specs.Boards.{Board}
-use Rattle.state_space.specs.declared.graph.Graph.{Graph}
-use Rattle.state_space.specs.Graphs.{IsEnd, row_at}
-use Rattle.board_space.specs.Shown.{Shows, IsSame, AllShow}
-use Rattle.board_space.specs.declared.outcomes.Outcome.{Outcome}
+use Rattle.state_space.specs.{declared.graph.Graph.Graph, Graphs.{IsEnd, row_at}}
+use Rattle.board_space.specs.{Shown.{Shows, IsSame, AllShow}, declared.outcomes.Outcome.Outcome}
 
 module _ (from to : ℕ) (stands : List ℕ → Board → Type 0) (graph : Graph) where
   -- a row that is at no end

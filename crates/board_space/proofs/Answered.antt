@@ -1,7 +1,5 @@
 -- What is answered, or refused.
-use Rattle.std.proofs.Common.{◌≡◌, false, IfOk, IfSome, Ok, Err, Option, Some, None}
-use Rattle.std.specs.Prelude.{Result, IfNone}
-use Rattle.std.specs.Option.{is_some}
+use Rattle.std.{proofs.Common.{◌≡◌, false, IfOk, IfSome, Ok, Err, Option, Some, None}, specs.{Prelude.{Result, IfNone}, Option.is_some}}
 
 pub ok_on : {A E : Type 0} (r : Result A E) (P Q : A → Type 0) → ((x : A) → P x → Q x) → IfOk r P → IfOk r Q
 ok_on (Ok x) P Q f p = f x p

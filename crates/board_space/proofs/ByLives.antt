@@ -1,28 +1,17 @@
 -- A search within a number of power-ons that is closed speaks of every order that has no more of them.
-use Rattle.std.proofs.Common.{◌≡◌, ℕ, ◌+◌, ◌<◌, ◌≤◌, Bool, true, false, List, refl, sym, subst, arith}
-use Rattle.std.proofs.lemmas.Bool.{ne_eqb}
-use Rattle.model_board.specs.Boards.{Board, On, Off, Ended}
-use Rattle.model_board.specs.Events.{Event, Turn, Refused, Wake, Cut, PowerOn, Does, IsEnd, GoesOn}
+use Rattle.std.proofs.{Common.{◌≡◌, ℕ, ◌+◌, ◌<◌, ◌≤◌, Bool, true, false, List, refl, sym, subst, arith}, lemmas.Bool.ne_eqb}
+use Rattle.model_board.specs.{Boards.{Board, On, Off, Ended}, Events.{Event, Turn, Refused, Wake, Cut, PowerOn, Does, IsEnd, GoesOn}}
 use Rattle.model_board.specs.Maps.{Map}
 use Rattle.board_model.specs.Shapes.{Size}
-use Rattle.state_space.specs.declared.graph.Graph.{Graph}
-use Rattle.state_space.specs.Counted.{Counted, DoesCounted, LocalCounted, Spends, StandsCounted}
-use Rattle.state_space.specs.Deads.{IsMarked, Reaches}
-use Rattle.state_space.specs.Graphs.{count_of, expanded_of, row_at, IsSearched, IsFound}
-use Rattle.state_space.specs.Orders.{Leads, Only, Chain, IsClosed, Meets, CanEnd}
-use Rattle.state_space.specs.Systems.{Moves}
-use Rattle.state_space.proofs.AllOrders.{all_orders, leads_on, runs_along}
+use Rattle.state_space.specs.{declared.graph.Graph.Graph, Counted.{Counted, DoesCounted, LocalCounted, Spends, StandsCounted}}
+use Rattle.state_space.specs.{Deads.{IsMarked, Reaches}, Graphs.{count_of, expanded_of, row_at, IsSearched, IsFound}, Systems.Moves}
+use Rattle.state_space.{specs.Orders.{Leads, Only, Chain, IsClosed, Meets, CanEnd}, proofs.AllOrders.{all_orders, leads_on, runs_along}}
 use Rattle.state_space.proofs.Spending.{chain_counted, counted_reduction, counted_run}
 use Rattle.state_space.proofs.Tells.{found_covered, kind_reached, closed_by_cover}
-use Rattle.board_space.specs.Few.{IsAway, IsLastBy, RunsLives, is_power_on, is_power_on_number, life_rules}
-use Rattle.board_space.specs.Moving.{Moving}
-use Rattle.board_space.specs.Searches.{StandsLives}
+use Rattle.board_space.specs.{Few.{IsAway, IsLastBy, RunsLives, is_power_on, is_power_on_number, life_rules}, Moving.Moving}
+use Rattle.board_space.{specs.{Searches.StandsLives, declared.bounds.Bound.TheVariants.PowerOns}, proofs.EventNumbers.small}
 use Rattle.board_space.specs.Space.{Asked, IsSmall, Happens, number_of, KeepsEach, IsLocalTurn, Settles, GoesBy, board_rules, start_of}
-use Rattle.board_space.specs.declared.bounds.Bound.TheVariants.{PowerOns}
-use Rattle.board_space.proofs.EventNumbers.{small}
-use Rattle.board_space.proofs.Every.{rules_end}
-use Rattle.board_space.proofs.Reduced.{reduced}
-use Rattle.board_space.proofs.Searching.{life_move}
+use Rattle.board_space.proofs.{Every.rules_end, Reduced.reduced, Searching.life_move}
 
 -- ---- one that is a power-on is one by its number
 pub same_power_on : (e : Event) → IsSmall e → is_power_on_number (number_of e) ≡ is_power_on e

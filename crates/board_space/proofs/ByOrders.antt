@@ -1,31 +1,18 @@
 -- What a search tells of the orders that are asked for, whether or not they are bounded.
 use Rattle.std.proofs.Common.{◌≡◌, ℕ, ◌<◌, ◌≤◌, Bool, List, [], None, refl, sym, subst}
-use Rattle.model_board.specs.Boards.{Board}
-use Rattle.model_board.specs.Events.{Event, Turn, Refused, Wake, Cut, PowerOn, IsEnd, GoesOn}
-use Rattle.model_board.specs.Maps.{Map}
-use Rattle.state_space.specs.declared.graph.Graph.{Graph}
-use Rattle.state_space.specs.Bounded.{Budget, PaysBy}
-use Rattle.state_space.specs.Counted.{Spends, StandsCounted}
-use Rattle.state_space.specs.Deads.{IsMarked, Reaches}
-use Rattle.state_space.specs.Graphs.{count_of, expanded_of, event_of, row_at, IsFound, StepOf}
-use Rattle.state_space.specs.Orders.{Runs, Leads, Only, CanEnd}
-use Rattle.state_space.specs.Switched.{StandsWithin}
-use Rattle.state_space.specs.Systems.{Moves}
-use Rattle.state_space.specs.Ways.{IsWay}
-use Rattle.state_space.proofs.AllOrders.{leads_by}
+use Rattle.model_board.specs.{Boards.Board, Events.{Event, Turn, Refused, Wake, Cut, PowerOn, IsEnd, GoesOn}, Maps.Map}
+use Rattle.state_space.specs.{declared.graph.Graph.Graph, Bounded.{Budget, PaysBy}, Counted.{Spends, StandsCounted}, Switched.StandsWithin}
+use Rattle.state_space.specs.{Deads.{IsMarked, Reaches}, Graphs.{count_of, expanded_of, event_of, row_at, IsFound, StepOf}, Systems.Moves}
+use Rattle.state_space.{specs.{Orders.{Runs, Leads, Only, CanEnd}, Ways.IsWay}, proofs.AllOrders.leads_by}
 use Rattle.state_space.proofs.Tells.{row_reached, stepped, stepped_out, way_moves}
-use Rattle.board_space.specs.Few.{IsLastBy, RunsBy, WaitsAt, few_rules, hart_of_number, is_power_on_number, life_rules}
-use Rattle.board_space.specs.Searches.{StandsBy, IsSearchBy, IsFollowed}
+use Rattle.board_space.specs.{Few.{IsLastBy, RunsBy, WaitsAt, few_rules, hart_of_number, is_power_on_number, life_rules}, Moving.Moving}
+use Rattle.board_space.{specs.{Searches.{StandsBy, IsSearchBy, IsFollowed}, declared.bounds.Bound.Bound}, proofs.EventNumbers.small}
 use Rattle.board_space.specs.Space.{Asked, Happens, number_of, KeepsEach, Settles, GoesBy, board_rules, start_of}
-use Rattle.board_space.specs.declared.bounds.Bound.{Bound}
-use Rattle.board_space.specs.declared.bounds.Bound.TheVariants.{Unbounded, Preemptions, PowerOns}
+use Rattle.board_space.{specs.declared.bounds.Bound.TheVariants.{Unbounded, Preemptions, PowerOns}, proofs.Searching.{inner_run, life_run}}
+use Rattle.board_space.proofs.Stuck.{goes_by, run_leads, no_end}
 use Rattle.board_space.proofs.ByLives as lives
-use Rattle.board_space.proofs.EventNumbers.{small}
 use Rattle.board_space.proofs.Every as every
 use Rattle.board_space.proofs.Few as few
-use Rattle.board_space.specs.Moving.{Moving}
-use Rattle.board_space.proofs.Searching.{inner_run, life_run}
-use Rattle.board_space.proofs.Stuck.{goes_by, run_leads, no_end}
 
 module _ (moving : Moving) (asked : Asked) (map : Map) (stands : List ℕ → Board → Type 0) (graph : Graph) where
   pub ends_by : (bound : Bound) → IsSearchBy asked map bound stands graph → expanded_of graph ≡ count_of graph → asked.size.harts ≤ 8 → (events : List Event) (last : Board) → RunsBy asked bound events last → IsEnd last → IsFound (StandsBy bound stands) graph last

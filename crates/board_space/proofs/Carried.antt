@@ -1,24 +1,15 @@
 -- A row of another space of the same layout stands for what the row stood for from which it was carried over.
 use Rattle.std.proofs.Common.{ℕ, List, [], ◌∷◌, ◌++◌, ◌≡◌, ◌+◌, ◌*◌, ◌/◌, ◌<◌, length, sym, ap, subst, ◌∙◌, inl, inr, arith}
-use Rattle.std.specs.Prelude.{get_or, slice_index, slice_range}
-use Rattle.std.proofs.lemmas.Bool.{cases_lt}
+use Rattle.std.{specs.Prelude.{get_or, slice_index, slice_range}, proofs.lemmas.Bool.cases_lt}
 use Rattle.board_model.specs.Shapes.{Size}
 use Rattle.hart.specs.State.{never_started}
-use Rattle.model_board.specs.Boards.{Board}
-use Rattle.model_board.specs.Maps.{Map}
-use Rattle.state_space.specs.Begins.{begin_of}
-use Rattle.state_space.specs.Numbered.{word_count, words_of}
-use Rattle.state_space.specs.declared.interner.Interner.{Interner}
+use Rattle.model_board.specs.{Boards.Board, Maps.Map}
+use Rattle.state_space.specs.{Begins.begin_of, Numbered.{word_count, words_of}, declared.interner.Interner.Interner}
 use Rattle.state_space.specs.declared.word_pool.WordPool.{WordPool}
-use Rattle.board_space.specs.Carried.{AreSameRecords, AreSameWords}
-use Rattle.board_space.specs.Layouts.{IsOnBase, Laid, base_of, laid_by, size_of, tracked_of, width_of}
-use Rattle.board_space.specs.Ready.{Tracks}
-use Rattle.board_space.specs.Records.{IsAt, Stays}
-use Rattle.board_space.specs.Rows.{Extends, Grows, Hold, Stands}
-use Rattle.board_space.specs.Tracked.{IsTracked, segment, segment_count}
-use Rattle.board_space.specs.declared.board_rows.BoardRows.{BoardRows}
-use Rattle.board_space.specs.declared.row_layout.Layout.{Layout}
-use Rattle.board_space.proofs.Numbers.{added_at, before_at}
+use Rattle.board_space.specs.{Carried.{AreSameRecords, AreSameWords}, Ready.Tracks, Records.{IsAt, Stays}}
+use Rattle.board_space.specs.{Layouts.{IsOnBase, Laid, base_of, laid_by, size_of, tracked_of, width_of}, declared.row_layout.Layout.Layout}
+use Rattle.board_space.specs.{Rows.{Extends, Grows, Hold, Stands}, Tracked.{IsTracked, segment, segment_count}}
+use Rattle.board_space.{specs.declared.board_rows.BoardRows.BoardRows, proofs.Numbers.{added_at, before_at}}
 
 -- ---- one layout
 module _ (a b : WordPool) (words : b.words.items ≡ a.words.items) (ends : b.ends.items ≡ a.ends.items) where

@@ -1,8 +1,7 @@
 -- Local turns one after another, and what they leave of the memory.
 use Rattle.std.proofs.Common.{ℕ, zero, suc, Bool, List, refl, ◌∙◌, subst}
 use Rattle.board_model.specs.Shapes.{Size}
-use Rattle.model_board.specs.Boards.{Board}
-use Rattle.model_board.specs.Maps.{Map, SameOutside}
+use Rattle.model_board.specs.{Boards.Board, Maps.{Map, SameOutside}}
 use Rattle.state_space.specs.Orders.{Chain}
 use Rattle.board_space.specs.Space.{IsSureTurn, SettlesSure}
 

@@ -1,25 +1,14 @@
 -- What is known of a board holds of each for which it stands.
-use Rattle.std.proofs.Common.{◌≡◌, ◌<◌, ℕ, zero, suc, Bool, true, false, List, [], refl, sym, ap, ◌∙◌, subst}
-use Rattle.std.specs.Prelude.{slice_range}
+use Rattle.std.{proofs.Common.{◌≡◌, ◌<◌, ℕ, zero, suc, Bool, true, false, List, [], refl, sym, ap, ◌∙◌, subst}, specs.Prelude.slice_range}
 use Rattle.board_model.specs.Shapes.{Size}
-use Rattle.model_board.specs.Boards.{Board, Life, On, Off, Ended}
-use Rattle.model_board.specs.Events.{Event, Turn, TurnOn, Does}
-use Rattle.model_board.specs.LeftOut.{IsLeftOut, StandsFor, ReadsNone, AreProbed}
-use Rattle.model_board.specs.Maps.{Map, Keeps, Local}
-use Rattle.model_board.specs.Plain.{status_of}
-use Rattle.model_board.specs.declared.powers.Status.TheVariants as statuses
+use Rattle.model_board.specs.{Boards.{Board, Life, On, Off, Ended}, Events.{Event, Turn, TurnOn, Does}, Maps.{Map, Keeps, Local}}
+use Rattle.model_board.specs.{LeftOut.{IsLeftOut, StandsFor, ReadsNone, AreProbed}, Plain.status_of}
 use Rattle.model_board.proofs.Filling.{stands_on, life_for, off_filled, ended_filled}
-use Rattle.state_space.specs.Orders.{Chain}
-use Rattle.state_space.specs.Systems.{Stay, IsExpanded}
-use Rattle.board_space.specs.Covering.{StandsAll}
-use Rattle.board_space.specs.OneBoard.{one_board}
-use Rattle.board_space.specs.Rows.{Stands}
-use Rattle.board_space.specs.Shown.{Shows}
-use Rattle.board_space.specs.declared.outcomes.Outcome.{Outcome}
-use Rattle.board_space.specs.declared.outcomes.Outcome.TheVariants.{Rests, Ends}
+use Rattle.model_board.specs.declared.powers.Status.TheVariants as statuses
+use Rattle.state_space.specs.{Orders.Chain, Systems.{Stay, IsExpanded}}
+use Rattle.board_space.specs.{Covering.StandsAll, OneBoard.one_board, Rows.Stands, Shown.Shows, declared.outcomes.Outcome.Outcome}
+use Rattle.board_space.specs.{declared.{outcomes.Outcome.TheVariants.{Rests, Ends}, board_rows.BoardRows.BoardRows}, Standing.Standing}
 use Rattle.board_space.specs.Space.{Asked, IsFor, IsLocalTurn, IsSureTurn, ReadsKept, Settles, SettlesSure, board_rules, sure_rules}
-use Rattle.board_space.specs.Standing.{Standing}
-use Rattle.board_space.specs.declared.board_rows.BoardRows.{BoardRows}
 
 pub for_self : (leaves : Bool) (b : Board) → IsFor leaves b b
 for_self true b = (0, refl)

@@ -2,37 +2,22 @@
 use Rattle.std.proofs.Common.{ℕ, List, [], Bool, false, Option, Some, None, ⊎_elim, ◌≡◌, ◌+◌, ◌*◌, ◌<◌, ◌≤◌, length, refl, sym, ap, subst, ◌∙◌, arith}
 use Rattle.std.specs.Prelude.{get_or, slice_index, take}
 use Rattle.std.proofs.lemmas.List.{get_or-map, get_or-take, get_or_read, length-take, length-take-le}
-use Rattle.board_model.specs.Shapes.{Size}
-use Rattle.board_model.specs.declared.durable.Reason.{Reason}
-use Rattle.hart.specs.State.{ArchState, reg}
-use Rattle.hart.specs.Csrs.{csr_number, csr_read}
-use Rattle.hart.specs.declared.csr.Csr.{Csr}
+use Rattle.board_model.specs.{Shapes.Size, declared.durable.Reason.Reason}
+use Rattle.hart.{specs.{State.{ArchState, reg}, Csrs.{csr_number, csr_read}, declared.csr.Csr.Csr}, proofs.Decided.{either, listed}}
 use Rattle.hart.specs.declared.csr.Csr.TheVariants.{Sstatus, Sie, Stvec, Sscratch, Sepc, Scause, Stval, Sip, Satp}
-use Rattle.hart.proofs.Decided.{either, listed}
-use Rattle.hsm.specs.Copies.{state_told}
-use Rattle.hsm.specs.States.{stopped}
-use Rattle.hsm.specs.declared.standings.Standing.{Standing}
+use Rattle.hsm.specs.{Copies.state_told, States.stopped, declared.standings.Standing.Standing}
 use Rattle.hsm.specs.declared.standings.Standing.TheVariants as told
 use Rattle.machine.specs.Machine.{Machine, hart_at}
-use Rattle.model_board.specs.Boards.{Board, Life, On, Off, Ended}
-use Rattle.model_board.specs.LeftOut.{LEFT_OUT, StandsFor, Filled, HartFor, LifeFor}
-use Rattle.model_board.specs.Plain.{Sized, board_shown, standing}
-use Rattle.model_board.proofs.Filling.{life_for, off_filled, ended_filled}
-use Rattle.model_board.specs.Rests.{Fits, IsCopy, IsRest, with_rest, table_copied}
-use Rattle.model_board.specs.declared.powers.Power.{Power}
-use Rattle.model_board.specs.declared.powers.Power.TheVariants as powers
-use Rattle.model_board.specs.declared.rests.Rest.{Rest}
+use Rattle.model_board.specs.{Boards.{Board, Life, On, Off, Ended}, LeftOut.{LEFT_OUT, StandsFor, Filled, HartFor, LifeFor}}
+use Rattle.model_board.{specs.Plain.{Sized, board_shown, standing}, proofs.Filling.{life_for, off_filled, ended_filled}}
+use Rattle.model_board.specs.{Rests.{Fits, IsCopy, IsRest, with_rest, table_copied}, declared.{powers.Power.Power, rests.Rest.Rest}}
 use Rattle.model_board.specs.declared.tables.TableCopy.{TableCopy}
+use Rattle.model_board.specs.declared.powers.Power.TheVariants as powers
 use Rattle.ram.specs.Memory.{value}
 use Rattle.sbi_calls.specs.Both.{TableState}
 use Rattle.state_space.specs.Numbered.{words_of}
-use Rattle.board_space.specs.Layouts.{size_of, tracked_of}
-use Rattle.board_space.specs.Records.{IsAt}
-use Rattle.board_space.specs.Rows.{Stands}
-use Rattle.board_space.specs.Tracked.{segment, segment_count}
-use Rattle.board_space.specs.declared.board_rows.BoardRows.{BoardRows}
-use Rattle.board_space.specs.OneBoard.{one_at}
-use Rattle.board_space.proofs.Senders.{one_senders}
+use Rattle.board_space.specs.{Layouts.{size_of, tracked_of}, Records.IsAt, Rows.Stands, Tracked.{segment, segment_count}, OneBoard.one_at}
+use Rattle.board_space.{specs.declared.board_rows.BoardRows.BoardRows, proofs.Senders.one_senders}
 
 -- ---- states
 told_one : (a b : Standing) → state_told a ≡ state_told b → a ≡ b

@@ -1,13 +1,9 @@
 -- Whether a board is at an end, by its power, its doze and the turns of its harts.
-use Rattle.std.proofs.Common.{◌≡◌, ℕ, ◌<◌, Bool, true, false, Option, Some, None, refl, sym, ap, subst}
-use Rattle.std.specs.Option.{is_some}
-use Rattle.board_model.specs.Shapes.{Size}
-use Rattle.board_model.specs.declared.durable.Reason.{Reason}
+use Rattle.std.{proofs.Common.{◌≡◌, ℕ, ◌<◌, Bool, true, false, Option, Some, None, refl, sym, ap, subst}, specs.Option.is_some}
+use Rattle.board_model.specs.{Shapes.Size, declared.durable.Reason.Reason}
 use Rattle.machine.specs.Machine.{Machine}
-use Rattle.model_board.specs.Boards.{Board, Life, Standing, On, Off, Ended, standing_of}
-use Rattle.model_board.specs.Events.{TurnOn, IsEnd}
-use Rattle.model_board.specs.Plain.{status_of, board_shown}
-use Rattle.model_board.specs.declared.powers.Power.{Power}
+use Rattle.model_board.specs.{Boards.{Board, Life, Standing, On, Off, Ended, standing_of}, Events.{TurnOn, IsEnd}}
+use Rattle.model_board.specs.{Plain.{status_of, board_shown}, declared.powers.Power.Power}
 use Rattle.model_board.specs.declared.powers.Power.TheVariants as powers
 use Rattle.model_board.specs.declared.powers.Status.TheVariants as statuses
 

@@ -1,17 +1,11 @@
 -- A search that is closed speaks of every list of events.
 use Rattle.std.proofs.Common.{◌≡◌, ℕ, zero, suc, ◌<◌, Bool, List, [], refl}
-use Rattle.model_board.specs.Boards.{Board}
-use Rattle.model_board.specs.Events.{Event, Turn, IsEnd, GoesOn}
-use Rattle.model_board.specs.Maps.{Map}
-use Rattle.state_space.specs.declared.graph.Graph.{Graph}
-use Rattle.state_space.specs.Orders.{Runs, Leads, Only, Chain, IsClosed, Meets, CanEnd}
-use Rattle.state_space.specs.Systems.{Moves}
-use Rattle.state_space.specs.Graphs.{count_of, expanded_of, row_at, IsSearched, IsFound}
-use Rattle.state_space.specs.Deads.{IsMarked, Reaches}
+use Rattle.model_board.specs.{Boards.Board, Events.{Event, Turn, IsEnd, GoesOn}, Maps.Map}
+use Rattle.state_space.specs.{declared.graph.Graph.Graph, Orders.{Runs, Leads, Only, Chain, IsClosed, Meets, CanEnd}, Systems.Moves}
+use Rattle.state_space.specs.{Graphs.{count_of, expanded_of, row_at, IsSearched, IsFound}, Deads.{IsMarked, Reaches}}
 use Rattle.state_space.proofs.AllOrders.{leads_by, leads_lifted, all_orders, can_end}
 use Rattle.state_space.proofs.Tells.{found_covered, kind_reached, closed_by_cover}
-use Rattle.board_space.specs.Space.{Asked, Happens, number_of, KeepsEach, IsLocalTurn, GoesBy, board_rules, start_of}
-use Rattle.board_space.specs.Moving.{Moving}
+use Rattle.board_space.specs.{Space.{Asked, Happens, number_of, KeepsEach, IsLocalTurn, GoesBy, board_rules, start_of}, Moving.Moving}
 use Rattle.board_space.proofs.Reduced.{reduced}
 
 -- local turns are turns, by which a board goes on

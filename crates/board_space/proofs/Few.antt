@@ -1,26 +1,15 @@
 -- A search within a number of switches that is closed speaks of every order in which few harts are preempted.
 use Rattle.std.proofs.Common.{◌≡◌, ⊎_elim, inl, inr, ℕ, zero, suc, ◌+◌, ◌-◌, ◌<◌, ◌≤◌, Bool, true, false, List, [], ◌∷◌, Option, Some, None, refl, sym, ap, ◌∙◌, subst, arith}
-use Rattle.std.specs.Prelude.{nat_lt, if◌then◌else◌}
-use Rattle.std.proofs.lemmas.Bool.{lt-ltb, le-ltb}
-use Rattle.model_board.specs.Boards.{Board, On, Off, Ended}
+use Rattle.std.{specs.Prelude.{nat_lt, if◌then◌else◌}, proofs.lemmas.Bool.{lt-ltb, le-ltb}}
+use Rattle.model_board.specs.{Boards.{Board, On, Off, Ended}, Maps.{Map, Local}}
 use Rattle.model_board.specs.Events.{Event, Turn, Refused, Wake, Cut, PowerOn, TurnOn, IsEnd, IsOff, GoesOn}
-use Rattle.model_board.specs.Maps.{Map, Local}
-use Rattle.state_space.specs.declared.graph.Graph.{Graph}
+use Rattle.state_space.specs.{declared.graph.Graph.Graph, Deads.{IsMarked, Reaches}, Orders.{Only, Runs, CanEnd}, Systems.Moves}
 use Rattle.state_space.specs.Bounded.{Budget, Turns, Waits, IsFreeBy, PaysBy, Within, Switching, IsClosedWithin, MeetsWithin}
-use Rattle.state_space.specs.Deads.{IsMarked, Reaches}
-use Rattle.state_space.specs.Graphs.{count_of, expanded_of, row_at, IsSearched, IsFound, IsCovered}
-use Rattle.state_space.specs.Orders.{Only, Runs, CanEnd}
-use Rattle.state_space.specs.Switched.{Switched, StandsWithin}
-use Rattle.state_space.specs.Systems.{Moves}
-use Rattle.state_space.proofs.Bounded.{bounded_orders, can_end_within}
-use Rattle.state_space.proofs.Tells.{found_covered, kind_reached}
+use Rattle.state_space.specs.{Graphs.{count_of, expanded_of, row_at, IsSearched, IsFound, IsCovered}, Switched.{Switched, StandsWithin}}
+use Rattle.state_space.proofs.{Bounded.{bounded_orders, can_end_within}, Tells.{found_covered, kind_reached}}
 use Rattle.board_space.specs.Few.{hart_of, hart_of_number, turn_number, MOST_WAITED, WaitsAt, few_rules, begins_with, RunsFew}
-use Rattle.board_space.specs.Searches.{StandsFew}
+use Rattle.board_space.{specs.{Searches.StandsFew, Moving.Moving}, proofs.{EventNumbers.small, Every.rules_end, Reduced.reduced}}
 use Rattle.board_space.specs.Space.{Asked, IsSmall, Happens, Steps, number_of, KeepsEach, IsLocalTurn, GoesBy, board_rules, start_of}
-use Rattle.board_space.proofs.EventNumbers.{small}
-use Rattle.board_space.proofs.Every.{rules_end}
-use Rattle.board_space.specs.Moving.{Moving}
-use Rattle.board_space.proofs.Reduced.{reduced}
 use Rattle.board_space.proofs.Searching.{inner_move}
 
 chosen : {A : Type 0} (t : Bool) (a b : A) → t ≡ true → (if t then a else b) ≡ a

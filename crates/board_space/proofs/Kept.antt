@@ -1,9 +1,6 @@
 -- Words that are told, as segments are made.
 use Rattle.std.proofs.Common.{ℕ, List, [], ◌∷◌, ◌++◌, ◌≡◌, ◌⊎◌, ◌+◌, ◌*◌, ◌<◌, ◌≤◌, length, refl, sym, ap, subst, ◌∙◌, inl, inr, arith, length-append}
-use Rattle.std.specs.Prelude.{slice_index}
-use Rattle.std.proofs.lemmas.Bool.{cases_lt}
-use Rattle.std.proofs.lemmas.List.{get_or_append_left}
-use Rattle.std.proofs.Math.Seq.{get_or-append_seam}
+use Rattle.std.{specs.Prelude.slice_index, proofs.{lemmas.{Bool.cases_lt, List.get_or_append_left}, Math.Seq.get_or-append_seam}}
 use Rattle.state_space.specs.declared.word_pool.WordPool.{WordPool}
 use Rattle.board_space.specs.Tracked.{AreWithin, IsTracked, IsKept, segment, segment_count}
 

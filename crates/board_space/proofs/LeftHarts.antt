@@ -1,22 +1,15 @@
 -- Registers of a hart that are left out one after the other.
 use Rattle.std.proofs.Common.{ℕ, Bool, true, false, None, List, ◌≡◌, ◌<◌, length, refl, sym, ap, ◌∙◌, subst, if◌then◌else◌, arith}
-use Rattle.std.specs.Prelude.{slice_index, slice_set, nat_eq}
-use Rattle.std.proofs.lemmas.Bool.{eqb-true}
-use Rattle.std.proofs.lemmas.List.{set-set, set-get_or, get_or-set_same}
+use Rattle.std.{specs.Prelude.{slice_index, slice_set, nat_eq}, proofs.lemmas.{Bool.eqb-true, List.{set-set, set-get_or, get_or-set_same}}}
 use Rattle.board_model.specs.declared.durable.Reason.{Reason}
 use Rattle.hart.specs.State.{ArchState, put, reg, never_started}
 use Rattle.machine.specs.Machine.{Machine, hart_at}
-use Rattle.model_board.specs.Boards.{Board, Life, On, Off, Ended}
-use Rattle.model_board.specs.Held.{with_hart}
-use Rattle.model_board.specs.LeftOut.{LEFT_OUT, PROBE, IsLeftOut, StandsFor, held_at}
+use Rattle.model_board.specs.{Boards.{Board, Life, On, Off, Ended}, Held.with_hart, Rests.IsRest, declared.rests.Rest.Rest}
+use Rattle.model_board.specs.{LeftOut.{LEFT_OUT, PROBE, IsLeftOut, StandsFor, held_at}, declared.powers.Power.Power}
 use Rattle.model_board.specs.Plain.{Sized, board_shown, status_of, standing, with_machine}
-use Rattle.model_board.specs.Rests.{IsRest}
-use Rattle.model_board.specs.declared.rests.Rest.{Rest}
-use Rattle.model_board.specs.Registers.{with_register, machine_holding, board_holding}
-use Rattle.model_board.specs.declared.powers.Power.{Power}
+use Rattle.model_board.{specs.Registers.{with_register, machine_holding, board_holding}, proofs.Filling.{fills_set, stands_on, stands_one}}
 use Rattle.model_board.specs.declared.powers.Power.TheVariants as powers
 use Rattle.model_board.specs.declared.powers.Status.TheVariants as statuses
-use Rattle.model_board.proofs.Filling.{fills_set, stands_on, stands_one}
 use Rattle.board_space.specs.Leaving.{IsLeft}
 
 pub left_none : (s t : ArchState) → t ≡ s → IsLeft s t

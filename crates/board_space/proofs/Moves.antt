@@ -1,11 +1,7 @@
 -- The successors of a board, event by event.
-use Rattle.std.proofs.Common.{◌≡◌, ⊎_elim, ℕ, Bool, true, false, ◌+◌, ◌<◌, ◌≤◌, List, refl, sym, ◌∙◌, subst, arith}
-use Rattle.std.proofs.lemmas.Bool.{cases_lt}
-use Rattle.model_board.specs.Boards.{Board}
-use Rattle.model_board.specs.Events.{Event, Turn, Refused, Wake, Cut, PowerOn}
-use Rattle.model_board.specs.Maps.{Map, Keeps, TurnKeeps}
-use Rattle.state_space.specs.Successors.{found_count, found_event, found_row}
-use Rattle.state_space.specs.Systems.{Moves, IsExpanded}
+use Rattle.std.proofs.{Common.{◌≡◌, ⊎_elim, ℕ, Bool, true, false, ◌+◌, ◌<◌, ◌≤◌, List, refl, sym, ◌∙◌, subst, arith}, lemmas.Bool.cases_lt}
+use Rattle.model_board.specs.{Boards.Board, Events.{Event, Turn, Refused, Wake, Cut, PowerOn}, Maps.{Map, Keeps, TurnKeeps}}
+use Rattle.state_space.specs.{Successors.{found_count, found_event, found_row}, Systems.{Moves, IsExpanded}}
 use Rattle.state_space.specs.declared.found.Successors.{Successors}
 use Rattle.board_space.specs.Space.{Asked, IsOne, Happens, KeepsEach, KeepsSure, ReadsKept, number_of, SettlesSure, sure_rules}
 use Rattle.board_space.specs.Expanding.{IsTold, IsMove, AreTold, IsTeller, IsPushed}

@@ -1,18 +1,10 @@
 -- Records by their numbers, and rows that grow.
 use Rattle.std.proofs.Common.{ℕ, zero, suc, List, [], ◌∷◌, ◌++◌, ◌≡◌, ◌+◌, ◌<◌, length, sym, ap, subst, ◌∙◌, inl, inr, arith, length-append}
-use Rattle.std.specs.Prelude.{get_or, slice_index}
-use Rattle.std.proofs.lemmas.Bool.{cases_lt}
-use Rattle.std.proofs.lemmas.List.{get_or_append_left}
-use Rattle.std.proofs.Math.Seq.{get_or-append_seam}
+use Rattle.std.{specs.Prelude.{get_or, slice_index}, proofs.{lemmas.{Bool.cases_lt, List.get_or_append_left}, Math.Seq.get_or-append_seam}}
 use Rattle.hart.specs.State.{ArchState, never_started}
-use Rattle.machine.specs.Machine.{stopped_harts}
-use Rattle.machine.proofs.Opening.{long}
-use Rattle.state_space.specs.Numbered.{word_count, words_of}
-use Rattle.state_space.specs.declared.interner.Interner.{Interner}
-use Rattle.board_space.specs.Layouts.{tracked_of}
-use Rattle.board_space.specs.Records.{IsAt, Stays}
-use Rattle.board_space.specs.Rows.{AreHarts, Extends, Grows, Hold}
-use Rattle.board_space.specs.Tracked.{segment}
+use Rattle.machine.{specs.Machine.stopped_harts, proofs.Opening.long}
+use Rattle.state_space.specs.{Numbered.{word_count, words_of}, declared.interner.Interner.Interner}
+use Rattle.board_space.specs.{Layouts.tracked_of, Records.{IsAt, Stays}, Rows.{AreHarts, Extends, Grows, Hold}, Tracked.segment}
 use Rattle.board_space.specs.declared.row_layout.Layout.{Layout}
 
 pub at_same : {T : Type 0} (xs : List T) (n : ℕ) (x y : T) → IsAt xs n x → x ≡ y → IsAt xs n y

@@ -1,27 +1,16 @@
 -- A row is put where another one was.
 use Rattle.std.proofs.Common.{ℕ, List, Bool, ◌≡◌, ◌+◌, ◌*◌, ◌/◌, ◌<◌, ◌≤◌, length, refl, sym, ap, subst, ◌∙◌, inl, inr, arith}
-use Rattle.std.specs.Prelude.{slice_index, slice_set, get_or}
-use Rattle.std.proofs.lemmas.Bool.{cases_lt}
-use Rattle.std.proofs.lemmas.List.{get_or-set_other}
+use Rattle.std.{specs.Prelude.{slice_index, slice_set, get_or}, proofs.lemmas.{Bool.cases_lt, List.get_or-set_other}}
 use Rattle.board_model.specs.declared.durable.Reason.{Reason}
 use Rattle.hart.specs.State.{ArchState, never_started}
 use Rattle.machine.specs.Machine.{Machine}
-use Rattle.model_board.specs.Boards.{Board, Life, On, Off, Ended}
-use Rattle.model_board.specs.Held.{with_hart}
-use Rattle.model_board.specs.Plain.{Sized, board_shown, with_machine}
-use Rattle.model_board.specs.Rests.{IsRest, with_rest}
-use Rattle.model_board.specs.declared.powers.Power.{Power}
+use Rattle.model_board.specs.{Boards.{Board, Life, On, Off, Ended}, Held.with_hart, Plain.{Sized, board_shown, with_machine}}
+use Rattle.model_board.specs.{Rests.{IsRest, with_rest}, declared.{powers.Power.Power, rests.Rest.Rest}}
 use Rattle.model_board.specs.declared.powers.Power.TheVariants as powers
-use Rattle.model_board.specs.declared.rests.Rest.{Rest}
 use Rattle.ram.specs.Memory.{value}
-use Rattle.state_space.specs.Numbered.{words_of}
-use Rattle.state_space.specs.declared.interner.Interner.{Interner}
-use Rattle.board_space.specs.Layouts.{size_of, tracked_of}
-use Rattle.board_space.specs.OneBoard.{one_at}
-use Rattle.board_space.specs.Records.{IsAt}
-use Rattle.board_space.specs.Rows.{AreHarts, AreSegments, Hold, IsShownByParts, Stands}
-use Rattle.board_space.specs.Tracked.{segment, segment_count}
-use Rattle.board_space.specs.declared.board_rows.BoardRows.{BoardRows}
+use Rattle.state_space.specs.{Numbered.words_of, declared.interner.Interner.Interner}
+use Rattle.board_space.specs.{Layouts.{size_of, tracked_of}, OneBoard.one_at, Records.IsAt, Tracked.{segment, segment_count}}
+use Rattle.board_space.specs.{Rows.{AreHarts, AreSegments, Hold, IsShownByParts, Stands}, declared.board_rows.BoardRows.BoardRows}
 use Rattle.board_space.specs.declared.row_layout.Layout.{Layout}
 use Rattle.board_space.proofs.Putting.{ArePut, AreSegmentsPut, harts_none, put_more, segments_none, segments_by}
 

@@ -1,29 +1,17 @@
 -- A board into which a row was put is the row's.
 use Rattle.std.proofs.Common.{ℕ, List, Bool, ◌≡◌, ◌+◌, ◌*◌, ◌/◌, ◌%◌, ◌^◌, ◌<◌, ◌≤◌, length, refl, sym, ap, subst, ◌∙◌, inl, inr, arith}
-use Rattle.std.specs.Prelude.{slice_index, slice_set, get_or}
-use Rattle.std.proofs.lemmas.Bool.{cases_lt, cases_eq}
+use Rattle.std.{specs.Prelude.{slice_index, slice_set, get_or}, proofs.lemmas.Bool.{cases_lt, cases_eq}}
 use Rattle.std.proofs.lemmas.List.{length-set, get_or-set_same, get_or-set_other}
-use Rattle.board_model.specs.Shapes.{Size, ram_bytes_of}
-use Rattle.board_model.specs.declared.durable.Reason.{Reason}
+use Rattle.board_model.specs.{Shapes.{Size, ram_bytes_of}, declared.durable.Reason.Reason}
 use Rattle.hart.specs.State.{ArchState, never_started}
 use Rattle.machine.specs.Machine.{Machine, hart_at}
-use Rattle.model_board.specs.Boards.{Board}
-use Rattle.model_board.specs.Held.{with_hart}
-use Rattle.model_board.specs.Plain.{Sized, sized, with_machine}
-use Rattle.model_board.specs.Rests.{Fits, with_rest, table_copied}
-use Rattle.model_board.specs.declared.powers.Power.{Power}
-use Rattle.model_board.specs.declared.rests.Rest.{Rest}
-use Rattle.ram.specs.Memory.{value, Stored}
-use Rattle.ram.proofs.Keeping.{same_value}
-use Rattle.state_space.specs.Numbered.{words_of}
-use Rattle.state_space.specs.declared.interner.Interner.{Interner}
-use Rattle.board_space.specs.Layouts.{IsBased, IsOnBase, size_of, tracked_of}
-use Rattle.board_space.specs.Tracked.{AreWithin, IsTracked, segment, segment_count}
-use Rattle.board_space.specs.Records.{IsAt}
-use Rattle.board_space.specs.Rows.{AreHarts, AreSegments, Hold, IsShownByParts, Stands}
-use Rattle.board_space.specs.declared.board_rows.BoardRows.{BoardRows}
-use Rattle.board_space.specs.declared.row_layout.Layout.{Layout}
-use Rattle.board_space.specs.OneBoard.{one_at, one_board}
+use Rattle.model_board.specs.{Boards.Board, Held.with_hart, Plain.{Sized, sized, with_machine}, Rests.{Fits, with_rest, table_copied}}
+use Rattle.model_board.specs.declared.{powers.Power.Power, rests.Rest.Rest}
+use Rattle.ram.{specs.Memory.{value, Stored}, proofs.Keeping.same_value}
+use Rattle.state_space.specs.{Numbered.words_of, declared.interner.Interner.Interner}
+use Rattle.board_space.specs.{Layouts.{IsBased, IsOnBase, size_of, tracked_of}, Tracked.{AreWithin, IsTracked, segment, segment_count}}
+use Rattle.board_space.specs.{Records.IsAt, Rows.{AreHarts, AreSegments, Hold, IsShownByParts, Stands}, declared.row_layout.Layout.Layout}
+use Rattle.board_space.specs.{declared.board_rows.BoardRows.BoardRows, OneBoard.{one_at, one_board}}
 
 -- the board is shown by these and its machine
 abbrev pub IsSized : Power → Reason → Bool → Sized → Type 0

@@ -1,14 +1,9 @@
 -- A board stays one on which rows can be put.
 use Rattle.std.proofs.Common.{◌≡◌, ◌≢◌, ◌⊎◌, ⊎_elim, ℕ, ◌*◌, ◌/◌, ◌<◌, List, length, slice_index, sym, ◌∙◌, subst, ap, arith}
 use Rattle.board_model.specs.Shapes.{Size}
-use Rattle.model_board.specs.Boards.{Board}
-use Rattle.model_board.specs.Events.{Event, Does}
-use Rattle.model_board.specs.Maps.{Map, Keeps, SameOutside}
-use Rattle.model_board.specs.Plain.{Sized}
-use Rattle.board_space.specs.Layouts.{IsOnBase, IsBased, size_of, tracked_of, base_of}
-use Rattle.board_space.specs.Ready.{Tracks, LeavesMemory, MasksOf, boot_memory}
-use Rattle.board_space.specs.Tracked.{IsTracked}
-use Rattle.board_space.specs.declared.row_layout.Layout.{Layout}
+use Rattle.model_board.specs.{Boards.Board, Events.{Event, Does}, Maps.{Map, Keeps, SameOutside}, Plain.Sized}
+use Rattle.board_space.specs.{Layouts.{IsOnBase, IsBased, size_of, tracked_of, base_of}, Ready.{Tracks, LeavesMemory, MasksOf, boot_memory}}
+use Rattle.board_space.specs.{Tracked.IsTracked, declared.row_layout.Layout.Layout}
 
 pub on_base : (layout : Layout) (map : Map) (m n : List ℕ) → Tracks layout map → SameOutside map m n → IsOnBase layout m → IsOnBase layout n
 on_base layout map m n tracks outside based = record {

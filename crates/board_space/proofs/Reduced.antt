@@ -1,10 +1,8 @@
 -- The turns of the harts of a board, as `state_space` asks for them.
 use Rattle.std.proofs.Common.{⊎_elim, inl, inr}
-use Rattle.model_board.specs.Events.{Turn, IsEnd}
-use Rattle.model_board.specs.Maps.{Map}
+use Rattle.model_board.specs.{Events.{Turn, IsEnd}, Maps.Map}
 use Rattle.state_space.specs.Orders.{Reduction}
-use Rattle.board_space.specs.Moving.{Moving}
-use Rattle.board_space.specs.Space.{Asked, Happens, KeepsEach, IsLocalTurn}
+use Rattle.board_space.specs.{Moving.Moving, Space.{Asked, Happens, KeepsEach, IsLocalTurn}}
 
 pub reduced : Moving → (asked : Asked) (map : Map) → Reduction (Happens asked) Turn IsEnd (KeepsEach asked map) (IsLocalTurn asked.size map)
 reduced moving asked map = record {

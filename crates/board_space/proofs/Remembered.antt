@@ -1,36 +1,20 @@
 -- What is remembered of numbers is right: rows that stand for the same boards have the same records, where one of the boards is on.
 use Rattle.std.proofs.Common.{ℕ, zero, suc, Bool, true, false, if◌then◌else◌, List, [], ◌∷◌, ◌++◌, ◌≡◌, ⊎_elim, ◌+◌, ◌<◌, ◌≤◌, length, refl, sym, ap, subst, ◌∙◌, inl, inr, arith}
-use Rattle.std.specs.Prelude.{get_or, slice_index, slice_set, nat_eq}
-use Rattle.std.proofs.lemmas.Bool.{cases_lt}
+use Rattle.std.{specs.Prelude.{get_or, slice_index, slice_set, nat_eq}, proofs.lemmas.Bool.cases_lt}
 use Rattle.std.proofs.lemmas.List.{ext_get_or, get_or-set_same, set-get_or, set_past}
 use Rattle.board_model.specs.Shapes.{Size}
 use Rattle.hart.specs.State.{ArchState, reg, never_started}
 use Rattle.machine.specs.Machine.{Machine, hart_at}
-use Rattle.model_board.specs.Boards.{Board, Life, On, Off, Ended}
-use Rattle.model_board.specs.LeftOut.{Filled, HartFor, IsLeftOut, LEFT_OUT, StandsFor}
-use Rattle.model_board.specs.Registers.{board_holding, machine_holding, with_register}
-use Rattle.model_board.proofs.Filling.{life_for, stands_on}
-use Rattle.state_space.specs.Numbered.{word_count, words_of}
-use Rattle.state_space.specs.declared.interner.Interner.{Interner}
-use Rattle.board_space.specs.Carried.{AreFound, AreLearned, AreRightRecords, AreRightWords, AreSameRecords, Has, IsLearned}
-use Rattle.board_space.specs.Covering.{StandsAll}
-use Rattle.board_space.specs.Knowing.{AreAlike, Knows, KnowsFrom}
-use Rattle.board_space.specs.Layouts.{laid_by, size_of, tracked_of}
-use Rattle.board_space.specs.OneBoard.{one_at, one_board}
-use Rattle.board_space.specs.Records.{IsAt, Stays}
-use Rattle.board_space.specs.Rows.{Extends, Grows, Hold, Stands}
-use Rattle.board_space.specs.Settings.{Setting, setting_of}
-use Rattle.board_space.specs.Space.{IsFor}
-use Rattle.board_space.specs.Tracked.{segment, segment_count}
-use Rattle.board_space.specs.declared.board_rows.BoardRows.{BoardRows}
-use Rattle.board_space.specs.declared.carrying.Numbers.{Numbers}
-use Rattle.board_space.specs.declared.carrying.RowMemo.{RowMemo}
-use Rattle.board_space.specs.declared.space.BoardSpace.{BoardSpace}
-use Rattle.board_space.proofs.Carried.{same_count, same_segment}
-use Rattle.board_space.proofs.Covered.{for_self, same_ended, same_off}
-use Rattle.board_space.proofs.Differing.{one_life}
-use Rattle.board_space.proofs.Numbers.{added_at, before_at}
-use Rattle.board_space.proofs.PutOver.{machine_on}
+use Rattle.model_board.specs.{Boards.{Board, Life, On, Off, Ended}, LeftOut.{Filled, HartFor, IsLeftOut, LEFT_OUT, StandsFor}}
+use Rattle.model_board.{specs.Registers.{board_holding, machine_holding, with_register}, proofs.Filling.{life_for, stands_on}}
+use Rattle.state_space.specs.{Numbered.{word_count, words_of}, declared.interner.Interner.Interner}
+use Rattle.board_space.specs.{Carried.{AreFound, AreLearned, AreRightRecords, AreRightWords, AreSameRecords, Has, IsLearned}, Space.IsFor}
+use Rattle.board_space.specs.{Covering.StandsAll, Knowing.{AreAlike, Knows, KnowsFrom}, Layouts.{laid_by, size_of, tracked_of}}
+use Rattle.board_space.specs.{OneBoard.{one_at, one_board}, Records.{IsAt, Stays}, Rows.{Extends, Grows, Hold, Stands}}
+use Rattle.board_space.specs.{Settings.{Setting, setting_of}, Tracked.{segment, segment_count}, declared.board_rows.BoardRows.BoardRows}
+use Rattle.board_space.specs.declared.{carrying.{Numbers.Numbers, RowMemo.RowMemo}, space.BoardSpace.BoardSpace}
+use Rattle.board_space.proofs.{Carried.{same_count, same_segment}, Covered.{for_self, same_ended, same_off}, Differing.one_life}
+use Rattle.board_space.proofs.{Numbers.{added_at, before_at}, PutOver.machine_on}
 
 -- ---- boards that stand for one another are one
 left_by : (z : Bool) (v : ℕ) → (if z then 0 else v) ≡ LEFT_OUT → v ≡ LEFT_OUT

@@ -1,22 +1,12 @@
 -- What all kinds of searches have in common.
 use Rattle.std.proofs.Common.{◌≡◌, ⊎_elim, ℕ, ◌+◌, ◌<◌, Bool, true, false, List, [], ◌∷◌, ◌++◌, length, drop, refl, ap, sym, subst, ◌∙◌, arith}
 use Rattle.std.proofs.lemmas.Bool.{cases_lt}
-use Rattle.model_board.specs.Boards.{Board}
-use Rattle.model_board.specs.Maps.{Map}
-use Rattle.state_space.specs.declared.graph.Graph.{Graph}
-use Rattle.state_space.specs.Deads.{IsMarked}
-use Rattle.state_space.specs.Graphs.{IsSearched}
-use Rattle.state_space.specs.Orders.{Runs}
-use Rattle.state_space.specs.Switched.{Switched, StandsWithin}
-use Rattle.state_space.specs.Systems.{Moves}
-use Rattle.state_space.specs.Counted.{Counted, StandsCounted}
-use Rattle.state_space.proofs.AllOrders.{runs_along}
+use Rattle.model_board.specs.{Boards.Board, Maps.Map}
+use Rattle.state_space.specs.{declared.graph.Graph.Graph, Deads.IsMarked, Graphs.IsSearched, Orders.Runs, Switched.{Switched, StandsWithin}}
+use Rattle.state_space.{specs.{Systems.Moves, Counted.{Counted, StandsCounted}}, proofs.AllOrders.runs_along}
 use Rattle.state_space.proofs.Growth.{earlier_one, last_one}
-use Rattle.board_space.specs.Few.{few_rules, life_rules}
-use Rattle.board_space.specs.Searches.{StandsBy, board_part, IsSearch}
-use Rattle.board_space.specs.Space.{Asked, board_rules}
-use Rattle.board_space.specs.declared.bounds.Bound.{Bound}
-use Rattle.board_space.specs.declared.bounds.Bound.TheVariants.{Unbounded, Preemptions, PowerOns}
+use Rattle.board_space.specs.{Few.{few_rules, life_rules}, Searches.{StandsBy, board_part, IsSearch}, Space.{Asked, board_rules}}
+use Rattle.board_space.specs.declared.bounds.Bound.{Bound, TheVariants.{Unbounded, Preemptions, PowerOns}}
 
 -- ---- of every order
 pub search_all : (asked : Asked) (map : Map) (stands : List ℕ → Board → Type 0) (graph : Graph) → IsSearched (board_rules asked map) stands graph → IsSearch asked map Unbounded stands graph

@@ -1,23 +1,12 @@
 -- What is known of the board of a row, while others are made of it.
-use Rattle.std.proofs.Common.{◌≡◌, ℕ, ◌<◌, Bool, List, None, refl, sym, ap, subst, ◌∙◌}
-use Rattle.std.specs.Prelude.{slice_index}
-use Rattle.board_model.specs.Shapes.{Size}
-use Rattle.board_model.specs.declared.durable.Reason.{Reason}
+use Rattle.std.{proofs.Common.{◌≡◌, ℕ, ◌<◌, Bool, List, None, refl, sym, ap, subst, ◌∙◌}, specs.Prelude.slice_index}
+use Rattle.board_model.specs.{Shapes.Size, declared.durable.Reason.Reason}
 use Rattle.machine.specs.Machine.{Machine}
-use Rattle.model_board.specs.Boards.{Board, Life, On, Off, Ended}
-use Rattle.model_board.specs.Events.{TurnOn, IsEnd}
-use Rattle.model_board.specs.Plain.{board_shown, standing}
-use Rattle.model_board.specs.declared.powers.Power.{Power}
+use Rattle.model_board.specs.{Boards.{Board, Life, On, Off, Ended}, Events.{TurnOn, IsEnd}, Plain.{board_shown, standing}}
+use Rattle.model_board.specs.declared.{powers.Power.Power, rests.Rest.Rest}
 use Rattle.model_board.specs.declared.powers.Power.TheVariants as powers
-use Rattle.model_board.specs.declared.rests.Rest.{Rest}
-use Rattle.board_space.specs.Few.{IsAway}
-use Rattle.board_space.specs.Layouts.{size_of}
-use Rattle.board_space.specs.OneBoard.{one_at, one_board}
-use Rattle.board_space.specs.Records.{IsAt}
-use Rattle.board_space.specs.Rows.{IsAwake, Stands}
-use Rattle.board_space.specs.Space.{IsFor}
-use Rattle.board_space.specs.declared.board_rows.BoardRows.{BoardRows}
-use Rattle.board_space.proofs.Covered.{on_for, same_off, same_ended}
+use Rattle.board_space.specs.{Few.IsAway, Layouts.size_of, OneBoard.{one_at, one_board}, Records.IsAt, Rows.{IsAwake, Stands}, Space.IsFor}
+use Rattle.board_space.{specs.declared.board_rows.BoardRows.BoardRows, proofs.Covered.{on_for, same_off, same_ended}}
 
 -- what holds of the board of a row still holds of it where tables grew
 pub held_on : (old new : BoardRows) (row : List ℕ) (known : Board) (P : Board → Type 0) → Stands old row known → ((r : List ℕ) (b : Board) → Stands old r b → Stands new r b) → ((b : Board) → Stands old row b → P b) → (b : Board) → Stands new row b → P b

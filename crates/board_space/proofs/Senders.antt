@@ -1,12 +1,8 @@
 -- The senders of a hart's pending interrupts, read off a machine's table.
 use Rattle.std.proofs.Common.{ℕ, zero, suc, List, [], Bool, true, false, ◌≡◌, ◌<◌, ◌^◌, length, refl, sym, ap, subst, ◌∙◌, arith}
-use Rattle.std.specs.Prelude.{◌==◌, get_or, take}
-use Rattle.std.specs.Int.{bit_at}
-use Rattle.std.proofs.lemmas.List.{get_or-map, get_or-take}
+use Rattle.std.{specs.{Prelude.{◌==◌, get_or, take}, Int.bit_at}, proofs.lemmas.List.{get_or-map, get_or-take}}
 use Rattle.std.proofs.lemmas.Nat.Bits.{bit_at-lt, same_from_bits_below}
-use Rattle.model_board.specs.Plain.{row_in}
-use Rattle.model_board.specs.Rests.{IsCopy, table_copied}
-use Rattle.model_board.specs.declared.tables.TableCopy.{TableCopy}
+use Rattle.model_board.specs.{Plain.row_in, Rests.{IsCopy, table_copied}, declared.tables.TableCopy.TableCopy}
 use Rattle.sbi_calls.specs.Both.{TableState}
 use Rattle.tallies.proofs.Seatings.{at_all}
 

@@ -2,22 +2,14 @@
 use Rattle.std.proofs.Common.{◌≡◌, ℕ, ◌<◌, ◌≤◌, Bool, true, false, List, Option, Some, None, refl, subst, inl, inr, arith}
 use Rattle.std.specs.Prelude.{Result, Ok, Err}
 use Rattle.board_model.specs.Shapes.{Size}
-use Rattle.sbi_abi.specs.Calls.{call_of}
-use Rattle.sbi_abi.specs.declared.call.Call.{Call}
+use Rattle.sbi_abi.specs.{Calls.call_of, declared.{call.Call.Call, ret.SbiError.SbiError}}
 use Rattle.sbi_abi.specs.declared.call.Call.TheVariants as calls
-use Rattle.sbi_abi.specs.declared.ret.SbiError.{SbiError}
-use Rattle.sbi_calls.specs.declared.words.Turned.{Turned}
-use Rattle.sbi_calls.specs.declared.words.Turned.TheVariants.{Made, Durable}
-use Rattle.susp.specs.Dozes.{can_wake}
-use Rattle.susp.specs.declared.buses.Doze.{Doze}
-use Rattle.susp.specs.declared.sleeps.Sleep.{Sleep}
+use Rattle.sbi_calls.specs.declared.words.Turned.{Turned, TheVariants.{Made, Durable}}
+use Rattle.susp.specs.{Dozes.can_wake, declared.{buses.Doze.Doze, sleeps.Sleep.Sleep}}
 use Rattle.machine.specs.Machine.{Machine, hart_at}
-use Rattle.model_board.specs.Boards.{Board, Life, On, Off, Ended}
+use Rattle.model_board.specs.{Boards.{Board, Life, On, Off, Ended}, Held.{HeldBy, SleptBy}}
 use Rattle.model_board.specs.Events.{Event, Turn, Refused, Wake, Cut, PowerOn, WakeOn, PowersOn, RefusedOn, ToldBy}
-use Rattle.model_board.specs.Held.{HeldBy, SleptBy}
-use Rattle.board_space.specs.Expanding.{AsksNone}
-use Rattle.board_space.specs.Rows.{IsAwake}
-use Rattle.board_space.specs.Space.{Asked, IsOne, Happens, number_of}
+use Rattle.board_space.specs.{Expanding.AsksNone, Rows.IsAwake, Space.{Asked, IsOne, Happens, number_of}}
 use Rattle.board_space.proofs.EventNumbers.{small, same_event}
 
 -- ---- the turn of a hart, by its number

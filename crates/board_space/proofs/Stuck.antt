@@ -1,16 +1,11 @@
 -- Boards that moves lead to are boards that some events lead to; and a set of boards from which no event by which one goes on leads out, none
 -- of which is at an end, comes to none where nothing fails.
 use Rattle.std.proofs.Common.{⊎_elim, ℕ, zero, ◌≤◌, List, refl, sym, subst, inl, inr}
-use Rattle.model_board.specs.Boards.{Board}
-use Rattle.model_board.specs.Events.{Event, Turn, IsEnd, GoesOn}
-use Rattle.model_board.specs.Maps.{Map}
-use Rattle.state_space.specs.Orders.{Runs, Leads, Only, Reduction, IsClosed, CanEnd}
-use Rattle.state_space.specs.Systems.{Moves}
+use Rattle.model_board.specs.{Boards.Board, Events.{Event, Turn, IsEnd, GoesOn}, Maps.Map}
+use Rattle.state_space.specs.{Orders.{Runs, Leads, Only, Reduction, IsClosed, CanEnd}, Systems.Moves}
 use Rattle.state_space.proofs.AllOrders.{leads_on, leads_by, leads_lifted, chain_leads, all_orders}
 use Rattle.board_space.specs.Space.{Asked, IsOne, Happens, number_of, KeepsEach, IsLocalTurn, Settles, GoesBy, board_rules, start_of}
-use Rattle.board_space.proofs.EventNumbers.{small, same_event}
-use Rattle.board_space.specs.Moving.{Moving}
-use Rattle.board_space.proofs.Reduced.{reduced}
+use Rattle.board_space.{proofs.{EventNumbers.{small, same_event}, Reduced.reduced}, specs.Moving.Moving}
 
 -- turns and power-ons alone
 only_goes : (moving : Moving) (asked : Asked) (map : Map) → Reduction (Only GoesOn (Happens asked)) Turn IsEnd (KeepsEach asked map) (IsLocalTurn asked.size map)

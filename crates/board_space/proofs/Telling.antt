@@ -1,26 +1,18 @@
 -- The row that is told of a board stands for it.
 use Rattle.std.proofs.Common.{ℕ, List, [], ◌∷◌, Bool, ◌≡◌, ◌+◌, ◌^◌, ◌<◌, ◌≤◌, length, refl, sym, ap, subst, ◌∙◌, inl, inr, arith}
-use Rattle.std.specs.Prelude.{slice_index, get_or, replicate, take, false, Option, Some, None}
-use Rattle.std.proofs.lemmas.Bool.{cases_lt}
+use Rattle.std.{specs.Prelude.{slice_index, get_or, replicate, take, false, Option, Some, None}, proofs.lemmas.{Bool.cases_lt, Nat.pow_pos}}
 use Rattle.std.proofs.lemmas.List.{get_or-replicate, get_or_past, length-replicate, length-take-le, take-replicate}
-use Rattle.std.proofs.lemmas.Nat.{pow_pos}
 use Rattle.hart.specs.State.{never_started}
 use Rattle.hsm.specs.declared.standings.Standing.TheVariants.{Stopped}
 use Rattle.board_model.specs.declared.durable.Reason.{Reason}
 use Rattle.machine.proofs.Opening.{long, stopped_numbered}
-use Rattle.model_board.specs.Boards.{Board}
-use Rattle.model_board.specs.Plain.{Sized, IsPlain, board_shown}
-use Rattle.model_board.specs.Rests.{Fits, IsCopy, IsRest}
-use Rattle.model_board.specs.declared.powers.Power.{Power}
+use Rattle.model_board.specs.{Boards.Board, Plain.{Sized, IsPlain, board_shown}, Rests.{Fits, IsCopy, IsRest}, declared.powers.Power.Power}
+use Rattle.model_board.specs.declared.{rests.Rest.Rest, tables.TableCopy.TableCopy}
 use Rattle.model_board.specs.declared.powers.Power.TheVariants as powers
-use Rattle.model_board.specs.declared.rests.Rest.{Rest}
-use Rattle.model_board.specs.declared.tables.TableCopy.{TableCopy}
 use Rattle.susp.specs.declared.buses.Doze.{Doze}
-use Rattle.board_space.specs.Layouts.{IsBased, IsOnBase, size_of, base_of, tracked_of, width_of}
-use Rattle.board_space.specs.Records.{IsAt, Stays}
+use Rattle.board_space.specs.{Layouts.{IsBased, IsOnBase, size_of, base_of, tracked_of, width_of}, Records.{IsAt, Stays}}
 use Rattle.board_space.specs.Rows.{AreHarts, AreSegments, Extends, Grows, Hold, Stands, no_tables, seen_rest, seen_harts, seen_memory, seen_by}
-use Rattle.board_space.specs.Tracked.{AreWithin, segment, segment_count}
-use Rattle.board_space.specs.declared.board_rows.BoardRows.{BoardRows}
+use Rattle.board_space.specs.{Tracked.{AreWithin, segment, segment_count}, declared.board_rows.BoardRows.BoardRows}
 use Rattle.board_space.specs.declared.row_layout.Layout.{Layout}
 
 -- what is known of a board and of the row that was told of it

@@ -1,6 +1,5 @@
 -- A segment more.
-use Rattle.std.proofs.Common.{ℕ, ◌≡◌, ◌+◌, ◌<◌, List, length, slice_index, inl, inr, sym, ap, ◌∙◌, subst, arith}
-use Rattle.std.proofs.lemmas.Bool.{cases_lt}
+use Rattle.std.proofs.{Common.{ℕ, ◌≡◌, ◌+◌, ◌<◌, List, length, slice_index, inl, inr, sym, ap, ◌∙◌, subst, arith}, lemmas.Bool.cases_lt}
 use Rattle.state_space.specs.declared.word_pool.WordPool.{WordPool}
 use Rattle.board_space.specs.Tracked.{segment, segment_count, IsTracked, IsKept}
 

@@ -1,12 +1,8 @@
 -- Turns of one hart, one after another, and whether they lead back.
-use Rattle.std.proofs.Common.{◌≡◌, ℕ, zero, suc, ◌+◌, ◌<◌, ◌≤◌, inl, inr, refl, sym, ◌∙◌, subst, arith}
-use Rattle.std.proofs.lemmas.Bool.{cases_lt}
-use Rattle.model_board.specs.Boards.{Board}
-use Rattle.model_board.specs.Events.{Event, Turn, Does, TurnOn}
+use Rattle.std.proofs.{Common.{◌≡◌, ℕ, zero, suc, ◌+◌, ◌<◌, ◌≤◌, inl, inr, refl, sym, ◌∙◌, subst, arith}, lemmas.Bool.cases_lt}
+use Rattle.model_board.specs.{Boards.Board, Events.{Event, Turn, Does, TurnOn}}
 use Rattle.state_space.specs.Bounded.{Turns}
-use Rattle.board_space.specs.Few.{turn_number, WaitsAt}
-use Rattle.board_space.specs.Space.{Asked, IsOne, Steps}
-use Rattle.board_space.proofs.EventNumbers.{small, below, same_event}
+use Rattle.board_space.{specs.{Few.{turn_number, WaitsAt}, Space.{Asked, IsOne, Steps}}, proofs.EventNumbers.{small, below, same_event}}
 use Rattle.board_space.proofs.Few.{turn_below, turn_past}
 
 module _ (asked : Asked) where

@@ -1,8 +1,6 @@
 -- What is read of an input up to a bound.
-use Rattle.std.proofs.Common.{◌≡◌, ◌∙◌, ℕ, List, [], ◌++◌, Option, None, Some, IfSome, take, ap}
-use Rattle.std.specs.Option.{option_map}
-use Rattle.std.specs.Io.Take.{take_inner, take_limit, take_remaining}
-use Rattle.std.specs.declared.io.traits.Take.{Take}
+use Rattle.std.{proofs.Common.{◌≡◌, ◌∙◌, ℕ, List, [], ◌++◌, Option, None, Some, IfSome, take, ap}, specs.Option.option_map}
+use Rattle.std.specs.{Io.Take.{take_inner, take_limit, take_remaining}, declared.io.traits.Take.Take}
 
 read_up_to : (n : ℕ) (known : Option (List ℕ)) (old read : List ℕ) → old ≡ [] → IfSome (option_map (take n) known) (λ more. read ≡ old ++ more) → IfSome known (λ bytes. read ≡ take n bytes)
 read_up_to n None old read o e = e

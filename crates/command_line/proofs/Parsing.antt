@@ -1,8 +1,7 @@
 -- What the parser's own clauses say of a command in which no argument has a rule on another.
 use Rattle.std.proofs.Common.{◌≡◌, ◌&&◌, ℕ, Bool, true, false, List, Result, Ok, Err, IfErr, IfOk, refl}
 use Rattle.clap.specs.Words.{App, FailsBy, HasKind, HasMatchesOf, Kinds, fault_of, found_of, is_simple, is_simple_and_free}
-use Rattle.clap.specs.declared.error.Error.{Error}
-use Rattle.clap.specs.declared.parser.matches.ArgMatches.{ArgMatches}
+use Rattle.clap.specs.declared.{error.Error.Error, parser.matches.ArgMatches.ArgMatches}
 use Rattle.command_line.specs.Parses.{AreParsed}
 
 left : (a b : Bool) → (a && b) ≡ true → a ≡ true

@@ -1,10 +1,7 @@
 -- Chunks of a window, one after another, are the window.
 use Rattle.std.proofs.Common.{◌≡◌, ◌≤◌, ◌<◌, ◌⊎◌, ◌+◌, ◌-◌, ◌*◌, ◌/◌, ◌%◌, ℕ, Bool, true, List, [], ◌∷◌, ◌++◌, length, min, inl, inr, refl, ◌∙◌, ap, subst, arith}
-use Rattle.std.proofs.lemmas.List.{length-append}
-use Rattle.std.proofs.lemmas.Bool.{cases_lt}
-use Rattle.std.proofs.lemmas.Grind.{div_ceil_times}
-use Rattle.crew.specs.Handed.{AreRows, TakesAll, IsChunk, Handed}
-use Rattle.crew.proofs.HandedOn.{taken_both, rows_both}
+use Rattle.std.proofs.lemmas.{List.length-append, Bool.cases_lt, Grind.div_ceil_times}
+use Rattle.crew.{specs.Handed.{AreRows, TakesAll, IsChunk, Handed}, proofs.HandedOn.{taken_both, rows_both}}
 
 pub chunks_cover : (n each : ℕ) → 0 < each → n ≤ (n / each + min 1 (n % each)) * each
 chunks_cover n each some = (div_ceil_times n each some).0

@@ -1,6 +1,5 @@
 -- Rows that are handed on, one more, or one window more.
-use Rattle.std.proofs.Common.{◌≡◌, ◌+◌, ℕ, List, [], ◌∷◌, ◌++◌, length, refl, subst, arith}
-use Rattle.std.proofs.lemmas.List.{length-append}
+use Rattle.std.proofs.{Common.{◌≡◌, ◌+◌, ℕ, List, [], ◌∷◌, ◌++◌, length, refl, subst, arith}, lemmas.List.length-append}
 use Rattle.crew.specs.Handed.{AreRows, TakesAll, Handed}
 
 pub taken_both : {Row S : Type 0} (takes : S → Row → S → Type 0) (s t u : S) (xs ys : List Row) → TakesAll takes s xs t → TakesAll takes t ys u → TakesAll takes s (xs ++ ys) u

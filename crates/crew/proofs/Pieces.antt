@@ -1,11 +1,9 @@
 -- Parts of a list, and a window over two lists, one after the other.
 use Rattle.std.proofs.Common.{◌≡◌, ◌⊎◌, inl, inr, ◌+◌, ◌-◌, min, ◌*◌, ◌/◌, ◌%◌, ◌≤◌, ◌<◌, ◌^◌, ℕ, zero, suc, List, [], ◌∷◌, ◌++◌, Option, None, Some, take, drop, length, refl, sym, ◌∙◌, ap, arith}
 use Rattle.std.proofs.Math.Nat.{mul-div-le, mul-add-div, mul-div_cancel_left, div-le_of_le-mul, div-le_self, div-mul-le_self}
-use Rattle.std.proofs.lemmas.Nat.{mul-le, le-div, div-add-mod', mod_below}
-use Rattle.std.proofs.lemmas.Bool.{cases_lt}
+use Rattle.std.proofs.lemmas.{Nat.{mul-le, le-div, div-add-mod', mod_below}, Bool.cases_lt}
 use Rattle.std.proofs.lemmas.List.{take-append-drop, take-take, take_all, drop_all, drop-take, length-drop}
-use Rattle.crew.specs.Parts.{window, piece, own_of, begin_of, end_of, joined}
-use Rattle.crew.specs.declared.part.Part.{Part}
+use Rattle.crew.specs.{Parts.{window, piece, own_of, begin_of, end_of, joined}, declared.part.Part.Part}
 
 -- ---- a number of things
 pub scaled_is : (k n of : ℕ) → 0 < of → k * (n / of) + k * (n % of) / of ≡ k * n / of

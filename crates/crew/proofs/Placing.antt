@@ -1,8 +1,6 @@
 -- One element of a list is replaced, or some are put at its end.
 use Rattle.std.proofs.Common.{◌≡◌, ◌<◌, inl, inr, ℕ, Bool, true, false, if◌then◌else◌, List, [], ◌∷◌, ◌++◌, All, length, slice_index_or, slice_set, sym, subst}
-use Rattle.std.proofs.lemmas.Bool.{cases_eq}
-use Rattle.std.proofs.lemmas.List.{get_or-set_same, get_or-set_other}
-use Rattle.std.proofs.lemmas.List.Elements.{All-same, All-push, All-append}
+use Rattle.std.proofs.lemmas.{Bool.cases_eq, List.{get_or-set_same, get_or-set_other, Elements.{All-same, All-push, All-append}}}
 
 -- what held of each at its place holds still
 pub set_each : {X : Type 0} (P : ℕ → X → Type 0) (xs : List X) (at : ℕ) (x : X) → at < length xs → P at x → ((i : ℕ) (d : X) → i < length xs → P i (slice_index_or xs i d)) → (i : ℕ) (d : X) → i < length xs → P i (slice_index_or (slice_set xs at x) i d)

@@ -1,8 +1,6 @@
 -- The slots of a window: none has a row yet, or some have what was made for them.
 use Rattle.std.proofs.Common.{◌≡◌, ◌∙◌, ◌+◌, ◌<◌, ℕ, List, Option, None, Result, Vec, All, length, slice_index_or, ap, subst, sym}
-use Rattle.std.specs.Vec.{with_items}
-use Rattle.std.proofs.lemmas.List.{with_items_is}
-use Rattle.std.specs.declared.alloc.AllocError.{AllocError}
+use Rattle.std.{specs.{Vec.with_items, declared.alloc.AllocError.AllocError}, proofs.lemmas.List.with_items_is}
 use Rattle.crew.specs.Handed.{MayBeMade}
 
 -- the slots are lent, and are what they have become

@@ -1,29 +1,18 @@
 -- Running back ends at the last halt.
 use Rattle.std.proofs.Common.{◌≡◌, ◌<◌, ◌+◌, ℕ, Bool, true, false, List, [], ◌∷◌, ◌++◌, Option, Some, None, length, take, get_or, refl, sym, ap, ◌∙◌, subst, append_assoc}
-use Rattle.std.specs.Prelude.{All, IfSome, replicate}
-use Rattle.std.proofs.lemmas.Grind.{flat_map-append}
+use Rattle.std.{specs.Prelude.{All, IfSome, replicate}, proofs.lemmas.{Grind.flat_map-append, List.Elements.{All-head, All-tail}}}
 use Rattle.std.proofs.lemmas.List.{append-nil, replicate-append-replicate, take_more}
-use Rattle.std.proofs.lemmas.List.Elements.{All-head, All-tail}
 use Rattle.board_model.specs.Shapes.{Size}
 use Rattle.script_lang.specs.declared.line.Line.{Line}
 use Rattle.script_lang.specs.declared.line.Line.TheVariants as lines
-use Rattle.debug_session.specs.Pasts.{moments, singles, some_turns}
-use Rattle.report_lines.specs.declared.printed.Answer.{Answer}
-use Rattle.bench_report.specs.Bench.{Bench, bench_with}
-use Rattle.bench_report.specs.Steps.{Run}
-use Rattle.debug_session.specs.Notes.{Leaves}
-use Rattle.debug_session.specs.Ats.{IsPlace}
-use Rattle.debug_session.specs.declared.timeline.Timeline.{Timeline}
-use Rattle.debug_session.proofs.Histories.{left_moments, place_at, place_before}
+use Rattle.debug_session.specs.{Pasts.{moments, singles, some_turns}, Notes.Leaves, Ats.IsPlace, declared.timeline.Timeline.Timeline}
+use Rattle.debug_session.{proofs.Histories.{left_moments, place_at, place_before}, specs.Firsts.{Touches, is_at_point, one_turn}}
 use Rattle.debug_session.specs.Backs.{BackTo, EndsAt, FoundIn, FoundOf, IsEnd, IsRowPast, IsSeen, IsWhyBack, MayMove, PassBack, before_place, halt_back, later_place, later_turn}
-use Rattle.debug_session.specs.Firsts.{Touches, is_at_point, one_turn}
-use Rattle.debug_session.specs.Steps.{MakesNone}
-use Rattle.debug_session.specs.declared.back.TurnPlace.{TurnPlace}
-use Rattle.debug_session.specs.declared.halts.HaltReason.{HaltReason}
+use Rattle.debug_session.specs.{Steps.MakesNone, declared.{back.TurnPlace.TurnPlace, halts.{HaltReason.HaltReason, Stop.Stop}}}
+use Rattle.debug_session.specs.declared.stops.{Stops.Stops, Watchpoint.Watchpoint}
+use Rattle.report_lines.specs.declared.printed.Answer.{Answer}
+use Rattle.bench_report.specs.{Bench.{Bench, bench_with}, Steps.Run}
 use Rattle.debug_session.specs.declared.halts.HaltReason.TheVariants as halts
-use Rattle.debug_session.specs.declared.halts.Stop.{Stop}
-use Rattle.debug_session.specs.declared.stops.Stops.{Stops}
-use Rattle.debug_session.specs.declared.stops.Watchpoint.{Watchpoint}
 
 -- a run, and then another
 run_append : (size : Size) (xs ys : List Line) (answers : List Answer) (a b c : Bench) → Run size a xs answers b → Leaves size b ys c → Leaves size a (xs ++ ys) c

@@ -1,37 +1,22 @@
 -- Running forward ends at the first halt.
 use Rattle.std.proofs.Common.{Result, Ok, Err, ◌≡◌, ◌<◌, ◌==◌, take, get_or, length, ◌+◌, ◌-◌, ℕ, zero, suc, Bool, true, false, List, [], ◌∷◌, ◌++◌, Option, Some, None, refl, sym, ap, ap₂, ◌∙◌, subst, append_assoc, arith}
-use Rattle.std.specs.Option.{is_some}
-use Rattle.std.specs.Prelude.{IfOk, ◌&&◌, bytes_eq, map, replicate, if◌then◌else◌}
-use Rattle.std.proofs.lemmas.Slice.Eq.{bytes_eq-Decides}
-use Rattle.std.proofs.lemmas.List.{append-nil, map-append, replicate-append-replicate, take_more}
+use Rattle.std.specs.{Option.is_some, Prelude.{IfOk, ◌&&◌, bytes_eq, map, replicate, if◌then◌else◌}}
+use Rattle.std.proofs.lemmas.{Slice.Eq.bytes_eq-Decides, List.{append-nil, map-append, replicate-append-replicate, take_more}}
 use Rattle.board_model.specs.Shapes.{Size}
 use Rattle.machine.specs.Machine.{Machine}
-use Rattle.sbi.specs.Words.{ends}
-use Rattle.sbi.specs.declared.words.Word.{Word}
+use Rattle.sbi.specs.{Words.ends, declared.words.Word.Word}
 use Rattle.sbi.specs.declared.words.Word.TheVariants as words
 use Rattle.sbi_calls.specs.declared.words.Did.TheVariants as dids
 use Rattle.script_lang.specs.declared.line.Line.{Line}
 use Rattle.script_lang.specs.declared.line.Line.TheVariants as lines
-use Rattle.debug_session.specs.Pasts.{moments}
-use Rattle.bench_report.specs.Bench.{Bench}
-use Rattle.bench_report.specs.declared.rows.TurnRow.{TurnRow}
-use Rattle.bench_report.specs.declared.rows.TurnRow.TheVariants as rows
-use Rattle.bench_report.specs.Rows.{IsWithin, RowMoves, last_of, made_in}
-use Rattle.debug_session.specs.declared.timeline.Timeline.{Timeline}
-use Rattle.debug_session.specs.Ats.{IsLeft}
-use Rattle.debug_session.specs.Lives.{machine_of, pc_in, stands_in}
-use Rattle.debug_session.specs.Passes.{GoesTo, Passes, machine_left}
-use Rattle.debug_session.specs.Loads.{LoadsNext}
-use Rattle.debug_session.specs.declared.loads.Load.{Load}
-use Rattle.debug_session.proofs.Passed.{shown_machine}
-use Rattle.debug_session.proofs.Unread.{reads_next}
-use Rattle.debug_session.specs.declared.halts.HaltReason.{HaltReason}
-use Rattle.debug_session.specs.declared.halts.HaltReason.TheVariants as halts
-use Rattle.debug_session.specs.declared.stops.Stops.{Stops}
-use Rattle.debug_session.specs.declared.stops.Watchpoint.{Watchpoint}
-use Rattle.debug_session.specs.Steps.{halt_step}
-use Rattle.debug_session.specs.Withins.{halt_within}
+use Rattle.debug_session.specs.{Pasts.moments, declared.timeline.Timeline.Timeline, Ats.IsLeft, Lives.{machine_of, pc_in, stands_in}}
+use Rattle.debug_session.specs.{Passes.{GoesTo, Passes, machine_left}, Loads.LoadsNext, declared.{loads.Load.Load, stops.Stops.Stops}}
+use Rattle.debug_session.{proofs.{Passed.shown_machine, Unread.reads_next}, specs.{declared.halts.HaltReason.HaltReason, Steps.halt_step}}
+use Rattle.debug_session.specs.{declared.stops.Watchpoint.Watchpoint, Withins.halt_within}
 use Rattle.debug_session.specs.Firsts.{KeepsWatched, PassAll, RanBy, RanTo, ReadsAs, Stretched, ToHalt, Touches, halt_after, halt_seen, halts_all, is_at_point, is_kept, is_of_turn, is_quiet, is_unread, minds_changes, one_turn, seen_all, seen_by, TellsTouched, touched_in, touched_since}
+use Rattle.bench_report.specs.{Bench.Bench, declared.rows.TurnRow.TurnRow, Rows.{IsWithin, RowMoves, last_of, made_in}}
+use Rattle.bench_report.specs.declared.rows.TurnRow.TheVariants as rows
+use Rattle.debug_session.specs.declared.halts.HaltReason.TheVariants as halts
 
 pub ok_more : {A E : Type 0} (r : Result A E) (P Q : A → Type 0) → ((x : A) → P x → Q x) → IfOk r P → IfOk r Q
 ok_more (Ok x) P Q more h = more x h

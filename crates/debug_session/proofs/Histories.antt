@@ -1,17 +1,12 @@
 -- Histories that are cut.
 use Rattle.std.proofs.Common.{◌≡◌, ◌≤◌, ◌<◌, ◌+◌, ◌-◌, ℕ, zero, suc, List, [], ◌∷◌, ◌++◌, length, take, drop, get_or, refl, sym, ap, ◌∙◌, subst, arith, append_assoc}
-use Rattle.std.specs.Prelude.{All, replicate}
-use Rattle.std.proofs.Math.Seq.{drop-cons}
-use Rattle.std.proofs.lemmas.Grind.{flat_map-append}
+use Rattle.std.{specs.Prelude.{All, replicate}, proofs.{Math.Seq.drop-cons, lemmas.Grind.flat_map-append}}
 use Rattle.std.proofs.lemmas.List.{append-nil, replicate-append-replicate, take-append-drop}
 use Rattle.std.proofs.lemmas.List.Elements.{All-append, All-cons, All-get_or, All-head, All-nil, All-tail, All-take}
 use Rattle.board_model.specs.Shapes.{Size}
-use Rattle.script_lang.specs.Lines.{IsLineInRange}
-use Rattle.script_lang.specs.declared.line.Line.{Line}
+use Rattle.script_lang.specs.{Lines.IsLineInRange, declared.line.Line.Line}
 use Rattle.script_lang.specs.declared.line.Line.TheVariants as lines
-use Rattle.debug_session.specs.Pasts.{IsRowCut, moments, singles, some_turns}
-use Rattle.debug_session.specs.Notes.{AreInRange}
-use Rattle.debug_session.specs.Ats.{IsBefore, IsPlace}
+use Rattle.debug_session.specs.{Pasts.{IsRowCut, moments, singles, some_turns}, Notes.AreInRange, Ats.{IsBefore, IsPlace}}
 
 All-back : (P : Line → Type 0) (xs ys : List Line) → All P (xs ++ ys) → All P ys
 All-back P [] ys all = all

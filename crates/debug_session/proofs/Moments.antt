@@ -1,8 +1,6 @@
 -- Turns that are added to a history.
-use Rattle.std.proofs.Common.{◌≡◌, ◌∙◌, inl, inr, Bool, ℕ, ◌+◌, List, [], ◌∷◌, ◌++◌, sym, ap, append_assoc}
-use Rattle.std.specs.Prelude.{replicate}
-use Rattle.std.proofs.lemmas.Grind.{flat_map-append}
-use Rattle.std.proofs.lemmas.List.{append-nil, replicate-append-replicate}
+use Rattle.std.{proofs.Common.{◌≡◌, ◌∙◌, inl, inr, Bool, ℕ, ◌+◌, List, [], ◌∷◌, ◌++◌, sym, ap, append_assoc}, specs.Prelude.replicate}
+use Rattle.std.proofs.lemmas.{Grind.flat_map-append, List.{append-nil, replicate-append-replicate}}
 use Rattle.script_lang.specs.declared.line.Line.{Line}
 use Rattle.script_lang.specs.declared.line.Line.TheVariants as lines
 use Rattle.debug_session.specs.Pasts.{IsAdded, moments, singles}

@@ -2,9 +2,8 @@
 use Rattle.std.proofs.Common.{◌≡◌, ◌<◌, ◌≤◌, ◌+◌, ◌^◌, inl, inr, ◌∙◌, ℕ, Bool, true, false, not, true≢false, List, Option, None, refl, sym, ap, subst, arith}
 use Rattle.sbi.specs.Words.{ends}
 use Rattle.machine.specs.Machine.{Machine}
-use Rattle.bench_report.specs.declared.rows.TurnRow.{TurnRow}
+use Rattle.bench_report.specs.{declared.rows.TurnRow.TurnRow, Rows.{IsOpenRow, IsWithin, goes_on, is_idle_row, made_in, row_then}}
 use Rattle.bench_report.specs.declared.rows.TurnRow.TheVariants as rows
-use Rattle.bench_report.specs.Rows.{IsOpenRow, IsWithin, goes_on, is_idle_row, made_in, row_then}
 use Rattle.debug_session.specs.Lives.{HasHalted, pc_in, stands_in}
 use Rattle.debug_session.specs.declared.to_points.Next.TheVariants as nexts
 

@@ -1,25 +1,17 @@
 -- Turns that are noted in a history.
 use Rattle.std.proofs.Common.{◌≡◌, ◌≤◌, ◌<◌, ◌+◌, inl, inr, ℕ, Bool, true, false, not, List, [], ◌∷◌, ◌++◌, refl, sym, ap, ◌∙◌, subst, arith}
-use Rattle.std.specs.Prelude.{All}
-use Rattle.std.proofs.lemmas.List.Elements.{All-push, All-nil, All-cons, All-head, All-tail}
+use Rattle.std.{specs.Prelude.All, proofs.lemmas.List.Elements.{All-push, All-nil, All-cons, All-head, All-tail}}
 use Rattle.board_model.specs.Shapes.{Size}
-use Rattle.sbi.specs.Words.{ends}
-use Rattle.sbi.specs.declared.words.Word.{Word}
-use Rattle.script_lang.specs.Lines.{IsLineInRange}
-use Rattle.script_lang.specs.declared.line.Line.{Line}
+use Rattle.sbi.specs.{Words.ends, declared.words.Word.Word}
+use Rattle.script_lang.specs.{Lines.IsLineInRange, declared.line.Line.Line}
 use Rattle.script_lang.specs.declared.line.Line.TheVariants as lines
 use Rattle.simdisk.specs.declared.fill.Fill.{Fill}
-use Rattle.debug_session.specs.Pasts.{IsAdded}
+use Rattle.debug_session.specs.{Pasts.IsAdded, Notes.{AreInRange, Joins, Leaves}}
 use Rattle.report_lines.specs.declared.printed.Answer.{Answer}
-use Rattle.bench_report.specs.Bench.{Bench}
-use Rattle.bench_report.specs.Steps.{Moves}
-use Rattle.bench_report.specs.Agree.{fills_after}
-use Rattle.bench_report.proofs.RunLines.{fills_snoc, run_snoc}
-use Rattle.bench_report.specs.declared.rows.TurnRow.{TurnRow}
-use Rattle.bench_report.specs.declared.rows.TurnRow.TheVariants as rows
-use Rattle.bench_report.specs.Rows.{RowMoves, made_in, goes_on, is_off, IsWithin}
-use Rattle.debug_session.specs.Notes.{AreInRange, Joins, Leaves}
+use Rattle.bench_report.{specs.{Bench.Bench, Steps.Moves, Agree.fills_after}, proofs.RunLines.{fills_snoc, run_snoc}}
+use Rattle.bench_report.specs.{declared.rows.TurnRow.TurnRow, Rows.{RowMoves, made_in, goes_on, is_off, IsWithin}}
 use Rattle.bench_report.proofs.Joins.{went_then, lost_then}
+use Rattle.bench_report.specs.declared.rows.TurnRow.TheVariants as rows
 
 -- ---- one line more at the end of a list
 pub snoc_same : {A : Type 0} (xs ys : List A) (a b : A) → xs ++ a ∷ [] ≡ ys ++ b ∷ [] → (xs ≡ ys) × (a ≡ b)

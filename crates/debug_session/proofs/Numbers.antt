@@ -1,7 +1,6 @@
 -- Numbers, a digit at a time.
 use Rattle.std.proofs.Common.{◌≡◌, ◌∙◌, ℕ, ◌<◌, suc, List, [], ◌∷◌, Some, None, drop, length, get_or, refl, ap, drop-cons}
-use Rattle.debug_session.specs.Packets.{value_of}
-use Rattle.debug_session.specs.Fields.{with_digits, shifted}
+use Rattle.debug_session.specs.{Packets.value_of, Fields.{with_digits, shifted}}
 
 -- what is no number is none with more digits
 pub nothing_after : (word : List ℕ) → with_digits None word ≡ None

@@ -3,11 +3,8 @@ use Rattle.std.proofs.Common.{◌≡◌, ℕ, Bool, true, false, List, length, n
 use Rattle.std.specs.Bool.{MatchBool}
 use Rattle.hart.specs.Means.{word_at}
 use Rattle.machine.specs.Machine.{Machine, hart_at}
-use Rattle.rv_decode.proofs.Unique.{unique}
-use Rattle.rv_decode.specs.Spells.{Reads}
-use Rattle.rv_decode.specs.declared.instr.Instr.{Instr}
-use Rattle.debug_session.specs.Loads.{Fetches, LoadsAt, LoadsNext, is_stepping, is_there, load_in, made_load}
-use Rattle.debug_session.specs.declared.loads.Load.{Load}
+use Rattle.rv_decode.{proofs.Unique.unique, specs.{Spells.Reads, declared.instr.Instr.Instr}}
+use Rattle.debug_session.specs.{Loads.{Fetches, LoadsAt, LoadsNext, is_stepping, is_there, load_in, made_load}, declared.loads.Load.Load}
 
 both : (A : Type 0) (t : Bool) (P : Option A → Type 0) (a b : Option A) → ((x y : Option A) → P x → P y → x ≡ y) → MatchBool t (P a) (a ≡ None) → MatchBool t (P b) (b ≡ None) → a ≡ b
 both A true P a b same one two = same a b one two

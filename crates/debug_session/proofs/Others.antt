@@ -1,10 +1,7 @@
 -- The first watchpoint that a turn touched, as the code finds it.
-use Rattle.std.proofs.Common.{◌≡◌, ℕ, Bool, true, false, List, [], ◌∷◌, Option, Some, None, refl, ap, ◌∙◌}
-use Rattle.std.specs.Prelude.{if◌then◌else◌}
+use Rattle.std.{proofs.Common.{◌≡◌, ℕ, Bool, true, false, List, [], ◌∷◌, Option, Some, None, refl, ap, ◌∙◌}, specs.Prelude.if◌then◌else◌}
 use Rattle.machine.specs.Machine.{Machine}
-use Rattle.debug_session.specs.declared.stops.Watchpoint.{Watchpoint}
-use Rattle.debug_session.specs.Firsts.{is_quiet, seen_by, touched_since}
-use Rattle.debug_session.specs.declared.loads.Load.{Load}
+use Rattle.debug_session.specs.{declared.{stops.Watchpoint.Watchpoint, loads.Load.Load}, Firsts.{is_quiet, seen_by, touched_since}}
 use Rattle.debug_session.specs.Others.{first_other, or_later, other_of}
 
 either : (quiet : Bool) (w : Watchpoint) (later : Option Watchpoint) → or_later (if quiet then None else Some w) later ≡ (if quiet then later else Some w)

@@ -1,28 +1,18 @@
 -- Turns that are made one by one.
 use Rattle.std.proofs.Common.{◌≡◌, ◌≤◌, ◌+◌, ◌-◌, inl, inr, ◌∙◌, ℕ, suc, Bool, false, nat_lt, length, List, Option, None, Some, refl, sym, ap, subst, arith}
-use Rattle.std.specs.Prelude.{if◌then◌else◌}
-use Rattle.std.proofs.lemmas.Bool.Decides.{nat_tests}
-use Rattle.board_model.specs.Shapes.{Size}
-use Rattle.board_model.specs.Kept.{Kept}
-use Rattle.machine.specs.Machine.{Machine, hart_at}
-use Rattle.machine.specs.Shows.{HasHart}
+use Rattle.std.{specs.Prelude.if◌then◌else◌, proofs.lemmas.Bool.Decides.nat_tests}
+use Rattle.board_model.specs.{Shapes.Size, Kept.Kept}
+use Rattle.machine.specs.{Machine.{Machine, hart_at}, Shows.HasHart}
 use Rattle.script_lang.specs.declared.line.Line.TheVariants as lines
 use Rattle.machine.specs.declared.line.MachineLine.TheVariants as shown
 use Rattle.report_lines.specs.declared.printed.Printed.TheVariants as printed
 use Rattle.report_lines.specs.declared.printed.Answer.{Answer}
-use Rattle.bench_report.specs.Steps.{Moves, TurnStep}
-use Rattle.bench_report.specs.Agree.{BoardIs, IsBench}
-use Rattle.bench_report.specs.Bench.{Bench, BenchLife, DiskState}
-use Rattle.bench_report.specs.Views.{SimBoard}
-use Rattle.bench_report.specs.declared.power.Power.{Power}
-use Rattle.bench_report.specs.declared.power.Power.TheVariants.{Off, On}
-use Rattle.bench_report.specs.declared.rows.TurnRow.{TurnRow}
-use Rattle.bench_report.specs.declared.rows.TurnRow.TheVariants as rows
+use Rattle.bench_report.specs.{Steps.{Moves, TurnStep}, Agree.{BoardIs, IsBench}, Bench.{Bench, BenchLife, DiskState}, Views.SimBoard}
+use Rattle.bench_report.specs.declared.{power.Power.{Power, TheVariants.{Off, On}}, rows.TurnRow.TurnRow, live.LiveBench.LiveBench}
 use Rattle.bench_report.specs.Rows.{IsOpenRow, IsWithin, RowMoves, RowsJoin, is_off, made_in, row_answer, row_then}
-use Rattle.bench_report.specs.declared.live.LiveBench.{LiveBench}
+use Rattle.bench_report.specs.declared.rows.TurnRow.TheVariants as rows
 use Rattle.bench_report.specs.Lives as live
-use Rattle.debug_session.specs.Lives.{machine_on, pc_in, stands_in}
-use Rattle.debug_session.specs.Passes.{GoesTo, Passes, machine_left}
+use Rattle.debug_session.specs.{Lives.{machine_on, pc_in, stands_in}, Passes.{GoesTo, Passes, machine_left}}
 
 -- ---- the machine that a bench shows
 on_machine : (size : Size) (disk_state : DiskState) (kept : Kept) (p : Option BenchLife) (board : SimBoard) → BoardIs size disk_state kept p board → machine_on (On board) ≡ machine_left p

@@ -4,12 +4,9 @@ use Rattle.board_model.specs.Shapes.{Size}
 use Rattle.machine.specs.declared.line.MachineLine.TheVariants as shown
 use Rattle.script_lang.specs.declared.line.Line.TheVariants as lines
 use Rattle.machine.specs.Machine.{Machine}
-use Rattle.bench_report.specs.Bench.{Bench}
-use Rattle.bench_report.specs.Happens.{shows}
-use Rattle.bench_report.specs.Steps.{Moves}
-use Rattle.bench_report.specs.declared.rows.TurnRow.{TurnRow}
-use Rattle.bench_report.specs.declared.rows.TurnRow.TheVariants as rows
+use Rattle.bench_report.specs.{Bench.Bench, Happens.shows, Steps.Moves, declared.rows.TurnRow.TurnRow}
 use Rattle.bench_report.specs.Rows.{IdleTurnStays, IsWithin, RowMoves, goes_on, is_idle_row, row_then}
+use Rattle.bench_report.specs.declared.rows.TurnRow.TheVariants as rows
 use Rattle.debug_session.specs.Lives.{HasHalted, Rests, pc_in, stands_in}
 
 -- an idle turn left the bench as it was

@@ -1,13 +1,10 @@
 -- Lines that make no turns, and lines noted one after another.
-use Rattle.std.proofs.Common.{◌≡◌, ◌<◌, ◌+◌, ℕ, List, [], ◌∷◌, ◌++◌, length, take, get_or, refl, sym, subst}
-use Rattle.std.specs.Prelude.{All}
-use Rattle.std.proofs.lemmas.List.{take_more}
-use Rattle.std.proofs.lemmas.List.Elements.{All-append, All-cons, All-nil}
+use Rattle.std.{proofs.Common.{◌≡◌, ◌<◌, ◌+◌, ℕ, List, [], ◌∷◌, ◌++◌, length, take, get_or, refl, sym, subst}, specs.Prelude.All}
+use Rattle.std.proofs.lemmas.List.{take_more, Elements.{All-append, All-cons, All-nil}}
 use Rattle.script_lang.specs.declared.line.Line.{Line}
 use Rattle.script_lang.specs.declared.line.Line.TheVariants as lines
 use Rattle.report_lines.specs.declared.printed.Answer.{Answer}
-use Rattle.debug_session.specs.Ats.{IsNoted}
-use Rattle.debug_session.specs.Steps.{AreNoted, MakesNone}
+use Rattle.debug_session.specs.{Ats.IsNoted, Steps.{AreNoted, MakesNone}}
 
 pub makes_none : (line : Line) → ((h n : ℕ) → line ≡ lines.Turn h n → ⊥) → MakesNone line
 makes_none (lines.Turn h n) not = absurd (not h n refl)

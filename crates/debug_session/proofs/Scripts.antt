@@ -1,12 +1,8 @@
 -- The text of a history, and of the script that it is.
-use Rattle.std.proofs.Common.{◌≡◌, ℕ, List, [], ◌∷◌, ◌++◌, sym, ap, ◌∙◌}
-use Rattle.std.specs.Prelude.{map}
-use Rattle.std.specs.List.{join_with_byte}
+use Rattle.std.{proofs.Common.{◌≡◌, ℕ, List, [], ◌∷◌, ◌++◌, sym, ap, ◌∙◌}, specs.{Prelude.map, List.join_with_byte}}
 use Rattle.std.proofs.lemmas.List.{append-nil}
 use Rattle.board_model.specs.Shapes.{Size}
-use Rattle.script_lang.specs.Lines.{text_of}
-use Rattle.script_lang.specs.Spellings.{board_text, script_text}
-use Rattle.script_lang.specs.declared.line.Line.{Line}
+use Rattle.script_lang.specs.{Lines.text_of, Spellings.{board_text, script_text}, declared.line.Line.Line}
 use Rattle.bench_report.specs.Bench.{no_payloads}
 use Rattle.debug_session.specs.Texts.{history_text, lines_text}
 

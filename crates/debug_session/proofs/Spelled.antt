@@ -1,8 +1,7 @@
 -- What is written as a packet's body spells what it was written for.
 use Rattle.std.proofs.Common.{◌≡◌, ◌∙◌, ℕ, ◌+◌, ◌-◌, ◌*◌, ◌/◌, ◌%◌, ◌<◌, Bool, true, false, List, [], ◌∷◌, ◌++◌, Option, Some, None, if◌then◌else◌, inl, inr, refl, ap, arith}
-use Rattle.std.specs.Prelude.{◌==◌}
+use Rattle.std.{specs.Prelude.{◌==◌}, proofs.lemmas.List.append_assoc}
 use Rattle.std.proofs.lemmas.Bool.{eqb-true, eq-eqb, or_cases, or_parts, and_from, and_right, le-leb, lt-leb, lt-ltb, le-ltb, cases_lt}
-use Rattle.std.proofs.lemmas.List.{append_assoc}
 use Rattle.debug_session.specs.Packets.{is_special, toggled, body_of, sum_of, digit_of, value_of, behind, spelled_by, says_sum, payload_read}
 
 -- bytes before bytes before a payload

@@ -1,16 +1,12 @@
 -- A reader hears what was framed; what it hears has the packets of its bytes.
 use Rattle.std.proofs.Common.{◌≡◌, ◌∙◌, ℕ, ◌+◌, ◌/◌, ◌%◌, ◌≤◌, Bool, true, false, List, [], ◌∷◌, ◌++◌, Option, Some, None, if◌then◌else◌, length, inl, inr, refl, sym, ap, arith}
-use Rattle.std.specs.Prelude.{◌==◌, ◌||◌, ⊤, nat_le}
-use Rattle.std.specs.Option.{option_to_list}
-use Rattle.std.proofs.lemmas.Bool.{eqb-true, or_cases, or_parts, lt-leb}
+use Rattle.std.{specs.{Prelude.{◌==◌, ◌||◌, ⊤, nat_le}, Option.option_to_list}, proofs.lemmas.Bool.{eqb-true, or_cases, or_parts, lt-leb}}
 use Rattle.std.proofs.lemmas.List.{append_assoc, append-nil, length-append}
-use Rattle.debug_session.specs.declared.heard.PacketEvent.{PacketEvent}
-use Rattle.debug_session.specs.declared.heard.PacketEvent.TheVariants as heards
-use Rattle.debug_session.specs.declared.heard.PacketPlace.{PacketPlace}
+use Rattle.debug_session.{specs.declared.heard.{PacketEvent.PacketEvent, PacketPlace.PacketPlace}, proofs.Spelled.frame_read}
 use Rattle.debug_session.specs.declared.heard.PacketPlace.TheVariants.{Between, Body, Sum, LastDigit}
 use Rattle.debug_session.specs.Packets.{is_special, toggled, body_of, sum_of, digit_of, framed_of, payload_read}
 use Rattle.debug_session.specs.Streams.{Standing, Completes, EndsPacket, Hears, packet_told, packets_in, packets_read, payload_in, standing_after}
-use Rattle.debug_session.proofs.Spelled.{frame_read}
+use Rattle.debug_session.specs.declared.heard.PacketEvent.TheVariants as heards
 
 -- a byte that neither begins nor ends a body
 abbrev IsPlain : ℕ → Type 0

@@ -1,29 +1,18 @@
 -- A bench with its history, one line or row further.
 use Rattle.std.proofs.Common.{◌≡◌, ◌<◌, ◌+◌, ℕ, Bool, true, false, List, [], ◌∷◌, ◌++◌, Result, Ok, Err, take, get_or, length, refl, sym, ap, ◌∙◌, subst}
-use Rattle.std.specs.Prelude.{IfOk, OnOk}
-use Rattle.std.proofs.lemmas.List.{take_more}
+use Rattle.std.{specs.{Prelude.{IfOk, OnOk}, declared.alloc.AllocError.AllocError}, proofs.lemmas.List.take_more}
 use Rattle.board_model.specs.Shapes.{Size}
 use Rattle.sbi.specs.Words.{ends}
-use Rattle.script_lang.specs.declared.line.Line.{Line}
+use Rattle.script_lang.specs.{declared.line.Line.Line, Lines.IsLineInRange}
 use Rattle.script_lang.specs.declared.line.Line.TheVariants as lines
 use Rattle.report_lines.specs.declared.printed.Answer.{Answer}
-use Rattle.bench_report.specs.Bench.{Bench, bench_with}
-use Rattle.bench_report.specs.Steps.{Moves}
-use Rattle.bench_report.specs.declared.rows.TurnRow.{TurnRow}
-use Rattle.bench_report.specs.declared.rows.TurnRow.TheVariants as rows
-use Rattle.bench_report.specs.Rows.{RowMoves, goes_on, made_in}
-use Rattle.bench_report.specs.Agree.{fill_after, fills_after}
-use Rattle.bench_report.proofs.RunLines.{fills_snoc}
-use Rattle.debug_session.specs.Notes.{AreInRange, Joins, Leaves, NotesRow}
-use Rattle.debug_session.proofs.Noted.{leaves_more, ranges_more}
-use Rattle.script_lang.specs.Lines.{IsLineInRange}
-use Rattle.simdisk.specs.declared.fill.Fill.TheVariants as fills
-use Rattle.bench_report.specs.declared.live.LiveBench.{LiveBench}
-use Rattle.std.specs.declared.alloc.AllocError.{AllocError}
-use Rattle.debug_session.specs.declared.timeline.Timeline.{Timeline}
-use Rattle.debug_session.specs.Ats.{GoesOnBy, IsAt, IsLeft, IsNoted, Ran}
+use Rattle.bench_report.specs.{Bench.{Bench, bench_with}, Steps.Moves, declared.rows.TurnRow.TurnRow, Rows.{RowMoves, goes_on, made_in}}
+use Rattle.bench_report.{specs.{Agree.{fill_after, fills_after}, declared.live.LiveBench.LiveBench}, proofs.RunLines.fills_snoc}
 use Rattle.bench_report.specs.Lives.{IsSound, Shows}
-use Rattle.debug_session.proofs.Rests.{not_true}
+use Rattle.bench_report.specs.declared.rows.TurnRow.TheVariants as rows
+use Rattle.debug_session.{specs.Notes.{AreInRange, Joins, Leaves, NotesRow}, proofs.{Noted.{leaves_more, ranges_more}, Rests.not_true}}
+use Rattle.debug_session.specs.{declared.timeline.Timeline.Timeline, Ats.{GoesOnBy, IsAt, IsLeft, IsNoted, Ran}}
+use Rattle.simdisk.specs.declared.fill.Fill.TheVariants as fills
 
 -- what holds whatever is answered
 pub always_ok : {A E : Type 0} (r : Result A E) (P : Type 0) → P → OnOk r P

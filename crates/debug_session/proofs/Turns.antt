@@ -1,12 +1,8 @@
 -- Turns counted, one line more.
 use Rattle.std.proofs.Common.{◌≡◌, ◌<◌, ◌≤◌, ◌+◌, ◌-◌, ◌∙◌, ℕ, zero, suc, true, List, [], ◌++◌, length, take, get_or, ap, arith}
-use Rattle.std.specs.Prelude.{min}
-use Rattle.std.proofs.lemmas.List.{take_more}
-use Rattle.std.proofs.lemmas.List.Sums.{sum_by_push, sum_by-append}
+use Rattle.std.{specs.Prelude.min, proofs.lemmas.List.{take_more, Sums.{sum_by_push, sum_by-append}}}
 use Rattle.script_lang.specs.declared.line.Line.{Line}
-use Rattle.debug_session.specs.Pasts.{some_turns}
-use Rattle.debug_session.specs.Ats.{IsBefore}
-use Rattle.debug_session.specs.declared.timeline.Timeline.{Timeline}
+use Rattle.debug_session.specs.{Pasts.some_turns, Ats.IsBefore, declared.timeline.Timeline.Timeline}
 use Rattle.debug_session.specs.Turns.{WentTo, turns_made, turns_of, turns_told}
 
 -- of the first lines, with one more

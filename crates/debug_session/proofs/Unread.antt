@@ -1,19 +1,13 @@
 -- A turn that reads nothing that is minded.
 use Rattle.std.proofs.Common.{◌≡◌, ◌==◌, ◌%◌, ℕ, Bool, true, false, List, [], ◌∷◌, length, nat_lt, Option, Some, None, refl, sym, ap, ap₂, ◌∙◌, arith}
-use Rattle.std.specs.Prelude.{All, ◌&&◌, not, if◌then◌else◌}
-use Rattle.std.specs.Bool.{MatchBool}
-use Rattle.std.proofs.lemmas.List.Elements.{All-head, All-tail}
-use Rattle.hart.specs.Means.{word_at}
-use Rattle.hart.specs.State.{ArchState}
+use Rattle.std.{specs.{Prelude.{All, ◌&&◌, not, if◌then◌else◌}, Bool.MatchBool}, proofs.lemmas.List.Elements.{All-head, All-tail}}
+use Rattle.hart.specs.{Means.word_at, State.ArchState}
 use Rattle.machine.specs.Machine.{Machine, hart_at}
-use Rattle.rv_decode.specs.Spells.{Reads, spells}
-use Rattle.rv_decode.specs.declared.instr.Instr.{Instr}
+use Rattle.rv_decode.specs.{Spells.{Reads, spells}, declared.instr.Instr.Instr}
 use Rattle.rv_decode.specs.declared.instr.Instr.TheVariants as instr
 use Rattle.debug_session.specs.Firsts.{ReadsAs, is_kept, is_unread, minds_reads, seen_by, seen_in, touched_since}
 use Rattle.debug_session.specs.Loads.{Fetches, LoadsAt, LoadsNext, LoadsNone, is_stepping, is_there, load_in, made_load}
-use Rattle.debug_session.specs.declared.loads.Load.{Load}
-use Rattle.debug_session.specs.declared.stops.SeenBytes.{SeenBytes}
-use Rattle.debug_session.specs.declared.stops.Watchpoint.{Watchpoint}
+use Rattle.debug_session.specs.declared.{loads.Load.Load, stops.{SeenBytes.SeenBytes, Watchpoint.Watchpoint}}
 use Rattle.debug_session.proofs.OneLoad.{one_fetch, one_load}
 
 -- ---- a word that is that of no load

@@ -1,27 +1,18 @@
 -- Turns that became part of a history, one command after another.
 use Rattle.std.proofs.Common.{◌≡◌, ◌⊎◌, ⊎_elim, true≢false, ◌≤◌, ◌+◌, ◌-◌, inl, inr, ℕ, zero, suc, Bool, true, false, List, [], ◌∷◌, ◌++◌, Option, Some, None, length, refl, sym, ap, ◌∙◌, subst, append_assoc, arith}
-use Rattle.std.specs.Prelude.{All, replicate}
-use Rattle.std.proofs.lemmas.List.{append-nil, length-append, length-replicate}
+use Rattle.std.{specs.Prelude.{All, replicate}, proofs.lemmas.List.{append-nil, length-append, length-replicate}}
 use Rattle.std.proofs.lemmas.List.Elements.{All-append, All-cons, All-head, All-nil, All-tail}
 use Rattle.board_model.specs.Shapes.{Size}
 use Rattle.machine.specs.Machine.{Machine}
 use Rattle.script_lang.specs.declared.line.Line.{Line}
 use Rattle.script_lang.specs.declared.line.Line.TheVariants as lines
-use Rattle.debug_session.specs.Pasts.{moments}
-use Rattle.bench_report.specs.declared.rows.TurnRow.{TurnRow}
-use Rattle.bench_report.specs.declared.rows.TurnRow.TheVariants as rows
-use Rattle.bench_report.specs.Rows.{IsWithin, is_off, made_in}
-use Rattle.debug_session.specs.declared.timeline.Timeline.{Timeline}
-use Rattle.bench_report.specs.Bench.{Bench}
-use Rattle.debug_session.specs.Passes.{GoesTo, Passes}
-use Rattle.debug_session.specs.Ats.{IsAt, MadeTurns}
-use Rattle.debug_session.specs.Lives.{HasHalted, machine_of, pc_in, stands_in}
-use Rattle.debug_session.specs.declared.forth.RoundPart.{RoundPart}
-use Rattle.debug_session.specs.declared.halts.HaltReason.{HaltReason}
-use Rattle.debug_session.specs.declared.halts.HaltReason.TheVariants as halts
-use Rattle.debug_session.specs.Firsts.{Stretched, halt_after}
+use Rattle.debug_session.specs.{Pasts.moments, declared.timeline.Timeline.Timeline, Passes.{GoesTo, Passes}, Ats.{IsAt, MadeTurns}}
+use Rattle.debug_session.specs.{Lives.{HasHalted, machine_of, pc_in, stands_in}, declared.forth.RoundPart.RoundPart}
+use Rattle.debug_session.specs.{declared.halts.HaltReason.HaltReason, Firsts.{Stretched, halt_after}, Withins.{HaltsBy, MadeOne}}
 use Rattle.debug_session.specs.Steps.{EndsStep, IsStep, IsTurnOf, Went, halt_step}
-use Rattle.debug_session.specs.Withins.{HaltsBy, MadeOne}
+use Rattle.bench_report.specs.{declared.rows.TurnRow.TurnRow, Rows.{IsWithin, is_off, made_in}, Bench.Bench}
+use Rattle.bench_report.specs.declared.rows.TurnRow.TheVariants as rows
+use Rattle.debug_session.specs.declared.halts.HaltReason.TheVariants as halts
 
 -- none
 pub went_none : (May : ℕ → Type 0) (size : Size) (t : Timeline) → IsAt size t → Went May 0 size t t

@@ -1,28 +1,18 @@
 -- Stepping while the pc lies within addresses.
 use Rattle.std.proofs.Common.{◌≡◌, ◌≤◌, ◌+◌, ◌⊎◌, inl, inr, ℕ, suc, Bool, true, false, List, ◌++◌, Option, Some, None, refl, sym, ap, ◌∙◌, subst, append_assoc, arith}
-use Rattle.std.specs.Prelude.{IfSome, replicate, ◌==◌, if◌then◌else◌}
-use Rattle.std.proofs.lemmas.Bool.{eqb-false, eqb-true}
+use Rattle.std.{specs.Prelude.{IfSome, replicate, ◌==◌, if◌then◌else◌}, proofs.lemmas.Bool.{eqb-false, eqb-true}}
 use Rattle.std.proofs.lemmas.List.{append-nil, replicate-append-replicate}
 use Rattle.board_model.specs.Shapes.{Size}
 use Rattle.machine.specs.Machine.{Machine}
 use Rattle.script_lang.specs.declared.line.Line.{Line}
-use Rattle.debug_session.specs.Pasts.{moments}
-use Rattle.bench_report.specs.Bench.{Bench}
-use Rattle.bench_report.specs.declared.rows.TurnRow.{TurnRow}
-use Rattle.bench_report.specs.declared.rows.TurnRow.TheVariants as rows
-use Rattle.bench_report.specs.Rows.{IsWithin, is_off, made_in}
-use Rattle.debug_session.specs.declared.timeline.Timeline.{Timeline}
-use Rattle.debug_session.specs.Ats.{IsLeft, MadeTurns}
-use Rattle.debug_session.specs.Lives.{Rests, machine_of, pc_in}
-use Rattle.debug_session.specs.Passes.{machine_left}
-use Rattle.debug_session.proofs.Passed.{shown_machine}
-use Rattle.debug_session.specs.declared.forth.RoundPart.{RoundPart}
-use Rattle.debug_session.specs.declared.steps.StepRange.{StepRange}
-use Rattle.debug_session.specs.declared.halts.HaltReason.{HaltReason}
-use Rattle.debug_session.specs.declared.halts.HaltReason.TheVariants as halts
-use Rattle.debug_session.specs.declared.stops.Watchpoint.{Watchpoint}
+use Rattle.debug_session.specs.{Pasts.moments, declared.timeline.Timeline.Timeline, Ats.{IsLeft, MadeTurns}, Passes.machine_left}
+use Rattle.debug_session.{specs.{Lives.{Rests, machine_of, pc_in}, declared.forth.RoundPart.RoundPart}, proofs.Passed.shown_machine}
+use Rattle.debug_session.specs.declared.{steps.StepRange.StepRange, halts.HaltReason.HaltReason, stops.Watchpoint.Watchpoint}
 use Rattle.debug_session.specs.Firsts.{Stretched, halt_after, halt_seen, halts_all, is_of_turn, one_turn}
 use Rattle.debug_session.specs.Withins.{HaltsBy, LeftBy, MadeOne, StayedWithin, StaysWithin, IsSpent, StepsWithin, TurnsOnce, WithinTo, halt_within, is_in, is_pc_in}
+use Rattle.bench_report.specs.{Bench.Bench, declared.rows.TurnRow.TurnRow, Rows.{IsWithin, is_off, made_in}}
+use Rattle.bench_report.specs.declared.rows.TurnRow.TheVariants as rows
+use Rattle.debug_session.specs.declared.halts.HaltReason.TheVariants as halts
 
 -- ---- one turn at most
 behind_turn : (ended stands : Bool) (changed : Option Watchpoint) → IfSome (halt_seen (if ended then Some halts.Ended else (if stands then Some halts.Point else None)) changed) (λ x. is_of_turn x ≡ true)

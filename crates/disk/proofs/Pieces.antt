@@ -1,8 +1,7 @@
 -- Pieces laid over a content.
 use Rattle.std.proofs.Common.{◌≡◌, ◌∙◌, inl, inr, refl, ℕ, ◌+◌, ◌-◌, ◌<◌, ◌≤◌, suc, List, [], ◌∷◌, ◌++◌, length, get_or, take, drop, map, sym, ap, subst, arith, rules, length-append, length-drop}
-use Rattle.std.proofs.Math.ListN.{get_or-map}
+use Rattle.std.proofs.{Math.ListN.get_or-map, lemmas.Bool.cases_lt}
 use Rattle.std.proofs.lemmas.List.{places, get_or_append_left, get_or_push, ext_get_or, length-map, length-replicate, length-take-le}
-use Rattle.std.proofs.lemmas.Bool.{cases_lt}
 use Rattle.disk.specs.Facts.{Content, sector}
 use Rattle.disk.specs.WriteLog.{Piece, laid_over, replay, synced_after, range, ranges, Untouched, AgreesOutside, AreWithin, piece_in, filled}
 

@@ -1,9 +1,7 @@
 -- Contents that are the same but for some ranges.
 use Rattle.std.proofs.Common.{◌≡◌, ◌⊎◌, ◌∙◌, inl, inr, ⊎_elim, subst, zero, suc, ℕ, ◌+◌, ◌<◌, ◌≤◌, List, [], ◌∷◌, ◌++◌, length, take, drop, sym, arith, rules}
-use Rattle.std.proofs.lemmas.List.{places, ext_get_or}
-use Rattle.std.proofs.lemmas.Bool.{cases_lt}
-use Rattle.disk.specs.Facts.{Content, sector, Torn}
-use Rattle.disk.specs.WriteLog.{Untouched, AgreesOutside, range_at}
+use Rattle.std.proofs.lemmas.{List.{places, ext_get_or}, Bool.cases_lt}
+use Rattle.disk.specs.{Facts.{Content, sector, Torn}, WriteLog.{Untouched, AgreesOutside, range_at}}
 
 pub untouched_push : (rs : List (ℕ × ℕ)) (r : ℕ × ℕ) (k : ℕ) → Untouched (rs ++ r ∷ []) k → Untouched rs k × ((k < r.0) ⊎ (r.0 + r.1 ≤ k))
 untouched_push [] r k u = (tt, u.0)

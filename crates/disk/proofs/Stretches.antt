@@ -1,9 +1,8 @@
 -- What writes and syncs leave of the facts.
 use Rattle.std.proofs.Common.{◌≡◌, ◌⊎◌, ◌∙◌, inl, inr, ⊎_elim, refl, ℕ, ◌+◌, ◌≤◌, List, [], ◌∷◌, ◌++◌, length, take, drop, map, sym, ap, subst, arith, length-append}
 use Rattle.std.proofs.lemmas.List.{map-append, take-append-le, drop-append-le, take-append-drop}
-use Rattle.disk.specs.Facts.{Content, Facts, Lent, LeavesAfter, Passes, Stays, Torn}
+use Rattle.disk.{specs.Facts.{Content, Facts, Lent, LeavesAfter, Passes, Stays, Torn}, proofs.Ranges.{agrees_push, crash_write, crash_sync}}
 use Rattle.disk.specs.WriteLog.{Piece, WriteLog, replay, piece_in, range, ranges, synced_after, more_written, more_synced, Untouched, AgreesOutside, AreWithin, Had, sim_facts}
-use Rattle.disk.proofs.Ranges.{agrees_push, crash_write, crash_sync}
 use Rattle.disk.proofs.Pieces.{ranges_copied}
 
 had_push : (stood : Content) (past : List (List Piece)) (e : List Piece) (c : Content) → Had stood past c → Had stood (past ++ e ∷ []) c

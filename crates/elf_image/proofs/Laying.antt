@@ -1,13 +1,9 @@
 -- The memory after one segment more.
 use Rattle.std.proofs.Common.{◌≡◌, ◌∙◌, ℕ, ◌+◌, ◌-◌, ◌<◌, ◌≤◌, List, ◌++◌, length, replicate, drop, ap, arith, inl, inr, subst}
-use Rattle.std.specs.Prelude.{◌⊎◌, slice_index}
-use Rattle.std.proofs.lemmas.Grind.{common_steps}
-use Rattle.std.proofs.lemmas.List.{get_or-take, get_or_past, get_or-drop}
-use Rattle.elf_image.specs.Fields.{IsPart, part_of}
-use Rattle.elf_image.specs.Program.{AreLaidOut, IsInFile, Loads, segment_at, start_of}
-use Rattle.elf_image.specs.Loading.{IsFileByte, IsLoadedTo}
-use Rattle.elf_image.specs.declared.program.Segment.{Segment}
+use Rattle.std.{specs.Prelude.{◌⊎◌, slice_index}, proofs.lemmas.{Grind.common_steps, List.{get_or-take, get_or_past, get_or-drop}}}
 use Rattle.std.proofs.lemmas.Bool.{cases_lt}
+use Rattle.elf_image.specs.{Fields.{IsPart, part_of}, Program.{AreLaidOut, IsInFile, Loads, segment_at, start_of}}
+use Rattle.elf_image.specs.{Loading.{IsFileByte, IsLoadedTo}, declared.program.Segment.Segment}
 
 module _ (memory part : List ℕ) (start : ℕ) (room : length memory ≤ start) where
   abbrev more : List ℕ

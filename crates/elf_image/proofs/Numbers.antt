@@ -1,6 +1,5 @@
 -- A number of a file, where its bytes are all there, and where they are not.
-use Rattle.std.proofs.Common.{◌≡◌, ℕ, ◌+◌, ◌<◌, ◌≤◌, List, length, drop, arith}
-use Rattle.std.proofs.lemmas.Bool.Decides.{nat_tests}
+use Rattle.std.proofs.{Common.{◌≡◌, ℕ, ◌+◌, ◌<◌, ◌≤◌, List, length, drop, arith}, lemmas.Bool.Decides.nat_tests}
 use Rattle.byteorder.specs.Endian.{little_number}
 use Rattle.elf_image.specs.Fields.{number_at}
 

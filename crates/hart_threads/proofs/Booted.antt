@@ -1,14 +1,9 @@
 -- The commands that a boot issued are noted, one after another, for the boot's part.
 use Rattle.std.proofs.Common.{◌≡◌, ◌∙◌, ◌⊎◌, ⊎_elim, ℕ, suc, ◌+◌, ◌-◌, ◌<◌, ◌≤◌, List, [], ◌∷◌, ◌++◌, length, get_or, take, drop, refl, sym, ap, subst, arith}
 use Rattle.std.proofs.lemmas.List.{append_assoc, append-nil, drop_more, length-drop, nil_from_length, take_at}
-use Rattle.board_model.specs.Durable.{Change}
-use Rattle.board_model.specs.Views.{change_in, entry_of}
-use Rattle.board_model.specs.declared.durable.Entry.{Entry}
-use Rattle.tallies.specs.Logs.{Log}
-use Rattle.tallies.specs.Books.{entries_of}
-use Rattle.hart_threads.specs.Legal.{BeginsWith}
-use Rattle.hart_threads.specs.Noted.{boot_told, entries_in, told_on}
-use Rattle.board_model.proofs.Steps.{entry_of_change}
+use Rattle.board_model.{specs.{Durable.Change, Views.{change_in, entry_of}, declared.durable.Entry.Entry}, proofs.Steps.entry_of_change}
+use Rattle.tallies.specs.{Logs.Log, Books.entries_of}
+use Rattle.hart_threads.specs.{Legal.BeginsWith, Noted.{boot_told, entries_in, told_on}}
 
 -- so many of the journal's commands were noted, and the one part that there is was told their receipts
 pub record AreNoted (journal : List Change) (k : ℕ) (log : Log Entry) (told : List (ℕ × Entry)) : Type 0 where

@@ -1,44 +1,21 @@
 -- What is done with a bus, and its history.
 use Rattle.std.proofs.Common.{◌≡◌, ⊎_elim, ℕ, Bool, true, false, List, ◌∷◌, Option, None, Result, Ok, Err, refl, sym, ap, subst, inl, inr}
-use Rattle.std.specs.Prelude.{IfSome}
-use Rattle.std.proofs.Math.Logic.{∥∥₁_map, ∥∥₁_map₂}
-use Rattle.board_model.specs.Durable.{Change, ends_life}
-use Rattle.board_model.specs.Shapes.{Size}
-use Rattle.board_model.specs.declared.refusal.Refusal.{Refusal}
-use Rattle.disk.specs.declared.device.Disk.{Ghosts}
-use Rattle.disk.specs.declared.device.Lane.{Ghosts as Lanes}
+use Rattle.std.{specs.Prelude.IfSome, proofs.Math.Logic.{∥∥₁_map, ∥∥₁_map₂}}
+use Rattle.board_model.specs.{Durable.{Change, ends_life}, Shapes.Size, declared.refusal.Refusal.Refusal}
+use Rattle.disk.specs.{declared.{device.{Disk.Ghosts, Lane.{Ghosts as Lanes}}}}
 use Rattle.hart.specs.State.{ArchState}
 use Rattle.hsm.specs.Words.{HartView}
-use Rattle.tallies.specs.Books.{keeper_view, told_after}
-use Rattle.tallies.specs.Logs.{Log}
-use Rattle.tallies.specs.declared.book_views.BookView.{BookView}
-use Rattle.tallies.specs.declared.book_views.PartView.{PartView}
-use Rattle.store.specs.Asked.{Asked}
-use Rattle.store.specs.Lives.{Life, Applied}
-use Rattle.store.specs.Views.{life_of, size_of_store}
-use Rattle.store.specs.declared.stores.Store.{Store}
-use Rattle.sbi_abi.specs.Calls.{call_of}
-use Rattle.sbi_abi.specs.declared.call.Call.{Call}
+use Rattle.tallies.specs.{Books.{keeper_view, told_after}, Logs.Log, declared.book_views.{BookView.BookView, PartView.PartView}}
+use Rattle.store.specs.{Asked.Asked, Lives.{Life, Applied}, Views.{life_of, size_of_store}, declared.stores.Store.Store}
+use Rattle.sbi_abi.specs.{Calls.call_of, declared.{call.Call.Call, ret.SbiError.SbiError}}
 use Rattle.sbi_abi.specs.declared.call.Call.TheVariants as calls
-use Rattle.sbi_abi.specs.declared.ret.SbiError.{SbiError}
-use Rattle.sbi_calls.specs.Both.{Known}
-use Rattle.sbi_calls.specs.Words.{is_doze}
-use Rattle.sbi_calls.specs.declared.words.Turned.{Turned}
-use Rattle.susp.specs.Sleeps.{FallsAsleep, SleepsAt}
-use Rattle.susp.specs.declared.buses.Bus.{Bus}
-use Rattle.susp.specs.declared.sleeps.Sleep.{Sleep}
-use Rattle.susp.specs.declared.sleeps.Sleep.TheVariants.{ToRam, ToDisk}
-use Rattle.sbi.specs.Helds.{EndsSleep, MakesHeld}
-use Rattle.sbi.specs.declared.words.LifeEnd.{LifeEnd}
-use Rattle.sbi.specs.declared.words.Word.{Word}
-use Rattle.sbi.specs.declared.words.Word.TheVariants.{Goes, Over}
-use Rattle.turns.specs.Own.{StepsIf, TurnAsOwn, TurnOwn}
-use Rattle.turns.specs.declared.readies.Ready.{Ready}
+use Rattle.sbi_calls.specs.{Both.Known, Words.is_doze, declared.words.Turned.Turned}
+use Rattle.susp.specs.{Sleeps.{FallsAsleep, SleepsAt}, declared.{buses.Bus.Bus, sleeps.Sleep.{Sleep, TheVariants.{ToRam, ToDisk}}}}
+use Rattle.sbi.specs.{Helds.{EndsSleep, MakesHeld}, declared.words.{LifeEnd.LifeEnd, Word.{Word, TheVariants.{Goes, Over}}}}
+use Rattle.turns.specs.{Own.{StepsIf, TurnAsOwn, TurnOwn}, declared.readies.Ready.Ready}
 use Rattle.turns.specs.declared.readies.Ready.TheVariants as readies
 use Rattle.hart_threads.specs.Bused.{AreCalls, AreSaved, CalledIf, FoundSo, HasCalls, HasEnded, HasFailed, IsCalled, Made, Makes, SavedBy, StepsBus, Takes, TurnsBus, WasTold, call_turn, held_call, part_of_hart, store_part}
-use Rattle.hart_threads.specs.LifeEnds.{IsEndedAs}
-use Rattle.hart_threads.specs.declared.bus_turns.BusTurn.{BusTurn}
-use Rattle.hart_threads.specs.declared.bus_turns.HeldCall.{HeldCall}
+use Rattle.hart_threads.specs.{LifeEnds.IsEndedAs, declared.bus_turns.{BusTurn.BusTurn, HeldCall.HeldCall}}
 use Rattle.hart_threads.proofs.LifeEnding.{Answers, asked_ends, held_keeps}
 
 -- ---- one turn more

@@ -1,39 +1,22 @@
 -- A durable call keeps the name of a store's life, and what it adds to the journal.
 use Rattle.std.proofs.Common.{◌≡◌, ℕ, List, [], Result, Ok, Err, refl, sym, ap, subst, ⊎_elim}
-use Rattle.board_model.specs.Durable.{DurableState, Reset, Suspend}
-use Rattle.board_model.specs.Shapes.{Size}
+use Rattle.board_model.specs.{Durable.{DurableState, Reset, Suspend}, Shapes.Size, declared.durable.Reason.Reason}
+use Rattle.board_model.specs.declared.refusal.Refusal.{Refusal}
 use Rattle.board_model.specs.declared.durable.Command.TheVariants as commands
 use Rattle.board_model.specs.declared.durable.Entry.TheVariants as entries
-use Rattle.board_model.specs.declared.durable.Reason.{Reason}
-use Rattle.board_model.specs.declared.refusal.Refusal.{Refusal}
-use Rattle.disk.specs.declared.device.Disk.{Ghosts}
-use Rattle.disk.specs.declared.device.Lane.{Ghosts as Lanes}
+use Rattle.disk.specs.{declared.{device.{Disk.Ghosts, Lane.{Ghosts as Lanes}}}}
 use Rattle.hart.specs.State.{ArchState}
 use Rattle.hsm.specs.Words.{HartView}
-use Rattle.store.specs.Follows.{FitsBoard}
-use Rattle.store.specs.Views.{size_of_store, doubt_of, journal_of}
-use Rattle.store.specs.declared.stores.Store.{Store}
-use Rattle.sbi_abi.specs.declared.call.Call.{Call}
-use Rattle.sbi_abi.specs.declared.call.Call.TheVariants as calls
-use Rattle.sbi_abi.specs.declared.ret.SbiError.{SbiError}
-use Rattle.sbi_calls.specs.Both.{Known}
-use Rattle.susp.specs.Checks.{IsChecked}
-use Rattle.susp.specs.Sleeps.{AsksToSleep, Settles, FallsAsleep, SleepsAt}
-use Rattle.susp.specs.declared.buses.Bus.{Bus}
-use Rattle.susp.specs.declared.sleeps.Sleep.{Sleep}
-use Rattle.susp.specs.declared.sleeps.Sleep.TheVariants.{ToRam, ToDisk}
-use Rattle.store.specs.Asked.{Asked}
+use Rattle.store.specs.{Follows.FitsBoard, Views.{size_of_store, doubt_of, journal_of}, declared.stores.Store.Store, Asked.Asked}
 use Rattle.store.specs.Lives.{Applied}
-use Rattle.sbi_calls.specs.declared.words.Did.{Did}
-use Rattle.sbi_calls.specs.declared.words.Did.TheVariants.{Next}
-use Rattle.sbi.specs.declared.words.Word.{Word}
-use Rattle.sbi.specs.declared.words.Word.TheVariants.{Goes}
-use Rattle.sbi.specs.declared.resets.ResetType.{ResetType}
-use Rattle.sbi.specs.Resets.{reset_of}
+use Rattle.sbi_abi.specs.declared.{call.Call.Call, ret.SbiError.SbiError}
+use Rattle.sbi_abi.specs.declared.call.Call.TheVariants as calls
+use Rattle.sbi_calls.specs.{Both.Known, declared.words.Did.{Did, TheVariants.Next}}
+use Rattle.susp.specs.{Checks.IsChecked, Sleeps.{AsksToSleep, Settles, FallsAsleep, SleepsAt}, declared.{buses.Bus.Bus, sleeps.Sleep.Sleep}}
+use Rattle.susp.specs.declared.sleeps.Sleep.TheVariants.{ToRam, ToDisk}
+use Rattle.sbi.specs.{declared.{words.Word.{Word, TheVariants.Goes}, resets.ResetType.ResetType}, Resets.reset_of}
 use Rattle.sbi.specs.Helds.{EndsReset, EndsSleep, MakesReset, MakesSleep, MakesHeld}
-use Rattle.hart_threads.specs.Legal.{IsNamed}
-use Rattle.hart_threads.specs.Called.{AddsBy}
-use Rattle.hart_threads.proofs.Naming.{asked_named, slept_named}
+use Rattle.hart_threads.{specs.{Legal.IsNamed, Called.AddsBy}, proofs.Naming.{asked_named, slept_named}}
 
 -- that a suspension was answered with
 ends_with : (fell : Result Sleep SbiError) (e : SbiError) (s t : ArchState) (word : Word) → fell ≡ Err e → EndsSleep fell s t word → word ≡ Goes Next

@@ -1,40 +1,22 @@
 -- What is in doubt of a life: a command puts itself there, where none was, and is then refused 6.
 use Rattle.std.proofs.Common.{◌≡◌, ◌∙◌, ◌⊎◌, ⊎_elim, inl, inr, ℕ, zero, suc, Bool, true, false, List, [], ◌∷◌, ◌++◌, Option, Some, None, Result, Ok, Err, refl, sym, ap, subst, arith}
-use Rattle.std.specs.Prelude.{MatchOption, IfSome, is_none, slice_get}
-use Rattle.std.specs.Option.{option_to_list}
-use Rattle.board_model.specs.Durable.{Change, Slot, Reset, Suspend, Consume, Discard, Tries, Good, Attempt}
-use Rattle.board_model.specs.Shapes.{Size}
-use Rattle.board_model.specs.Views.{change_in, change_of, entry_of}
-use Rattle.board_model.proofs.Steps.{entry_of_change, entry_of_command}
-use Rattle.board_model.specs.declared.durable.Command.{Command}
-use Rattle.board_model.specs.declared.durable.Entry.{Entry}
+use Rattle.std.specs.{Prelude.{MatchOption, IfSome, is_none, slice_get}, Option.option_to_list}
+use Rattle.board_model.specs.{Durable.{Change, Slot, Reset, Suspend, Consume, Discard, Tries, Good, Attempt}, Shapes.Size}
+use Rattle.board_model.{specs.Views.{change_in, change_of, entry_of}, proofs.Steps.{entry_of_change, entry_of_command}}
+use Rattle.board_model.specs.declared.{durable.{Command.Command, Entry.Entry, Reason.Reason}, refusal.Refusal.{Refusal, TheVariants.Down}}
 use Rattle.board_model.specs.declared.durable.Entry.TheVariants as entries
-use Rattle.board_model.specs.declared.durable.Reason.{Reason}
-use Rattle.board_model.specs.declared.refusal.Refusal.{Refusal}
-use Rattle.board_model.specs.declared.refusal.Refusal.TheVariants.{Down}
-use Rattle.disk.specs.declared.device.Disk.{Ghosts}
-use Rattle.disk.specs.declared.device.Lane.{Ghosts as Lanes}
+use Rattle.disk.specs.{declared.{device.{Disk.Ghosts, Lane.{Ghosts as Lanes}}}}
 use Rattle.hart.specs.State.{ArchState}
 use Rattle.hsm.specs.Words.{HartView}
-use Rattle.store.specs.Asked.{Asked}
-use Rattle.store.specs.Follows.{FitsBoard}
-use Rattle.store.specs.Lives.{Life, Applied, Refused, Suspended, SuspendRefused}
-use Rattle.store.specs.Views.{life_of, doubt_of, size_of_store, failures_at_open}
-use Rattle.store.specs.declared.stores.Store.{Store}
-use Rattle.sbi_abi.specs.declared.call.Call.{Call}
+use Rattle.store.specs.{Asked.Asked, Follows.FitsBoard, Lives.{Life, Applied, Refused, Suspended, SuspendRefused}}
+use Rattle.store.specs.{Views.{life_of, doubt_of, size_of_store, failures_at_open}, declared.stores.Store.Store}
+use Rattle.sbi_abi.specs.declared.{call.Call.Call, ret.SbiError.SbiError}
 use Rattle.sbi_abi.specs.declared.call.Call.TheVariants as calls
-use Rattle.sbi_abi.specs.declared.ret.SbiError.{SbiError}
 use Rattle.sbi_calls.specs.Both.{Known}
-use Rattle.susp.specs.Checks.{IsChecked}
-use Rattle.susp.specs.Sleeps.{FallsAsleep, SleepsAt}
-use Rattle.susp.specs.declared.buses.Bus.{Bus}
-use Rattle.susp.specs.declared.sleeps.Sleep.{Sleep}
+use Rattle.susp.specs.{Checks.IsChecked, Sleeps.{FallsAsleep, SleepsAt}, declared.{buses.Bus.Bus, sleeps.Sleep.Sleep}}
 use Rattle.susp.specs.declared.sleeps.Sleep.TheVariants.{ToRam, ToDisk}
-use Rattle.sbi.specs.declared.words.Word.{Word}
+use Rattle.sbi.specs.{declared.{words.Word.Word, resets.ResetType.ResetType}, Resets.reset_of, Helds.{MakesReset, MakesHeld}}
 use Rattle.sbi.specs.declared.words.LifeEnd.TheVariants as ends
-use Rattle.sbi.specs.declared.resets.ResetType.{ResetType}
-use Rattle.sbi.specs.Resets.{reset_of}
-use Rattle.sbi.specs.Helds.{MakesReset, MakesHeld}
 use Rattle.tallies.specs.Closed.{AreStanding, AreReceiptsOf}
 use Rattle.hart_threads.specs.Doubts.{HartAsksFor, IsDoubtOf, AreAskedByHarts, doubt_told, newly_down, noted_by, noted_if}
 use Rattle.hart_threads.specs.Noted.{entries_in}

@@ -1,27 +1,16 @@
 -- How a loop ends, and what its end says of the hart as the loop left it.
 use Rattle.std.proofs.Common.{◌≡◌, ◌∙◌, ℕ, ◌+◌, ◌<◌, ◌≤◌, Bool, true, false, List, [], ◌∷◌, ◌++◌, All, Option, Some, None, IsTrue, arith, refl, ap, sym, subst}
-use Rattle.std.specs.Prelude.{is_some}
-use Rattle.std.proofs.lemmas.List.Elements.{All-push}
-use Rattle.std.specs.Option.{option_to_list}
-use Rattle.board_model.specs.Shapes.{Size}
-use Rattle.board_model.specs.declared.durable.Entry.{Entry}
+use Rattle.std.{specs.{Prelude.is_some, Option.option_to_list}, proofs.lemmas.List.Elements.All-push}
+use Rattle.board_model.specs.{Shapes.Size, declared.durable.Entry.Entry}
 use Rattle.hart.specs.State.{ArchState}
 use Rattle.tallies.specs.declared.book_views.PartView.{PartView}
-use Rattle.sbi.specs.declared.words.LifeEnd.{LifeEnd}
+use Rattle.sbi.specs.{declared.words.{LifeEnd.LifeEnd, Word.{Word, TheVariants.{Goes, Over}}}, Words.life_goes_on}
 use Rattle.sbi.specs.declared.words.LifeEnd.TheVariants as ends
-use Rattle.sbi.specs.Words.{life_goes_on}
-use Rattle.sbi.specs.declared.words.Word.{Word}
-use Rattle.sbi.specs.declared.words.Word.TheVariants.{Goes, Over}
-use Rattle.sbi_abi.specs.declared.call.Call.{Call}
-use Rattle.sbi_abi.specs.Calls.{call_of}
-use Rattle.sbi_calls.specs.declared.words.Turned.{Turned}
-use Rattle.sbi_calls.specs.declared.words.Turned.TheVariants.{Made, Durable}
-use Rattle.hart_threads.specs.Called.{AsksFor, IsToldBy}
-use Rattle.hart_threads.specs.Noted.{part_after}
-use Rattle.susp.specs.declared.buses.Doze.{Doze}
-use Rattle.hart_threads.specs.Dozes.{is_woken}
+use Rattle.sbi_abi.specs.{declared.call.Call.Call, Calls.call_of}
+use Rattle.sbi_calls.specs.declared.words.Turned.{Turned, TheVariants.{Made, Durable}}
+use Rattle.hart_threads.specs.{Called.{AsksFor, IsToldBy}, Noted.part_after, Dozes.is_woken, declared.loops.Why.Why}
 use Rattle.hart_threads.specs.Threads.{Seated, ComesOnce, DozeOnce, TurnOnceBy, TurnOnce, LoopOnce, is_end, ends_life}
-use Rattle.hart_threads.specs.declared.loops.Why.{Why}
+use Rattle.susp.specs.declared.buses.Doze.{Doze}
 
 -- ---- how often it asked
 pub as_often : (n m : ℕ) → m ≡ n → n ≤ m

@@ -1,35 +1,18 @@
 -- A durable call, made with a bus and a store, by what was told of it, and the doze that the bus then has.
 use Rattle.std.proofs.Common.{◌≡◌, ℕ, List, Option, Some, Result, Ok, Err, refl, sym, ap, subst, ⊎_elim, inl, inr}
-use Rattle.disk.specs.declared.device.Disk.{Ghosts}
-use Rattle.disk.specs.declared.device.Lane.{Ghosts as Lanes}
-use Rattle.board_model.specs.Shapes.{Size}
-use Rattle.board_model.specs.declared.durable.Reason.{Reason}
-use Rattle.board_model.specs.declared.refusal.Refusal.{Refusal}
+use Rattle.disk.specs.{declared.{device.{Disk.Ghosts, Lane.{Ghosts as Lanes}}}}
+use Rattle.board_model.specs.{Shapes.Size, declared.{durable.Reason.Reason, refusal.Refusal.Refusal}}
 use Rattle.hart.specs.State.{ArchState}
-use Rattle.hsm.specs.Words.{HartView}
-use Rattle.hsm.specs.declared.view.Action.TheVariants.{Quieted}
-use Rattle.hsm.specs.Rule.{HasNoted}
-use Rattle.hsm.specs.Outcomes.{after_quiet}
-use Rattle.store.specs.Views.{size_of_store}
-use Rattle.store.specs.declared.stores.Store.{Store}
-use Rattle.sbi_abi.specs.declared.call.Call.{Call}
+use Rattle.hsm.specs.{Words.HartView, declared.view.Action.TheVariants.Quieted, Rule.HasNoted, Outcomes.after_quiet}
+use Rattle.store.specs.{Views.size_of_store, declared.stores.Store.Store}
+use Rattle.sbi_abi.specs.declared.{call.Call.Call, ret.SbiError.{SbiError, TheVariants.{Failed, Denied, NotSupported}}}
 use Rattle.sbi_abi.specs.declared.call.Call.TheVariants as calls
-use Rattle.sbi_abi.specs.declared.ret.SbiError.{SbiError}
-use Rattle.sbi_abi.specs.declared.ret.SbiError.TheVariants.{Failed, Denied, NotSupported}
 use Rattle.sbi_calls.specs.Both.{Known}
-use Rattle.susp.specs.Checks.{IsChecked}
-use Rattle.susp.specs.Dozes.{dozing}
-use Rattle.susp.specs.Sleeps.{AreUnclaimed, Settles, FallsAsleep, SleepsAt}
-use Rattle.susp.specs.declared.buses.Bus.{Bus}
-use Rattle.susp.specs.declared.buses.Doze.{Doze}
-use Rattle.susp.specs.declared.sleeps.Sleep.{Sleep}
-use Rattle.susp.specs.declared.sleeps.Sleep.TheVariants.{ToRam, ToDisk}
-use Rattle.sbi.specs.declared.words.Word.{Word}
-use Rattle.sbi.specs.declared.resets.ResetType.{ResetType}
-use Rattle.sbi.specs.Resets.{reset_of}
+use Rattle.susp.specs.{Checks.IsChecked, Dozes.dozing, Sleeps.{AreUnclaimed, Settles, FallsAsleep, SleepsAt}, declared.buses.Bus.Bus}
+use Rattle.susp.specs.declared.{buses.Doze.Doze, sleeps.Sleep.{Sleep, TheVariants.{ToRam, ToDisk}}}
+use Rattle.sbi.specs.{declared.{words.Word.Word, resets.ResetType.ResetType}, Resets.reset_of}
 use Rattle.sbi.specs.Helds.{Refuses, EndsReset, EndsSleep, MakesReset, MakesSleep, MakesHeld}
-use Rattle.hart_threads.specs.Looks.{doze_by}
-use Rattle.hart_threads.specs.Threads.{ResetFinds, Finds, HeldOnce, IsDozeBy}
+use Rattle.hart_threads.specs.{Looks.doze_by, Threads.{ResetFinds, Finds, HeldOnce, IsDozeBy}}
 
 -- ---- what the hart's part of the call came to, and the doze of which it keeps a copy where the bus then has that one
 pub record HeldAs (size : Size) (call : Call) (s t : ArchState) (k k' : Known) (found : Option Doze) (word : Word) : Type 0 where

@@ -1,48 +1,23 @@
 -- What commands leave at each moment of a life.
 use Rattle.std.proofs.Common.{◌≡◌, ◌∙◌, ◌⊎◌, inl, inr, ℕ, ◌+◌, ◌≤◌, ◌<◌, List, [], ◌∷◌, ◌++◌, Option, Some, None, Result, Ok, Err, length, get_or, refl, sym, ap, subst, arith}
-use Rattle.std.proofs.lemmas.Bool.{cases_lt}
-use Rattle.std.proofs.lemmas.List.{append-nil, length-append, take-append-le}
-use Rattle.std.proofs.Math.ListN.{get_or-append}
-use Rattle.std.proofs.Math.Logic.{∥∥₁_map}
-use Rattle.std.proofs.Math.Seq.{get_or-append_seam, take-length}
-use Rattle.std.specs.Option.{option_to_list}
-use Rattle.board_model.specs.Durable.{DurableState, Change, after, fold, refusal_of}
-use Rattle.board_model.specs.Shapes.{Size}
-use Rattle.board_model.specs.Views.{number_of_refusal}
-use Rattle.board_model.specs.declared.refusal.Refusal.{Refusal}
-use Rattle.board_model.specs.declared.refusal.Refusal.TheVariants.{BadShape, Device, Down, Over, JournalFull, Memory}
-use Rattle.board_model.proofs.Table.{of_table}
-use Rattle.disk.specs.Facts.{Content, Facts, LeavesSince}
-use Rattle.disk.specs.declared.device.Disk.{Ghosts}
-use Rattle.disk.specs.declared.device.Lane.{Ghosts as Lanes}
-use Rattle.store.specs.Answers.{GoesTo}
-use Rattle.store.specs.Asked.{Asked}
-use Rattle.store.specs.Leaves.{IsKept, Leaves, LeavesOnly, StandsForEither}
-use Rattle.store.specs.Lives.{Life, now_of, Applied, Refused, Suspended, SuspendRefused}
-use Rattle.store.specs.Standing.{StandsFor}
+use Rattle.std.proofs.{lemmas.{Bool.cases_lt, List.{append-nil, length-append, take-append-le}}, Math.{ListN.get_or-append, Logic.∥∥₁_map}}
+use Rattle.std.{proofs.Math.Seq.{get_or-append_seam, take-length}, specs.Option.option_to_list}
+use Rattle.board_model.specs.{Durable.{DurableState, Change, after, fold, refusal_of, Reset, Suspend}, Shapes.Size, Views.number_of_refusal}
+use Rattle.board_model.specs.declared.refusal.Refusal.{Refusal, TheVariants.{BadShape, Device, Down, Over, JournalFull, Memory}}
+use Rattle.board_model.{proofs.Table.of_table, specs.declared.durable.Reason.Reason}
+use Rattle.disk.specs.{Facts.{Content, Facts, LeavesSince}, declared.{device.{Disk.Ghosts, Lane.{Ghosts as Lanes}}}}
+use Rattle.store.specs.{Answers.GoesTo, Asked.Asked, Leaves.{IsKept, Leaves, LeavesOnly, StandsForEither}, Standing.StandsFor}
+use Rattle.store.specs.{Lives.{Life, now_of, Applied, Refused, Suspended, SuspendRefused}, declared.stores.Store.Store, Follows.FitsBoard}
 use Rattle.store.specs.Views.{disk_of, doubt_of, journal_of, life_of, size_of_store}
-use Rattle.store.specs.declared.stores.Store.{Store}
 use Rattle.hart.specs.State.{ArchState}
 use Rattle.hsm.specs.Words.{HartView}
-use Rattle.sbi.specs.Helds.{EndsReset, EndsSleep, MakesHeld, MakesReset}
-use Rattle.sbi.specs.declared.resets.ResetType.{ResetType}
-use Rattle.sbi.specs.declared.words.Word.{Word}
+use Rattle.sbi.specs.{Helds.{EndsReset, EndsSleep, MakesHeld, MakesReset}, declared.{resets.ResetType.ResetType, words.Word.Word}}
 use Rattle.sbi.specs.declared.words.Word.TheVariants.{Goes, Over as IsOver}
-use Rattle.sbi_abi.specs.declared.call.Call.{Call}
+use Rattle.sbi_abi.specs.declared.{call.Call.Call, ret.SbiError.SbiError}
 use Rattle.sbi_abi.specs.declared.call.Call.TheVariants as calls
-use Rattle.sbi_abi.specs.declared.ret.SbiError.{SbiError}
-use Rattle.sbi_calls.specs.Both.{Known}
-use Rattle.sbi_calls.specs.declared.words.Did.{Did}
-use Rattle.susp.specs.Sleeps.{FallsAsleep, Settles, SleepsAt}
-use Rattle.susp.specs.declared.buses.Bus.{Bus}
-use Rattle.susp.specs.declared.sleeps.Sleep.{Sleep}
-use Rattle.susp.specs.declared.sleeps.Sleep.TheVariants.{ToRam, ToDisk}
-use Rattle.store.specs.Follows.{FitsBoard}
-use Rattle.board_model.specs.Durable.{Reset, Suspend}
-use Rattle.board_model.specs.declared.durable.Reason.{Reason}
-use Rattle.hart_threads.specs.Legal.{IsNamed}
-use Rattle.hart_threads.specs.Since.{AreKept, IsOfFirst, KeptSince, moments_after, sent}
-use Rattle.hart_threads.proofs.Naming.{fold_more}
+use Rattle.sbi_calls.specs.{Both.Known, declared.words.Did.Did}
+use Rattle.susp.specs.{Sleeps.{FallsAsleep, Settles, SleepsAt}, declared.{buses.Bus.Bus, sleeps.Sleep.{Sleep, TheVariants.{ToRam, ToDisk}}}}
+use Rattle.hart_threads.{specs.{Legal.IsNamed, Since.{AreKept, IsOfFirst, KeptSince, moments_after, sent}}, proofs.Naming.fold_more}
 
 -- ---- lives: what a command does to the journal, and to the one in doubt
 abbrev pub IsLeftBy : Change → Result ℕ Refusal → Life → Life → Type 0

@@ -1,23 +1,14 @@
 -- The last command of a journal, and its receipt.
 use Rattle.std.proofs.Common.{◌≡◌, ◌∙◌, ℕ, zero, suc, ◌+◌, ◌-◌, ◌≤◌, ◌<◌, true, List, [], ◌∷◌, ◌++◌, Some, length, get_or, arith, refl, sym, ap, subst}
-use Rattle.board_model.specs.Durable.{DurableState, Change}
-use Rattle.board_model.specs.Shapes.{Size}
-use Rattle.board_model.specs.Views.{change_in, entry_of}
-use Rattle.board_model.proofs.Steps.{entry_of_change}
+use Rattle.board_model.{specs.{Durable.{DurableState, Change}, Shapes.Size, Views.{change_in, entry_of}}, proofs.Steps.entry_of_change}
 use Rattle.board_model.specs.declared.durable.Entry.{Entry}
 use Rattle.sbi_abi.specs.declared.call.Call.{Call}
 use Rattle.sbi_calls.specs.declared.words.Did.{Did}
-use Rattle.sbi.specs.declared.words.LifeEnd.{LifeEnd}
-use Rattle.sbi.specs.declared.words.Word.{Word}
-use Rattle.sbi.specs.declared.words.Word.TheVariants.{Goes, Over}
+use Rattle.sbi.specs.declared.words.{LifeEnd.LifeEnd, Word.{Word, TheVariants.{Goes, Over}}}
 use Rattle.store.specs.Taken.{are_taken}
-use Rattle.hart_threads.specs.Legal.{BeginsWith, IsToldOf}
-use Rattle.hart_threads.proofs.Naming.{begins_on}
-use Rattle.tallies.specs.Logs.{Log}
-use Rattle.tallies.specs.Books.{entries_of}
-use Rattle.hart_threads.specs.Noted.{entries_in}
-use Rattle.hart_threads.proofs.Noting.{number, tied_on}
+use Rattle.hart_threads.{specs.{Legal.{BeginsWith, IsToldOf}, Noted.entries_in}, proofs.{Naming.begins_on, Noting.{number, tied_on}}}
 use Rattle.hart_threads.specs.Called.{AsksFor, AddsBy, IsLastOf, IsToldBy}
+use Rattle.tallies.specs.{Logs.Log, Books.entries_of}
 
 pub one_longer : (xs ys : List Change) (c : Change) → ys ≡ xs ++ c ∷ [] → length ys ≡ length xs + 1
 one_longer xs ys c e = ap (λ (zs : List Change). length zs) e ∙ longer xs c

@@ -1,37 +1,21 @@
 -- What holds of the commands that end a life: a command keeps that.
 use Rattle.std.proofs.Common.{◌≡◌, ⊎_elim, ℕ, zero, suc, false, List, [], ◌∷◌, ◌++◌, Option, Some, None, Result, Ok, Err, refl, sym, ap, subst, inl, inr}
-use Rattle.board_model.specs.Durable.{DurableState, Change, Reset, Suspend, ends_life}
-use Rattle.board_model.specs.Shapes.{Size}
-use Rattle.board_model.specs.declared.durable.Reason.{Reason}
+use Rattle.board_model.specs.{Durable.{DurableState, Change, Reset, Suspend, ends_life}, Shapes.Size, declared.durable.Reason.Reason}
 use Rattle.board_model.specs.declared.refusal.Refusal.{Refusal}
-use Rattle.disk.specs.declared.device.Disk.{Ghosts}
-use Rattle.disk.specs.declared.device.Lane.{Ghosts as Lanes}
+use Rattle.disk.specs.{declared.{device.{Disk.Ghosts, Lane.{Ghosts as Lanes}}}}
 use Rattle.hart.specs.State.{ArchState, answered}
 use Rattle.hsm.specs.Words.{HartView}
-use Rattle.store.specs.Asked.{Asked}
-use Rattle.store.specs.Follows.{FitsBoard}
-use Rattle.store.specs.Lives.{Life, Applied, Refused, Suspended, SuspendRefused}
-use Rattle.store.specs.Views.{life_of, doubt_of, size_of_store}
-use Rattle.store.specs.declared.stores.Store.{Store}
-use Rattle.sbi_abi.specs.declared.call.Call.{Call}
+use Rattle.store.specs.{Asked.Asked, Follows.FitsBoard, Lives.{Life, Applied, Refused, Suspended, SuspendRefused}}
+use Rattle.store.specs.{Views.{life_of, doubt_of, size_of_store}, declared.stores.Store.Store}
+use Rattle.sbi_abi.specs.{declared.{call.Call.Call, ret.SbiError.{SbiError, TheVariants.Failed}}, Answers.error_of}
 use Rattle.sbi_abi.specs.declared.call.Call.TheVariants as calls
-use Rattle.sbi_abi.specs.Answers.{error_of}
-use Rattle.sbi_abi.specs.declared.ret.SbiError.{SbiError}
-use Rattle.sbi_abi.specs.declared.ret.SbiError.TheVariants.{Failed}
 use Rattle.sbi_calls.specs.Both.{Known}
-use Rattle.susp.specs.Checks.{IsChecked}
-use Rattle.susp.specs.Sleeps.{FallsAsleep, Settles, SleepsAt}
-use Rattle.susp.specs.declared.buses.Bus.{Bus}
-use Rattle.susp.specs.declared.sleeps.Sleep.{Sleep}
+use Rattle.susp.specs.{Checks.IsChecked, Sleeps.{FallsAsleep, Settles, SleepsAt}, declared.{buses.Bus.Bus, sleeps.Sleep.Sleep}}
 use Rattle.susp.specs.declared.sleeps.Sleep.TheVariants.{ToRam, ToDisk}
 use Rattle.sbi.specs.declared.words.LifeEnd.TheVariants as ends
-use Rattle.sbi.specs.declared.words.Word.{Word}
-use Rattle.sbi.specs.declared.words.Word.TheVariants.{Over}
-use Rattle.sbi.specs.declared.resets.ResetType.{ResetType}
-use Rattle.sbi.specs.Resets.{reset_of}
+use Rattle.sbi.specs.{declared.{words.Word.{Word, TheVariants.Over}, resets.ResetType.ResetType}, Resets.reset_of}
 use Rattle.sbi.specs.Helds.{EndsReset, EndsSleep, MakesReset, MakesHeld}
-use Rattle.hart_threads.specs.Called.{AsksReset, AsksSleep}
-use Rattle.hart_threads.specs.LifeEnds.{AllEndAs, EndsAs, IsEndedAs}
+use Rattle.hart_threads.specs.{Called.{AsksReset, AsksSleep}, LifeEnds.{AllEndAs, EndsAs, IsEndedAs}}
 
 -- ---- commands
 some_or : Change → Option Change → Change

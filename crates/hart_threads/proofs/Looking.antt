@@ -1,16 +1,12 @@
 -- A turn of a hart in whose doze its board is, by what its look at the bus found.
 use Rattle.std.proofs.Common.{◌≡◌, ◌∙◌, ℕ, Bool, true, false, Some, None, refl, sym, ap, subst}
 use Rattle.hart.specs.State.{ArchState, started as fresh}
-use Rattle.sbi_calls.specs.Both.{Known}
-use Rattle.susp.specs.declared.buses.Bus.{Bus}
-use Rattle.susp.specs.declared.buses.Doze.{Doze}
+use Rattle.sbi_calls.specs.{Both.Known, declared.words.Did.TheVariants.{Idle, Resumed}}
+use Rattle.susp.specs.declared.buses.{Bus.Bus, Doze.Doze}
 use Rattle.tallies.specs.declared.book_views.PartView.{PartView}
 use Rattle.turns.specs.Own.{ResumesOwn}
-use Rattle.sbi_calls.specs.declared.words.Did.TheVariants.{Idle, Resumed}
 use Rattle.sbi.specs.declared.words.Word.TheVariants.{Goes}
-use Rattle.hart_threads.specs.Bused.{TakesBus}
-use Rattle.hart_threads.specs.Dozes.{is_woken, doze_left}
-use Rattle.hart_threads.specs.Threads.{seated, DozeOnce, LookOnce}
+use Rattle.hart_threads.specs.{Bused.TakesBus, Dozes.{is_woken, doze_left}, Threads.{seated, DozeOnce, LookOnce}}
 use Rattle.hart_threads.specs.declared.bus_turns.BusTurn.{BusTurn}
 
 -- what the look left of the bus

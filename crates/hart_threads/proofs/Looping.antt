@@ -1,39 +1,21 @@
 -- Turns one after another.
 use Rattle.std.proofs.Common.{◌≡◌, ◌+◌, ℕ, zero, suc, Bool, Option, Some, None, ap, true, false, arith, refl, sym, ◌∙◌, subst, inl, inr}
 use Rattle.atomic_table.specs.Seated.{TableId}
-use Rattle.board_model.specs.Shapes.{Size}
-use Rattle.board_model.specs.declared.durable.Entry.{Entry}
-use Rattle.sbi_abi.specs.declared.call.Call.{Call}
-use Rattle.hart_threads.specs.Called.{IsToldBy}
-use Rattle.hart_threads.specs.Noted.{part_after}
-use Rattle.tallies.specs.declared.book_views.PartView.{PartView}
-use Rattle.sbi_abi.specs.Calls.{call_of}
-use Rattle.sbi.specs.Words.{life_goes_on, stage_told, word_of_sleep}
-use Rattle.sbi.specs.declared.words.LifeEnd.TheVariants as ends
-use Rattle.sbi.specs.declared.words.Word.{Word}
-use Rattle.sbi.specs.declared.words.Word.TheVariants.{Goes, Over}
-use Rattle.sbi_calls.specs.declared.tables.Seats.{Seats}
-use Rattle.sbi_calls.specs.declared.tables.Tables.{Tables}
-use Rattle.hsm.specs.Calls.{Sits}
-use Rattle.hsm.specs.States.{IsBetweenCalls}
-use Rattle.hsm.specs.declared.view.Stage.TheVariants.{Out, Running, Suspended, Quiet}
-use Rattle.sbi_calls.specs.Both.{GivesBack, Acts, AreSeatsOfBoth, views, Known}
-use Rattle.susp.specs.declared.buses.Doze.{Doze}
-use Rattle.susp.specs.declared.sleeps.Sleep.{Sleep}
-use Rattle.susp.specs.declared.sleeps.Sleep.TheVariants.{ToRam, ToDisk}
-use Rattle.sbi_calls.specs.declared.words.Did.{Did}
-use Rattle.sbi_calls.specs.declared.words.Turned.{Turned}
-use Rattle.sbi_calls.specs.declared.words.Turned.TheVariants.{Made, Durable}
-use Rattle.machine.specs.Held.{RestsBy}
-use Rattle.hart.specs.State.{ArchState}
-use Rattle.machine.specs.Machine.{Machine}
-use Rattle.hart_threads.specs.Begun.{BeginsAs}
-use Rattle.hart_threads.specs.Ends.{AnyAnswer, AnyWord, HasGone}
-use Rattle.hart_threads.specs.Bused.{CallsBus}
-use Rattle.hart_threads.specs.declared.bus_turns.BusTurn.{BusTurn}
-use Rattle.hart_threads.specs.Seated.{AreNamed, AreSeatsIn, StandsAfterTurn, StandsAfter}
+use Rattle.board_model.specs.{Shapes.Size, declared.durable.Entry.Entry}
+use Rattle.sbi_abi.specs.{declared.call.Call.Call, Calls.call_of}
+use Rattle.hart_threads.specs.{Called.IsToldBy, Noted.part_after, Begun.BeginsAs, Ends.{AnyAnswer, AnyWord, HasGone}, Bused.CallsBus}
+use Rattle.hart_threads.specs.{declared.bus_turns.BusTurn.BusTurn, Seated.{AreNamed, AreSeatsIn, StandsAfterTurn, StandsAfter}}
 use Rattle.hart_threads.specs.Threads.{Seated, seated, HeldOnce, IsDozeBy, ComesOnce, OwnOnce, LookOnce, TurnOnceBy, TurnOnce, TurnsOn, LoopOnce}
 use Rattle.hart_threads.specs.declared.loops.Why.{Why}
+use Rattle.tallies.specs.declared.book_views.PartView.{PartView}
+use Rattle.sbi.specs.{Words.{life_goes_on, stage_told, word_of_sleep}, declared.words.Word.{Word, TheVariants.{Goes, Over}}}
+use Rattle.sbi.specs.declared.words.LifeEnd.TheVariants as ends
+use Rattle.sbi_calls.specs.{declared.tables.{Seats.Seats, Tables.Tables}, Both.{GivesBack, Acts, AreSeatsOfBoth, views, Known}}
+use Rattle.sbi_calls.specs.declared.words.{Did.Did, Turned.{Turned, TheVariants.{Made, Durable}}}
+use Rattle.hsm.specs.{Calls.Sits, States.IsBetweenCalls, declared.view.Stage.TheVariants.{Out, Running, Suspended, Quiet}}
+use Rattle.susp.specs.declared.{buses.Doze.Doze, sleeps.Sleep.{Sleep, TheVariants.{ToRam, ToDisk}}}
+use Rattle.machine.specs.{Held.RestsBy, Machine.Machine}
+use Rattle.hart.specs.State.{ArchState}
 use Rattle.hart_threads.specs.declared.loops.Why.TheVariants as whys
 
 -- ---- nothing was done yet

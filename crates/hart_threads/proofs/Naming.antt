@@ -1,18 +1,10 @@
 -- A command keeps the name of a store's life.
 use Rattle.std.proofs.Common.{◌≡◌, ◌∙◌, ◌&&◌, ℕ, zero, suc, ◌+◌, ◌<◌, ◌≤◌, Bool, true, false, List, [], ◌∷◌, ◌++◌, Option, Some, None, Result, Ok, Err, length, take, is_none, arith, refl, sym, ap, subst, inl, inr}
-use Rattle.board_model.specs.Durable.{DurableState, Change, after, fold, refusal_of}
-use Rattle.board_model.specs.Shapes.{Size}
-use Rattle.board_model.specs.Views.{durable_of, number_of_refusal}
-use Rattle.board_model.specs.declared.durable.Durable.{Durable}
-use Rattle.board_model.specs.declared.refusal.Refusal.{Refusal}
-use Rattle.board_model.specs.declared.refusal.Refusal.TheVariants.{Down}
-use Rattle.disk.specs.declared.device.Disk.{Ghosts}
-use Rattle.disk.specs.declared.device.Lane.{Ghosts as Lanes}
-use Rattle.store.specs.Lives.{Life, Applied, Refused, Suspended, SuspendRefused}
-use Rattle.store.specs.Views.{life_of, doubt_of, journal_of}
-use Rattle.store.specs.declared.stores.Store.{Store}
-use Rattle.store.specs.Asked.{Asked}
-use Rattle.store.specs.Taken.{are_taken}
+use Rattle.board_model.specs.{Durable.{DurableState, Change, after, fold, refusal_of}, Shapes.Size, Views.{durable_of, number_of_refusal}}
+use Rattle.board_model.specs.declared.{durable.Durable.Durable, refusal.Refusal.{Refusal, TheVariants.Down}}
+use Rattle.disk.specs.{declared.{device.{Disk.Ghosts, Lane.{Ghosts as Lanes}}}}
+use Rattle.store.specs.{Lives.{Life, Applied, Refused, Suspended, SuspendRefused}, Views.{life_of, doubt_of, journal_of}, Asked.Asked}
+use Rattle.store.specs.{declared.stores.Store.Store, Taken.are_taken}
 use Rattle.hart_threads.specs.Legal.{BeginsWith, IsLifeOf, IsNamed, MayAnswer}
 
 -- ---- one command more

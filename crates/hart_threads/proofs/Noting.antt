@@ -1,12 +1,7 @@
 -- A command that was acknowledged is noted in the book, and the book stays the journal's.
-use Rattle.std.proofs.Common.{◌≡◌, ◌∙◌, ℕ, suc, ◌+◌, List, [], ◌∷◌, ◌++◌, length, ap, arith}
-use Rattle.std.proofs.lemmas.List.{length-map, map-append}
-use Rattle.board_model.specs.Durable.{Change}
-use Rattle.board_model.specs.Views.{entry_of}
-use Rattle.board_model.specs.declared.durable.Entry.{Entry}
-use Rattle.tallies.specs.Logs.{Log}
-use Rattle.tallies.specs.Books.{entries_of}
-use Rattle.tallies.proofs.Closing.{length_journal}
+use Rattle.std.proofs.{Common.{◌≡◌, ◌∙◌, ℕ, suc, ◌+◌, List, [], ◌∷◌, ◌++◌, length, ap, arith}, lemmas.List.{length-map, map-append}}
+use Rattle.board_model.specs.{Durable.Change, Views.entry_of, declared.durable.Entry.Entry}
+use Rattle.tallies.{specs.{Logs.Log, Books.entries_of}, proofs.Closing.length_journal}
 use Rattle.hart_threads.specs.Noted.{entries_in}
 
 -- the log is as long as the journal, so the next place is the next receipt

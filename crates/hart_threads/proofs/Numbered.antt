@@ -3,12 +3,8 @@ use Rattle.std.proofs.Common.{◌≡◌, ◌∙◌, ℕ, zero, suc, ◌+◌, ◌
 use Rattle.std.proofs.lemmas.List.{length_push, get_or_push, get_or_append_left, length-reverse, reverse-append}
 use Rattle.hart.specs.State.{ArchState, never_started}
 use Rattle.machine.specs.Held.{AreNumbered}
-use Rattle.tallies.specs.Books.{first_of, fresh_from, part_view}
-use Rattle.tallies.specs.declared.book_views.PartView.{PartView}
-use Rattle.hart_threads.specs.Begun.{AreFromLast}
-use Rattle.hart_threads.specs.Bused.{fresh_part}
-use Rattle.hart_threads.specs.declared.bus_turns.BusTurn.{BusTurn}
-use Rattle.hart_threads.specs.declared.seated.ActingHart.{ActingHart}
+use Rattle.tallies.specs.{Books.{first_of, fresh_from, part_view}, declared.book_views.PartView.PartView}
+use Rattle.hart_threads.specs.{Begun.AreFromLast, Bused.fresh_part, declared.{bus_turns.BusTurn.BusTurn, seated.ActingHart.ActingHart}}
 
 -- ---- harts
 -- without the last of them

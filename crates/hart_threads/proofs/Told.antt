@@ -1,12 +1,9 @@
 -- Why a loop ended.
 use Rattle.std.proofs.Common.{◌≡◌, ◌==◌, ◌&&◌, ℕ, Bool, true, Option, Some, None, IsTrue, arith, refl, sym, subst}
-use Rattle.std.proofs.lemmas.Bool.Decides.{nat_tests}
-use Rattle.std.specs.Prelude.{is_none, is_some}
+use Rattle.std.{proofs.lemmas.Bool.Decides.nat_tests, specs.Prelude.{is_none, is_some}}
 use Rattle.board_model.specs.declared.durable.Entry.{Entry}
-use Rattle.hart_threads.specs.Ends.{EndsBy, IsClosedBy, receipt_by}
-use Rattle.hart_threads.specs.Threads.{has_ended, ends_life, is_end}
+use Rattle.hart_threads.specs.{Ends.{EndsBy, IsClosedBy, receipt_by}, Threads.{has_ended, ends_life, is_end}, declared.loops.Why.Why}
 use Rattle.hart_threads.specs.declared.closing.AfterConsole.{AfterConsole}
-use Rattle.hart_threads.specs.declared.loops.Why.{Why}
 use Rattle.hart_threads.specs.declared.loops.Why.TheVariants as whys
 
 -- the command that is told of a loop that ended for that reason

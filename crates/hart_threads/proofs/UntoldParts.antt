@@ -1,10 +1,8 @@
 -- Parts that were told nothing, and go off one after another.
 use Rattle.std.proofs.Common.{◌≡◌, ◌∙◌, ℕ, zero, suc, ◌+◌, ◌<◌, ◌≤◌, List, [], ◌∷◌, ◌++◌, All, length, get_or, drop, refl, sym, ap, subst, inl, inr, arith}
-use Rattle.std.proofs.lemmas.Bool.{cases_eq}
-use Rattle.std.proofs.lemmas.List.{length_push, get_or_push, get_or_append_left}
+use Rattle.std.proofs.lemmas.{Bool.cases_eq, List.{length_push, get_or_push, get_or_append_left}}
 use Rattle.board_model.specs.declared.durable.Entry.{Entry}
-use Rattle.tallies.specs.Books.{first_of, fresh_from, part_view}
-use Rattle.tallies.specs.declared.book_views.PartView.{PartView}
+use Rattle.tallies.specs.{Books.{first_of, fresh_from, part_view}, declared.book_views.PartView.PartView}
 
 pub all_rest : (ds : List (PartView Entry)) → All (λ d. d.told ≡ []) ds → All (λ d. d.told ≡ []) (drop 1 ds)
 all_rest [] all = all

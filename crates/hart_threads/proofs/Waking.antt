@@ -1,12 +1,8 @@
 -- The console's part of the history of the bus: each time that it woke a board.
-use Rattle.std.proofs.Common.{◌≡◌, ℕ, true, Option, Some, None, IsTrue, refl, sym, ap, subst}
-use Rattle.std.specs.Prelude.{is_some}
-use Rattle.susp.specs.Dozes.{can_wake, after_wake}
-use Rattle.susp.specs.declared.buses.Bus.{Bus}
-use Rattle.tallies.specs.Books.{told_after}
-use Rattle.tallies.specs.declared.book_views.PartView.{PartView}
-use Rattle.hart_threads.specs.Bused.{AreWakes, HoldsWakes, IsWaking, bus_turn, part_in}
-use Rattle.hart_threads.specs.Heard.{one_more}
+use Rattle.std.{proofs.Common.{◌≡◌, ℕ, true, Option, Some, None, IsTrue, refl, sym, ap, subst}, specs.Prelude.is_some}
+use Rattle.susp.specs.{Dozes.{can_wake, after_wake}, declared.buses.Bus.Bus}
+use Rattle.tallies.specs.{Books.told_after, declared.book_views.PartView.PartView}
+use Rattle.hart_threads.specs.{Bused.{AreWakes, HoldsWakes, IsWaking, bus_turn, part_in}, Heard.one_more}
 use Rattle.hart_threads.specs.declared.bus_turns.BusTurn.{BusTurn}
 
 pub holds_some : (o : Option (PartView BusTurn)) (n : ℕ) → HoldsWakes o n → IsTrue (is_some o)

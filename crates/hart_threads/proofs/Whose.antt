@@ -1,23 +1,17 @@
 -- A hart's part of the history of the bus stays that hart's.
 use Rattle.std.proofs.Common.{◌≡◌, ◌∙◌, ℕ, zero, suc, Bool, List, Option, Some, None, sym, ap}
-use Rattle.board_model.specs.Shapes.{Size}
-use Rattle.board_model.specs.declared.durable.Entry.{Entry}
+use Rattle.board_model.specs.{Shapes.Size, declared.durable.Entry.Entry}
 use Rattle.hart.specs.State.{ArchState}
 use Rattle.machine.specs.Machine.{Machine}
 use Rattle.sbi.specs.declared.words.Word.{Word}
-use Rattle.sbi_calls.specs.Both.{Known}
-use Rattle.sbi_calls.specs.declared.words.Turned.{Turned}
-use Rattle.sbi_calls.specs.declared.words.Turned.TheVariants.{Made, Durable}
+use Rattle.sbi_calls.specs.{Both.Known, declared.words.Turned.{Turned, TheVariants.{Made, Durable}}}
 use Rattle.susp.specs.declared.buses.Doze.{Doze}
 use Rattle.tallies.specs.declared.book_views.PartView.{PartView}
 use Rattle.turns.specs.declared.readies.Ready.{Ready}
 use Rattle.turns.specs.declared.readies.Ready.TheVariants as readies
-use Rattle.hart_threads.specs.Bused.{Takes, TurnsBus, bus_turn, call_turn, held_call, part_of_hart}
-use Rattle.hart_threads.specs.Ends.{IsOfHart, AnyAnswer, AnyWord, own_receipt}
+use Rattle.hart_threads.specs.{Bused.{Takes, TurnsBus, bus_turn, call_turn, held_call, part_of_hart}, declared.bus_turns.BusTurn.BusTurn}
+use Rattle.hart_threads.specs.{Ends.{IsOfHart, AnyAnswer, AnyWord, own_receipt}, declared.{ends.HartEnd.HartEnd, loops.Why.Why}}
 use Rattle.hart_threads.specs.Threads.{Seated, ComesOnce, LoopOnce, OwnOnce, TurnOnce, TurnOnceBy, TurnsOn}
-use Rattle.hart_threads.specs.declared.bus_turns.BusTurn.{BusTurn}
-use Rattle.hart_threads.specs.declared.ends.HartEnd.{HartEnd}
-use Rattle.hart_threads.specs.declared.loops.Why.{Why}
 use Rattle.hart_threads.specs.declared.loops.Why.TheVariants as whys
 
 takes_whose : (turn : BusTurn) (d d' : PartView BusTurn) → Takes turn d d' → d'.who ≡ d.who

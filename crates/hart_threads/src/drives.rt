@@ -88,7 +88,7 @@ fn unbegun<'a, J: Threaded, E: Drop>(
 /// has what ended it.
 ///
 /// The console is given `side`, as its input and its output, and what it gives back comes back with the loops
-/// that ended, one for each hart. Each has one of the parts. Refused `Memory` where
+/// that ended, one for each hart, that of the highest number first. Each has one of the parts. Refused `Memory` where
 /// there is no room for the harts' seats, or where a thread could not be started: the loops of all harts have
 /// then ended, or none has begun, and the console was not called.
 pub fn drive<

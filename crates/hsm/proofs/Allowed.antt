@@ -1,22 +1,16 @@
 -- Each step of a seat keeps the rule.
 use Rattle.std.proofs.Common.{List, ◌≡◌, ◌≢◌, ℕ, ◌+◌, ◌-◌, ◌*◌, ◌<◌, ◌≤◌, Bool, true, false, if◌then◌else◌, eqb, length, set, refl, sym, ap, ◌∙◌, subst, ⊎_elim, arith, eq-eqb, ne_eqb, get_or-set_same, get_or-set_other, ◌∷◌}
-use Rattle.std.specs.Prelude.{slice_index, slice_set, bit_or, bit_and}
-use Rattle.std.specs.Int.{bit_at}
-use Rattle.std.proofs.lemmas.Nat.Bits.{bit_at-lt}
+use Rattle.std.{specs.{Prelude.{slice_index, slice_set, bit_or, bit_and}, Int.bit_at}, proofs.lemmas.Nat.Bits.bit_at-lt}
 use mathlib.Core.Logic.{dite}
 use mathlib.Core.Option.{some, none}
 use native.Mathlib.Decide.{ℕ_discrete}
 use lib.ListN.{get_elem?}
 use Rattle.atomic_table.specs.Table.{State, Act, step, keeps, stepped, carried_after, Valid, Allows}
-use Rattle.hsm.specs.declared.view.Stage.{Stage}
+use Rattle.hsm.specs.declared.view.{Stage.Stage, Action.{Action, TheVariants.{Claimed, Wrote, Armed, Looked, Read, Entered, Stopped}}}
 use Rattle.hsm.specs.declared.view.Stage.TheVariants.{Out, Ready, Addressed, Loaded, Running, Claiming, Half, Stored, Suspended, Quiet}
-use Rattle.hsm.specs.declared.view.Action.{Action}
-use Rattle.hsm.specs.declared.view.Action.TheVariants.{Claimed, Wrote, Armed, Looked, Read, Entered, Stopped}
-use Rattle.hsm.specs.Words.{HartSeatView, word_bits}
+use Rattle.hsm.{specs.Words.{HartSeatView, word_bits}, proofs.{Next.{place, kept_then, mine, under}, Whole.{tells, open_start}}}
 use Rattle.hsm.specs.Rule.{IsSite, Grants, granted, claim_of, entry_of, is_pending, in_flight, Fits, Sound, HartInvariant, word_of, found_by, left_by, stands}
 use Rattle.hsm.specs.Outcomes.{after_claim, after_look, Claims, PutsAddress, PutsOpaque, Arms, IsUpToDate, Looks, PollsOutside, ReadsAddress, ReadsOpaque, Enters, Stops}
-use Rattle.hsm.proofs.Next.{place, kept_then, mine, under}
-use Rattle.hsm.proofs.Whole.{tells, open_start}
 use Rattle.hsm.proofs.Steps.{idle, claims, puts_address, puts_opaque, arms, enters, stops}
 use Rattle.hsm.proofs.Words.{mask, same_after_load, arg_after, Any, But, leaves_bits, leaves_arguments, set_here, set_else, set_again, kept_bits, stop_claimed, stop_armed, stop_entered, stop_suspended, stop_else}
 use Rattle.tallies.specs.Notes.{hart_notes, seat_notes, noted, SeatState, Notes}

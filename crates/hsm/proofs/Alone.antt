@@ -2,15 +2,9 @@
 use Rattle.std.proofs.Common.{◌≡◌, ◌≢◌, ℕ, ◌+◌, ◌<◌, List, [], ◌∷◌, refl, sym, ap, ◌∙◌, subst, ⊎_elim, arith, eq-eqb, ne_eqb}
 use mathlib.Core.Logic.{dite}
 use native.Mathlib.Decide.{ℕ_discrete}
-use Rattle.tallies.specs.Sums.{total}
-use Rattle.tallies.specs.Notes.{noted, HasNoted}
-use Rattle.hsm.specs.declared.view.Stage.{Stage}
-use Rattle.hsm.specs.declared.view.Action.{Action}
-use Rattle.hsm.specs.Words.{HartView, HartSeatView}
-use Rattle.hsm.specs.Rule.{claim_of, entry_of, did, stands}
-use Rattle.hsm.specs.States.{HartState, awaits, IsAt, IsIn, Shows, change_at}
-use Rattle.hsm.specs.Calls.{KeepsOthers}
-use Rattle.tallies.proofs.Noted.{numbered}
+use Rattle.tallies.{specs.{Sums.total, Notes.{noted, HasNoted}}, proofs.Noted.numbered}
+use Rattle.hsm.specs.{declared.view.{Stage.Stage, Action.Action}, Words.{HartView, HartSeatView}, Rule.{claim_of, entry_of, did, stands}}
+use Rattle.hsm.specs.{States.{HartState, awaits, IsAt, IsIn, Shows, change_at}, Calls.KeepsOthers}
 use Rattle.hsm.proofs.Stand.{stands_after, stands_other}
 
 -- ---- one more action

@@ -1,10 +1,7 @@
 -- Bits of the first word by the sets of harts that it has.
 use Rattle.std.proofs.Common.{◌≡◌, ◌↔◌, ℕ, ◌+◌, ◌*◌, ◌-◌, ◌%◌, ◌^◌, ◌≤◌, Bool, true, false, true≢false, IsTrue, sym, ap, ◌∙◌, subst, arith}
+use Rattle.std.{specs.Int.bit_at, proofs.{lemmas.Nat.{pow-add, Bits.bit_at-lt}, Math.Nat.{mod-mod_of_dvd, dvd-mul_right}}}
 use Prim.Native.Nat.{◌∣◌}
-use Rattle.std.specs.Int.{bit_at}
-use Rattle.std.proofs.lemmas.Nat.{pow-add}
-use Rattle.std.proofs.lemmas.Nat.Bits.{bit_at-lt}
-use Rattle.std.proofs.Math.Nat.{mod-mod_of_dvd, dvd-mul_right}
 use mathlib.Core.Logic.{dite}
 use native.Mathlib.Decide.{ℕ_discrete}
 use Rattle.board_model.specs.HartSets.{Has}

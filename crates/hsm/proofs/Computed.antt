@@ -1,21 +1,14 @@
 -- A view shows one table of states, which `state_in` computes.
 use Rattle.std.proofs.Common.{rules, ◌≡◌, ◌≢◌, ◌⊎◌, ℕ, ◌+◌, ◌<◌, ◌≤◌, true, false, List, [], ◌∷◌, Option, Some, None, refl, sym, ap, ◌∙◌, subst, ⊎_elim, inl, inr, arith, eq-eqb, ne_eqb}
-use Rattle.std.specs.Prelude.{nat_lt, length, slice_set}
+use Rattle.std.{specs.Prelude.{nat_lt, length, slice_set}, proofs.lemmas.{List.{length-set, get_or-set_other}, Grind.get_or-set_at}}
 use mathlib.Core.Logic.{dite}
 use native.Mathlib.Decide.{ℕ_discrete}
-use Rattle.tallies.specs.Sums.{total}
-use Rattle.tallies.proofs.Seatings.{map_all}
-use Rattle.hsm.specs.declared.view.Stage.{Stage}
-use Rattle.hsm.specs.declared.view.Stage.TheVariants.{Out, Ready, Addressed, Loaded, Suspended}
-use Rattle.hsm.specs.declared.view.Action.{Action}
+use Rattle.tallies.{specs.Sums.total, proofs.Seatings.map_all}
+use Rattle.hsm.specs.declared.view.{Stage.{Stage, TheVariants.{Out, Ready, Addressed, Loaded, Suspended}}, Action.Action}
 use Rattle.hsm.specs.declared.view.Action.TheVariants.{Claimed, Wrote, Armed, Looked, Read, Entered, Stopped, Suspended as DidSuspend, Woke, Quieted, Unquieted}
-use Rattle.hsm.specs.Words.{HartView, HartSeatView}
-use Rattle.hsm.specs.Rule.{claim_of, entry_of, did}
+use Rattle.hsm.{specs.{Words.{HartView, HartSeatView}, Rule.{claim_of, entry_of, did}}, proofs.Stand.stands_stage}
 use Rattle.hsm.specs.States.{HartState, stopped, start_pending, started, suspended, awaits, is_outside, is_running, is_suspended, IsIn, Shows, change_at}
-use Rattle.std.proofs.lemmas.List.{length-set, get_or-set_other}
-use Rattle.std.proofs.lemmas.Grind.{get_or-set_at}
 use Rattle.hsm.specs.Views.{first_of, open_by, open_start, outside, state_by_stage, state_in, states_in, listed, AreStates}
-use Rattle.hsm.proofs.Stand.{stands_stage}
 
 -- ---- a start that is pending is found
 module _ {A B : Type 0} (f : A → Option B) where

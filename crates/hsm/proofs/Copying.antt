@@ -1,26 +1,16 @@
 -- A table that is made of another's states, hart by hart.
 use Rattle.std.proofs.Common.{◌≡◌, ◌≢◌, ℕ, ◌+◌, ◌<◌, ◌≤◌, ⊎_elim, Bool, true, true≢false, if◌then◌else◌, eqb, refl, sym, ap, ◌∙◌, subst, arith, eq-eqb, ne_eqb, List, None, Some, Option, MatchOption, MatchBool, IsSome, IsTrue, ◌↔◌}
+use Rattle.std.{specs.Option.IfNone, proofs.lemmas.Bool.{le-ltb, lt-ltb, cases_lt}}
 use mathlib.Core.Logic.{dite}
 use native.Mathlib.Decide.{ℕ_discrete}
-use Rattle.std.specs.Option.{IfNone}
-use Rattle.std.proofs.lemmas.Bool.{le-ltb, lt-ltb, cases_lt}
-use Rattle.tallies.specs.Notes.{numbers}
-use Rattle.tallies.specs.Seats.{numbers_from}
-use Rattle.tallies.proofs.Seatings.{at_all, map_all}
-use Rattle.hsm.specs.declared.view.Stage.{Stage}
-use Rattle.hsm.specs.declared.view.Stage.TheVariants.{Out, Running, Quiet}
-use Rattle.hsm.specs.Words.{HartView, HartSeatView}
-use Rattle.hsm.specs.Rule.{IsSite, stands}
+use Rattle.tallies.{specs.{Notes.numbers, Seats.numbers_from}, proofs.Seatings.{at_all, map_all}}
+use Rattle.hsm.specs.{declared.view.Stage.{Stage, TheVariants.{Out, Running, Quiet}}, Words.{HartView, HartSeatView}, Rule.{IsSite, stands}}
 use Rattle.hsm.specs.States.{HartState, stopped, start_pending, started, suspended, Says, is_outside, is_suspended, IsAt, IsIn, Shows, change_at, grant}
-use Rattle.hsm.specs.Outcomes.{opening_states, IsStartAddress, IsStartOpaque}
-use Rattle.hsm.specs.declared.state.State.{State}
-use Rattle.hsm.specs.declared.state.State.TheVariants as codes
-use Rattle.hsm.specs.Calls.{KeepsOthers, named, state_in_word}
-use Rattle.hsm.specs.Views.{state_in, states_in, listed, AreStates}
+use Rattle.hsm.{specs.{Outcomes.{opening_states, IsStartAddress, IsStartOpaque}, declared.state.State.State}, proofs.Alone.stands_once}
+use Rattle.hsm.{specs.{Calls.{KeepsOthers, named, state_in_word}, Views.{state_in, states_in, listed, AreStates}}, proofs.Stages.named_is}
 use Rattle.hsm.specs.Copies.{IsSettled, IsShown, IsAtRest, Becomes, IsMade, rest_stage, stage_by, so_far}
 use Rattle.hsm.proofs.Computed.{seat_determines_states, shows_seen}
-use Rattle.hsm.proofs.Alone.{stands_once}
-use Rattle.hsm.proofs.Stages.{named_is}
+use Rattle.hsm.specs.declared.state.State.TheVariants as codes
 
 -- ---- one state of many
 pub here : (h : ℕ) (f : HartState → HartState) (states : ℕ → HartState) (k : ℕ) → k ≡ h → change_at h f states k ≡ f (states h)

@@ -4,17 +4,10 @@ use Rattle.std.specs.Int.{bit_at}
 use mathlib.Core.Logic.{dite}
 use native.Mathlib.Decide.{ℕ_discrete}
 use Rattle.tallies.specs.Notes.{noted, HasNoted}
-use Rattle.hsm.specs.declared.view.Stage.{Stage}
-use Rattle.hsm.specs.declared.view.Stage.TheVariants.{Out, Ready, Addressed, Loaded, Running}
-use Rattle.hsm.specs.declared.view.Action.TheVariants.{Looked, Read, Entered}
-use Rattle.hsm.specs.Words.{HartSeatView}
-use Rattle.hsm.specs.Rule.{entry_of, stands}
+use Rattle.hsm.specs.{declared.view.Stage.{Stage, TheVariants.{Out, Ready, Addressed, Loaded, Running}}, Words.HartSeatView, Calls.is_ready}
+use Rattle.hsm.specs.{declared.view.Action.TheVariants.{Looked, Read, Entered}, Rule.{entry_of, stands}, Outcomes.{after_look, IsOpenStart}}
 use Rattle.hsm.specs.States.{HartState, start_pending, started, awaits, IsAt, Shows, Tells, change_at, entry, begin}
-use Rattle.hsm.specs.Outcomes.{after_look, IsOpenStart}
-use Rattle.hsm.specs.Calls.{is_ready}
-use Rattle.hsm.proofs.Stand.{stands_after}
-use Rattle.hsm.proofs.Alone.{shows_as, shows_next, shows_same}
-use Rattle.hsm.proofs.Stages.{at_outside, not_pending}
+use Rattle.hsm.proofs.{Stand.stands_after, Alone.{shows_as, shows_next, shows_same}, Stages.{at_outside, not_pending}}
 
 pub unarmed : (h found : ℕ) → bit_at found (8 + h) ≢ 1 → is_ready h found ≡ false
 unarmed h found n = rw (ne_eqb (bit_at found (8 + h)) 1 n) refl

@@ -1,33 +1,21 @@
 -- The later steps: suspend, wake, quiet and unquiet.
 use Rattle.std.proofs.Common.{◌≡◌, ◌≢◌, ℕ, ◌+◌, ◌*◌, ◌%◌, ◌^◌, ◌<◌, ◌≤◌, Bool, true, false, if◌then◌else◌, length, set, refl, sym, ap, ◌∙◌, subst, ⊎_elim, arith, eq-eqb, ne_eqb, w64, IsTrue, ◌↔◌, ◌/◌, div-add-mod'}
-use Rattle.std.specs.Prelude.{slice_index, slice_set, bit_or, bit_and}
-use Rattle.std.specs.Int.{bit_at, bit_not}
-use Rattle.std.proofs.lemmas.Nat.Bits.{bit_at-lt, bit_at_cat_low, bit_at-pow_same, bit_at-pow_other, same_from_bits_below}
+use Rattle.std.{specs.{Prelude.{slice_index, slice_set, bit_or, bit_and}, Int.{bit_at, bit_not}}, proofs.lemmas.List.set-get_or}
+use Rattle.std.proofs.lemmas.{Nat.Bits.{bit_at-lt, bit_at_cat_low, bit_at-pow_same, bit_at-pow_other, same_from_bits_below}, Bool.eqb-true}
+use Rattle.std.proofs.Math.{Nat.mod-lt, Pow.{pow_pos, pow-lt}}
 use mathlib.Core.Logic.{dite}
 use mathlib.Core.Option.{some, none}
 use lib.ListN.{get_elem?}
 use native.Mathlib.Decide.{ℕ_discrete}
-use Rattle.atomic_table.specs.Table.{State, step, keeps, stepped, Allows}
-use Rattle.hsm.specs.declared.view.Stage.{Stage}
-use Rattle.hsm.specs.declared.view.Stage.TheVariants.{Running, Suspended, Quiet}
-use Rattle.hsm.specs.declared.view.Action.{Action}
-use Rattle.hsm.specs.declared.view.Action.TheVariants.{Suspended as DidSuspend, Woke, Quieted, Unquieted}
-use Rattle.hsm.specs.Words.{HartSeatView, WordBits, word_bits}
-use Rattle.tallies.proofs.Rules.{has_log}
+use Rattle.atomic_table.{specs.Table.{State, step, keeps, stepped, Allows}, proofs.Lists.set_again}
+use Rattle.hsm.specs.{declared.view.{Stage.{Stage, TheVariants.{Running, Suspended, Quiet}}, Action.Action}, States.IsStarted}
+use Rattle.hsm.{specs.{declared.{view.{Action.{TheVariants.{Suspended as DidSuspend, Woke, Quieted, Unquieted}}}}}, proofs.Steps.turns}
+use Rattle.hsm.{specs.Words.{HartSeatView, WordBits, word_bits}, proofs.{Next.{place, mine, under}, Allowed.{IsNoted, notes, loads}}}
 use Rattle.hsm.specs.Rule.{IsSite, Grants, claim_of, entry_of, in_flight, Fits, HartInvariant, first_word, word_of, found_by, left_by, reading, stands}
-use Rattle.hsm.specs.States.{IsStarted}
-use Rattle.std.proofs.lemmas.List.{set-get_or}
-use Rattle.atomic_table.proofs.Lists.{set_again}
 use Rattle.hsm.specs.Outcomes.{Suspends, Wakes, is_alone, after_quiet, Quiets, Unquiets, Sees, Peeks, PeeksAddress, PeeksOpaque}
-use Rattle.hsm.proofs.Next.{place, mine, under}
-use Rattle.hsm.proofs.Steps.{turns}
 use Rattle.hsm.proofs.Whole.{tells, arguments, between_shows}
 use Rattle.hsm.proofs.Words.{mask, Any, But, leaves_bits, set_here, set_else, clear_here, clear_else}
-use Rattle.hsm.proofs.Allowed.{IsNoted, notes, loads}
-use Rattle.std.proofs.lemmas.Bool.{eqb-true}
-use Rattle.std.proofs.Math.Nat.{mod-lt}
-use Rattle.std.proofs.Math.Pow.{pow_pos, pow-lt}
-use Rattle.tallies.specs.Notes.{SeatState}
+use Rattle.tallies.{proofs.Rules.has_log, specs.Notes.SeatState}
 
 -- a number whose low bits are that of one hart alone
 low_bit : (harts found t : ℕ) → t < harts → bit_at found t ≡ bit_at (found % 2 ^ harts) t

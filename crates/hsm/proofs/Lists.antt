@@ -1,12 +1,8 @@
 -- Where the harts of a parted seat stand.
 use Rattle.std.proofs.Common.{List, None, Option, Some, [], ap, arith, inl, inr, refl, slice_get, subst, suc, sym, zero, ℕ, ⊎_elim, ◌++◌, ◌+◌, ◌∙◌, ◌∷◌, ◌≡◌, ◌≢◌}
 use Rattle.atomic_table.specs.declared.shared.Seat.{Seat}
-use Rattle.tallies.specs.Seats.{numbers_from, views_at}
-use Rattle.tallies.proofs.Seatings.{head_or, tail_of, some_or}
-use Rattle.tallies.specs.Notes.{numbers}
-use Rattle.hsm.specs.Rule.{stands}
-use Rattle.hsm.specs.declared.view.Stage.{Stage}
-use Rattle.hsm.specs.Words.{HartView, HartSeatView}
+use Rattle.tallies.{specs.{Seats.{numbers_from, views_at}, Notes.numbers}, proofs.Seatings.{head_or, tail_of, some_or}}
+use Rattle.hsm.specs.{Rule.stands, declared.view.Stage.Stage, Words.{HartView, HartSeatView}}
 use Rattle.hsm.specs.Seating.{StandAsIn, StandTogether, AreInOrder, harts_in, harts_by_seat, all_harts, one_by_one}
 
 stands_from : (ss : List (Option (Seat (Unit {0}) HartSeatView))) (vs : List HartView) (first n : ℕ) → harts_by_seat ss ≡ one_by_one vs → numbers vs ≡ numbers_from first n

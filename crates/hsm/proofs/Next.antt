@@ -1,21 +1,14 @@
 -- What a step of one hart owes, so that the rule holds of the board after it.
 use Rattle.std.proofs.Common.{◌≡◌, ◌≢◌, ◌⊎◌, ℕ, suc, ◌+◌, ◌*◌, ◌<◌, ◌≤◌, List, [], ◌∷◌, length, set, refl, sym, ap, ◌∙◌, subst, ⊎_elim, inl, inr, arith, eq-eqb, ne_eqb}
+use Rattle.std.specs.Prelude.{slice_index, slice_set}
 use mathlib.Core.Option.{some}
 use lib.ListN.{get_elem?}
-use Rattle.atomic_table.specs.Table.{State, keeps, stepped}
-use Rattle.std.specs.Prelude.{slice_index, slice_set}
-use Rattle.atomic_table.proofs.Lists.{at_set}
-use Rattle.hsm.specs.declared.view.Stage.{Stage}
+use Rattle.atomic_table.{specs.Table.{State, keeps, stepped}, proofs.Lists.at_set}
+use Rattle.hsm.specs.{declared.view.{Stage.Stage, Action.Action}, Words.{HartView, HartSeatView, WordBits, word_bits}}
 use Rattle.hsm.specs.declared.view.Stage.TheVariants.{Out, Ready, Addressed, Loaded, Running, Claiming, Half, Stored, Suspended, Quiet}
-use Rattle.hsm.specs.declared.view.Action.{Action}
-use Rattle.hsm.specs.Words.{HartView, HartSeatView, WordBits, word_bits}
-use Rattle.tallies.specs.Sums.{total}
 use Rattle.hsm.specs.Rule.{Grants, claim_of, entry_of, is_pending, in_flight, flights, Fits, Sound, HartInvariant, IsSite, word_of, found_by, left_by, reading, first_word, stands}
-use Rattle.tallies.proofs.Totals.{total-set}
-use Rattle.tallies.specs.Notes.{hart_notes, seat_notes, noted}
-use Rattle.tallies.specs.Rules.{AreSeated, IsLogged}
-use Rattle.tallies.proofs.Noted.{Spot}
-use Rattle.tallies.proofs.Rules.{under as of_board, under_at, has, both, another, logged_next}
+use Rattle.tallies.{specs.{Sums.total, Notes.{hart_notes, seat_notes, noted}, Rules.{AreSeated, IsLogged}}, proofs.Totals.total-set}
+use Rattle.tallies.proofs.{Noted.Spot, Rules.{under as of_board, under_at, has, both, another, logged_next}}
 
 pub in_flight_same : (t a o : ℕ) → in_flight t (Claiming t a o) ≡ 1
 in_flight_same t a o = rw (eq-eqb t t refl) refl

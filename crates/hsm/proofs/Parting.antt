@@ -1,23 +1,16 @@
 -- The table at the start, and seats that are parted and joined.
 use Rattle.std.proofs.Common.{◌≡◌, ◌≢◌, ◌⊎◌, ℕ, zero, suc, ◌+◌, ◌-◌, ◌*◌, ◌<◌, ◌≤◌, max, Bool, true, false, if◌then◌else◌, ◌==◌, eqb, List, [], ◌∷◌, ◌++◌, length, set, refl, sym, ap, ◌∙◌, subst, ⊎_elim, inl, inr, arith, eq-eqb, ne_eqb, lit<, lit≤}
-use Rattle.std.specs.Prelude.{slice_index, bit_or}
-use Rattle.std.specs.Int.{bit_at}
-use Rattle.std.proofs.lemmas.Nat.Bits.{bit_at-lt, bit_at_or}
+use Rattle.std.{specs.{Prelude.{slice_index, bit_or}, Int.bit_at}, proofs.lemmas.Nat.Bits.{bit_at-lt, bit_at_or}}
 use mathlib.Core.Logic.{dite}
 use native.Mathlib.Decide.{ℕ_discrete}
 use Rattle.atomic_table.specs.Table.{Splits, Joins, opening}
-use Rattle.hsm.specs.declared.view.Stage.TheVariants.{Out, Running}
-use Rattle.hsm.specs.declared.view.Action.{Action}
-use Rattle.hsm.specs.Words.{HartView, HartSeatView, WordBits, word_bits}
-use Rattle.tallies.specs.Sums.{total}
+use Rattle.hsm.specs.{declared.view.{Stage.TheVariants.{Out, Running}, Action.Action}, Words.{HartView, HartSeatView, WordBits, word_bits}}
 use Rattle.hsm.specs.Rule.{Grants, claim_of, entry_of, is_pending, in_flight, Fits, Sound, HartInvariant, reading, first_word, stands}
-use Rattle.hsm.specs.States.{stopped, started, awaits, IsAt, Shows}
-use Rattle.hsm.specs.Outcomes.{opening_states, opening_stage, opening_view}
-use Rattle.tallies.proofs.Noted.{parted, no_actions}
-use Rattle.tallies.specs.Rules.{Everywhere}
+use Rattle.hsm.specs.{States.{stopped, started, awaits, IsAt, Shows}, Outcomes.{opening_states, opening_stage, opening_view}}
+use Rattle.hsm.proofs.Words.{mask, mask_here, mask_else}
+use Rattle.tallies.{specs.{Sums.total, Rules.Everywhere}, proofs.Noted.{parted, no_actions}}
 use Rattle.tallies.proofs.Rules.{each_split, each_join, each_open, logged_split, logged_join, logged_open}
 use Rattle.tallies.proofs.Totals.{total-append, total_split, total_join}
-use Rattle.hsm.proofs.Words.{mask, mask_here, mask_else}
 use Rattle.tallies.specs.Notes.{opening_from, first_hart, other_harts, together, nobody}
 
 -- ---- parting and joining

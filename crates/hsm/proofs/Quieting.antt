@@ -2,16 +2,9 @@
 use Rattle.std.proofs.Common.{◌≡◌, ◌≢◌, ◌↔◌, ℕ, ◌<◌, Bool, true, false, IsTrue, MatchBool, if◌then◌else◌, refl, subst, ⊎_elim}
 use Rattle.std.specs.Int.{bit_at}
 use Rattle.tallies.specs.Notes.{HasNoted}
-use Rattle.hsm.specs.declared.view.Stage.TheVariants.{Running, Quiet}
-use Rattle.hsm.specs.declared.view.Action.TheVariants.{Quieted, Unquieted}
-use Rattle.hsm.specs.Words.{HartSeatView}
-use Rattle.hsm.specs.Rule.{stands}
-use Rattle.hsm.specs.States.{HartState, stopped, Says, is_running, IsStarted, Shows, Tells}
-use Rattle.hsm.specs.Outcomes.{after_quiet, is_alone}
-use Rattle.hsm.specs.Calls.{KeepsOthers}
-use Rattle.hsm.proofs.Stand.{stands_after}
-use Rattle.hsm.proofs.Alone.{keeps, shows_same}
-use Rattle.hsm.proofs.Stages.{at_running, stopped_of}
+use Rattle.hsm.specs.{declared.view.{Stage.TheVariants.{Running, Quiet}, Action.TheVariants.{Quieted, Unquieted}}, Words.HartSeatView}
+use Rattle.hsm.specs.{Rule.stands, States.{HartState, stopped, Says, is_running, IsStarted, Shows, Tells}, Outcomes.{after_quiet, is_alone}}
+use Rattle.hsm.{specs.Calls.KeepsOthers, proofs.{Stand.stands_after, Alone.{keeps, shows_same}, Stages.{at_running, stopped_of}}}
 
 after_runs : (q : Bool) → is_running (if q then Quiet else Running) ≡ true
 after_runs true = refl

@@ -1,10 +1,7 @@
 -- What a hart's state, its stage and the first word say of one another.
-use Rattle.std.proofs.Common.{◌≡◌, ◌≢◌, ℕ, ◌+◌, true, false, true≢false, None, refl, sym, ◌∙◌, arith}
-use Rattle.std.specs.Int.{bit_at}
-use Rattle.hsm.specs.declared.view.Stage.{Stage}
-use Rattle.hsm.specs.declared.view.Stage.TheVariants.{Running, Suspended}
+use Rattle.std.{proofs.Common.{◌≡◌, ◌≢◌, ℕ, ◌+◌, true, false, true≢false, None, refl, sym, ◌∙◌, arith}, specs.Int.bit_at}
+use Rattle.hsm.specs.{declared.view.Stage.{Stage, TheVariants.{Running, Suspended}}, Calls.{state_in_word, named, is_ready}}
 use Rattle.hsm.specs.States.{HartState, stopped, start_pending, started, suspended, awaits, Says, is_outside, is_running, is_suspended, IsAt, is_stopped, grant, entry, begin}
-use Rattle.hsm.specs.Calls.{state_in_word, named, is_ready}
 
 -- ---- states and stages
 pub runs_settled : (z : HartState) → IsAt z Running → (a o : ℕ) → awaits z a o ≡ 0

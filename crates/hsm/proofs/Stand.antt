@@ -2,15 +2,10 @@
 use Rattle.std.proofs.Common.{◌≡◌, ◌≢◌, ◌⊎◌, ℕ, List, [], ◌∷◌, refl, sym, ◌∙◌, subst, ⊎_elim, inl, inr, eq-eqb, ne_eqb}
 use mathlib.Core.Logic.{dite}
 use native.Mathlib.Decide.{ℕ_discrete}
-use Rattle.hsm.specs.declared.view.Stage.{Stage}
-use Rattle.hsm.specs.declared.view.Stage.TheVariants.{Out, Running, Suspended, Quiet}
-use Rattle.hsm.specs.declared.view.Action.{Action}
-use Rattle.hsm.specs.Words.{HartView, HartSeatView}
-use Rattle.hsm.specs.States.{IsBetweenCalls}
-use Rattle.hsm.specs.Rule.{stands}
-use Rattle.hsm.specs.declared.state.State.{State}
-use Rattle.hsm.specs.declared.state.State.TheVariants as codes
+use Rattle.hsm.specs.{declared.view.{Stage.{Stage, TheVariants.{Out, Running, Suspended, Quiet}}, Action.Action}, States.IsBetweenCalls}
+use Rattle.hsm.specs.{Words.{HartView, HartSeatView}, Rule.stands, declared.state.State.State}
 use Rattle.hsm.specs.Calls.{stage_of, KeepsAll, IsOwnStatus, StandsBy}
+use Rattle.hsm.specs.declared.state.State.TheVariants as codes
 use Rattle.tallies.specs.Notes.{noted, HasNoted}
 
 stands_noted : (h : ℕ) (st st' : Stage) (p : ℕ) (x : Action) (vs : List HartView) → stands h st vs → stands h st' (noted h st' p x vs)

@@ -4,16 +4,10 @@ use Rattle.std.specs.Int.{bit_at}
 use mathlib.Core.Logic.{dite}
 use native.Mathlib.Decide.{ℕ_discrete}
 use Rattle.tallies.specs.Notes.{noted, HasNoted}
-use Rattle.hsm.specs.declared.view.Stage.{Stage}
-use Rattle.hsm.specs.declared.view.Stage.TheVariants.{Running, Claiming, Half, Stored}
-use Rattle.hsm.specs.declared.view.Action.{Action}
-use Rattle.hsm.specs.declared.view.Action.TheVariants.{Claimed, Wrote, Armed}
-use Rattle.hsm.specs.Words.{HartSeatView}
-use Rattle.hsm.specs.Rule.{claim_of, entry_of, did, stands}
+use Rattle.hsm.specs.{declared.view.{Stage.{Stage, TheVariants.{Running, Claiming, Half, Stored}}, Action.Action}, Words.HartSeatView}
+use Rattle.hsm.specs.{declared.view.Action.TheVariants.{Claimed, Wrote, Armed}, Rule.{claim_of, entry_of, did, stands}}
 use Rattle.hsm.specs.States.{HartState, stopped, start_pending, awaits, is_outside, IsAt, IsIn, Shows, Tells, change_at, is_stopped, grant}
-use Rattle.hsm.specs.Outcomes.{after_claim}
-use Rattle.hsm.proofs.Stand.{stands_after}
-use Rattle.hsm.proofs.Alone.{stands_once, shows_as, weight, others, shows_same}
+use Rattle.hsm.{specs.Outcomes.after_claim, proofs.{Stand.stands_after, Alone.{stands_once, shows_as, weight, others, shows_same}}}
 use Rattle.hsm.proofs.Stages.{stopped_of, taken_of, grant_taken}
 
 no_claim : (t a o found k b d : ℕ) → bit_at found t ≢ 0 → claim_of k b d (Claimed t a o found) ≡ 0

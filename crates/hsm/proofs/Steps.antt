@@ -5,18 +5,11 @@ use mathlib.Core.Logic.{dite}
 use mathlib.Core.Option.{some}
 use native.Mathlib.Decide.{ℕ_discrete}
 use lib.ListN.{get_elem?}
-use Rattle.hsm.specs.declared.view.Stage.{Stage}
-use Rattle.hsm.specs.declared.view.Stage.TheVariants.{Out, Loaded, Running, Claiming, Half, Stored}
-use Rattle.hsm.specs.declared.view.Action.{Action}
-use Rattle.hsm.specs.declared.view.Action.TheVariants.{Claimed, Wrote, Armed, Entered, Stopped}
-use Rattle.hsm.specs.Words.{HartView, HartSeatView, WordBits, Same}
-use Rattle.tallies.specs.Sums.{total}
+use Rattle.hsm.specs.declared.view.{Stage.{Stage, TheVariants.{Out, Loaded, Running, Claiming, Half, Stored}}, Action.Action}
+use Rattle.hsm.{specs.declared.view.Action.TheVariants.{Claimed, Wrote, Armed, Entered, Stopped}, proofs.Words.{Any, But, Leaves}}
+use Rattle.hsm.{specs.Words.{HartView, HartSeatView, WordBits, Same}, proofs.Next.{Place, carry, mine, under, after, next, in_flight_same}}
 use Rattle.hsm.specs.Rule.{Grants, granted, claim_of, entry_of, is_pending, in_flight, flights, Fits, Sound}
-use Rattle.tallies.proofs.Totals.{at_most_total}
-use Rattle.hsm.proofs.Words.{Any, But, Leaves}
-use Rattle.tallies.specs.Rules.{AreSeated}
-use Rattle.hsm.proofs.Next.{Place, carry, mine, under, after, next, in_flight_same}
-use Rattle.tallies.specs.Notes.{hart_notes}
+use Rattle.tallies.{specs.{Sums.total, Rules.AreSeated, Notes.hart_notes}, proofs.Totals.at_most_total}
 
 in_flight_other : (t u a o : ℕ) → t ≢ u → in_flight u (Claiming t a o) ≡ 0
 in_flight_other t u a o ne = rw (ne_eqb t u ne) refl

@@ -1,23 +1,17 @@
 -- What the view of a seat of all harts tells.
 use Rattle.std.proofs.Common.{◌≡◌, ◌≢◌, ◌⊎◌, ⊎_elim, inl, inr, ℕ, ◌+◌, ◌-◌, ◌*◌, ◌<◌, ◌≤◌, Bool, true, false, if◌then◌else◌, eqb, [], refl, sym, ap, ◌∙◌, subst, arith, eq-eqb, ne_eqb}
-use Rattle.std.specs.Prelude.{slice_index}
-use Rattle.std.specs.Int.{bit_at}
+use Rattle.std.specs.{Prelude.slice_index, Int.bit_at}
 use mathlib.Core.Logic.{dite}
 use mathlib.Core.Option.{some, some-injective}
 use native.Mathlib.Decide.{ℕ_discrete}
 use lib.ListN.{get_elem?}
 use Rattle.atomic_table.specs.Table.{State}
-use Rattle.tallies.specs.Sums.{total}
-use Rattle.tallies.proofs.Totals.{total_none, total_alone, two_at_most_total, at_most_total}
-use Rattle.hsm.specs.Words.{WordBits, word_bits, HartView, HartSeatView}
-use Rattle.hsm.specs.declared.view.Stage.{Stage}
+use Rattle.tallies.{specs.Sums.total, proofs.{Totals.{total_none, total_alone, two_at_most_total, at_most_total}, Noted.is_of_same}}
+use Rattle.tallies.{proofs.Rules.{under_at, others_empty}, specs.Notes.{hart_notes, is_of, seats}}
+use Rattle.hsm.{specs.{Words.{WordBits, word_bits, HartView, HartSeatView}, declared.view.Stage.Stage}, proofs.Next.{place, mine}}
 use Rattle.hsm.specs.declared.view.Stage.TheVariants.{Out, Ready, Addressed, Loaded, Running, Claiming, Half, Stored, Suspended, Quiet}
 use Rattle.hsm.specs.Rule.{IsSite, Grants, claim_of, entry_of, did, is_pending, in_flight, flights, Fits, HartInvariant, stands}
 use Rattle.hsm.specs.States.{HartState, stopped, start_pending, started, suspended, awaits, Says, is_outside, is_running, is_suspended, IsAt, IsIn, IsBetweenCalls, Shows, Tells}
-use Rattle.tallies.proofs.Noted.{is_of_same}
-use Rattle.tallies.proofs.Rules.{under_at, others_empty}
-use Rattle.hsm.proofs.Next.{place, mine}
-use Rattle.tallies.specs.Notes.{hart_notes, is_of, seats}
 
 pub unpended : (p q : Bool) (n : ℕ) → n ≡ 0 → ◌≡◌ {A = ℕ} (if p then (if q then n else 0) else 0) 0
 unpended true true n e = e

@@ -1,7 +1,6 @@
 -- What a step on a word leaves of the bits and of the argument words.
 use Rattle.std.proofs.Common.{◌≡◌, ◌≢◌, ℕ, ◌+◌, ◌*◌, ◌%◌, ◌^◌, ◌<◌, ◌≤◌, min, List, length, sym, ap, ◌∙◌, arith, w64, get_or-set_same, get_or-set_other}
-use Rattle.std.specs.Prelude.{slice_index, slice_set, bit_or, bit_and}
-use Rattle.std.specs.Int.{bit_at, bit_not}
+use Rattle.std.specs.{Prelude.{slice_index, slice_set, bit_or, bit_and}, Int.{bit_at, bit_not}}
 use Rattle.std.proofs.lemmas.Nat.Bits.{bit_at_set_same, bit_at_set_other, bit_at_clear_same, bit_at_clear_other, bit_at-lt, bit_at-zero, bit_at_or, bit_at_and, bit_at_not}
 use mathlib.Core.Logic.{dite}
 use native.Mathlib.Decide.{ℕ_discrete}

@@ -1,12 +1,9 @@
 -- How many calls of the disk a read makes: two for each place, and fewer where it is refused.
 use Rattle.std.proofs.Common.{◌≡◌, ◌∙◌, zero, suc, ℕ, ◌+◌, ◌*◌, ◌<◌, ◌≤◌, List, [], ◌∷◌, length, slice_index, sum, take, sym, ap, arith}
-use Rattle.std.proofs.lemmas.List.{take_all}
-use Rattle.std.proofs.lemmas.List.Sums.{sum_by-cons}
-use Rattle.board_model.specs.Shapes.{Size}
+use Rattle.std.proofs.lemmas.List.{take_all, Sums.sum_by-cons}
+use Rattle.board_model.specs.{Shapes.Size, declared.refusal.Refusal.{Refusal, TheVariants.{Device, BadImage}}}
 use Rattle.disk.specs.Facts.{counted, most}
 use Rattle.layout.specs.Records.{AreCounts}
-use Rattle.board_model.specs.declared.refusal.Refusal.{Refusal}
-use Rattle.board_model.specs.declared.refusal.Refusal.TheVariants.{Device, BadImage}
 use Rattle.image.specs.Refusals.{StopsWithin}
 
 pub calls_none : (n : ℕ) → n ≤ most → n ≡ counted n (2 * 0)

@@ -1,13 +1,9 @@
 -- Reads of a disk, one after another.
 use Rattle.std.proofs.Common.{◌≡◌, ◌∙◌, ◌≤◌, ◌+◌, ◌*◌, ℕ, Result, Ok, Err, OnOk, IfErr, refl, ap, subst, arith}
-use Rattle.board_model.specs.declared.refusal.Refusal.{Refusal}
-use Rattle.board_model.specs.declared.refusal.Refusal.TheVariants.{Device, BadImage}
-use Rattle.disk.specs.Facts.{Facts, Lent, Stays, counted, most}
-use Rattle.disk.specs.FaultState.{FaultState, Cause}
-use Rattle.disk.specs.Calls.{MakesCalls}
+use Rattle.board_model.specs.declared.refusal.Refusal.{Refusal, TheVariants.{Device, BadImage}}
+use Rattle.disk.specs.{Facts.{Facts, Lent, Stays, counted, most}, FaultState.{FaultState, Cause}, Calls.MakesCalls}
 use Rattle.disk.specs.Moments.{passes_none, passes_stays}
-use Rattle.image.specs.Refusals.{ReadRefused, StopsWithin, ReadsOn, HasRead}
-use Rattle.image.proofs.Calls.{calls_none, calls_more, stops_after}
+use Rattle.image.{specs.Refusals.{ReadRefused, StopsWithin, ReadsOn, HasRead}, proofs.Calls.{calls_none, calls_more, stops_after}}
 
 pub reads_none : (a : Facts) (m : FaultState) → a.lent.lanes ≡ 0 → a.calls ≤ most → HasRead 0 a m a m
 reads_none a m idle few = record {

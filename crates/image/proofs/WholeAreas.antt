@@ -1,21 +1,14 @@
 -- An area is whole in plain words exactly where it is so by the test.
 use Rattle.std.proofs.Common.{◌≡◌, ◌≢◌, ◌∙◌, ◌↔◌, if◌then◌else◌, refl, inl, inr, zero, suc, true, false, Bool, ℕ, ◌+◌, ◌*◌, ◌<◌, ◌≤◌, ◌^◌, List, [], ◌∷◌, ◌++◌, length, slice_index, take, drop, sym, ap, subst, arith, length-take, length-drop, length-append}
-use Rattle.std.proofs.lemmas.Bool.{cases_eq, cases_lt, and_parts, and_from, eq-eqb, ne_eqb}
+use Rattle.std.{proofs.lemmas.Bool.{cases_eq, cases_lt, and_parts, and_from, eq-eqb, ne_eqb}, specs.List.flat_map}
 use Rattle.std.proofs.lemmas.List.{append-nil, take_all, take-append-le, drop-append-le, get_or-take, get_or-drop, get_or_past}
-use Rattle.std.specs.List.{flat_map}
 use Rattle.board_model.specs.Shapes.{Size, IsSize, area_sectors_of}
 use Rattle.disk.specs.Facts.{Content, sector}
-use Rattle.layout.specs.Places.{IsPlaceHead}
-use Rattle.layout.specs.Records.{AreCounts}
-use Rattle.layout.proofs.SpelledPlaces.{page_in as page_of_head}
-use Rattle.image.specs.Areas.{IsArea, IsWholeArea}
+use Rattle.layout.{specs.{Places.IsPlaceHead, Records.AreCounts}, proofs.{SpelledPlaces.{page_in as page_of_head}}}
+use Rattle.image.{specs.Areas.{IsArea, IsWholeArea}, proofs.{Heads.{head_from, head_true, made}, Lanes.place_within, Taking.not_whole}}
 use Rattle.image.specs.Images.{numbers_below, lane_places, places_in, page_of, is_head, are_heads, pages_in, times, each_once, is_whole, page_behind, page_in, memory_of}
-use Rattle.image.proofs.Heads.{head_from, head_true, made}
-use Rattle.image.proofs.Lanes.{place_within}
 use Rattle.image.proofs.Lists.{Each, place_at, each_place, heads_each, often, often_append, often_one, often_none, one_in_all, once_each, each_once_at}
-use Rattle.image.proofs.Taking.{not_whole}
-use Rattle.image.proofs.Whole.{flat_append}
-use Rattle.image.proofs.Written.{count_small}
+use Rattle.image.proofs.{Whole.flat_append, Written.count_small}
 
 -- what holds of each place holds of each by its lane and number
 split_each : (P : ℕ → Type 0) (xs ys : List ℕ) → Each P (xs ++ ys) → Each P xs × Each P ys

@@ -1,17 +1,12 @@
 -- Lanes of an area are lent, come back, and are made durable.
 use Rattle.std.proofs.Common.{◌≡◌, ◌∙◌, ◌≤◌, ◌<◌, ℕ, ◌+◌, ◌*◌, List, Ok, Err, refl, sym, ap, subst, arith}
-use Rattle.board_model.specs.Shapes.{Size, places_of, area_sectors_of, sectors_of}
-use Rattle.board_model.specs.declared.refusal.Refusal.{Refusal}
+use Rattle.board_model.specs.{Shapes.{Size, places_of, area_sectors_of, sectors_of}, declared.refusal.Refusal.Refusal}
 use Rattle.board_model.specs.declared.refusal.Refusal.TheVariants.{Device, Memory}
-use Rattle.disk.specs.Calls.{MakesCalls, NoCall}
+use Rattle.disk.specs.{Calls.{MakesCalls, NoCall}, FaultState.{FaultState, Cause, CausedInLanes}, Moments.passes_stays}
 use Rattle.disk.specs.Facts.{Content, Facts, LaneFacts, Lent, InRow, Joined, Only, Passes, Stays, Torn, lane_failures, nothing, counted, most}
-use Rattle.disk.specs.FaultState.{FaultState, Cause, CausedInLanes}
-use Rattle.disk.specs.Moments.{passes_stays}
 use Rattle.layout.specs.Sizes.{area_start, lane_sectors}
-use Rattle.savers.specs.Saved.{SamePlaces}
-use Rattle.savers.specs.Saves.{SaveRefused}
-use Rattle.image.specs.Refusals.{WriteRefused, WritesOn}
-use Rattle.image.proofs.Written.{lanes_of}
+use Rattle.savers.specs.{Saved.SamePlaces, Saves.SaveRefused}
+use Rattle.image.{specs.Refusals.{WriteRefused, WritesOn}, proofs.Written.lanes_of}
 
 abbrev row : ℕ → ℕ → ℕ → Lent
 row first lanes each = record { first = first; lanes = lanes; each = each }

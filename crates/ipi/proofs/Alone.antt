@@ -1,20 +1,14 @@
 -- What the calls are with the one seat of all harts.
 use Rattle.std.proofs.Common.{◌≡◌, ◌≢◌, ◌⊎◌, ◌↔◌, ℕ, ◌+◌, ◌-◌, ◌%◌, ◌^◌, ◌<◌, ◌≤◌, Bool, true, false, not, true≢false, IsTrue, if◌then◌else◌, ◌==◌, eqb, refl, sym, ap, ◌∙◌, subst, ⊎_elim, inl, inr, arith, eq-eqb, ne_eqb, ◌/◌, div-add-mod'}
-use Rattle.std.specs.Int.{bit_at}
-use Rattle.std.proofs.lemmas.Nat.Bits.{bit_at-lt, bit_at_cat_low, bit_at_above, same_from_bits}
-use Rattle.std.proofs.Math.Nat.{mod-lt}
+use Rattle.std.{specs.Int.bit_at, proofs.{lemmas.Nat.Bits.{bit_at-lt, bit_at_cat_low, bit_at_above, same_from_bits}, Math.Nat.mod-lt}}
 use Rattle.std.proofs.Math.Pow.{pow_pos, pow-lt}
 use mathlib.Core.Logic.{dite}
 use native.Mathlib.Decide.{ℕ_discrete, dec_le}
-use Rattle.tallies.specs.Sums.{total}
-use Rattle.ipi.specs.declared.view.IpiAction.{IpiAction}
-use Rattle.ipi.specs.declared.view.IpiAction.TheVariants.{Raised, Took, Looked}
-use Rattle.tallies.specs.Notes.{seat_notes, is_of, seats, noted}
+use Rattle.tallies.{specs.{Sums.total, Notes.{seat_notes, is_of, seats, noted}}, proofs.Noted.{numbered, seats_noted}}
+use Rattle.ipi.{specs.declared.view.IpiAction.{IpiAction, TheVariants.{Raised, Took, Looked}}, proofs.Keeps.weigh_noted}
 use Rattle.ipi.specs.Ledger.{raise_of, take_of, raised, taken, HasNoted, HasEveryHart, InRange, PendingSeatView}
 use Rattle.ipi.specs.Pairs.{IsPending, SameHarts, Shows, with_pair, without_target}
 use Rattle.board_model.specs.HartSets.{Has}
-use Rattle.tallies.proofs.Noted.{numbered, seats_noted}
-use Rattle.ipi.proofs.Keeps.{weigh_noted}
 
 module _ (harts by : ℕ) (c : PendingSeatView) (whole : HasEveryHart harts c) (lt : by < harts) where
   sits : 0 < seats by c

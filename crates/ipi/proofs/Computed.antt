@@ -1,14 +1,10 @@
 -- A view of all harts shows one set of pairs, which `pair_in` computes.
 use Rattle.std.proofs.Common.{rules, ◌≡◌, ◌≢◌, ◌↔◌, ℕ, zero, suc, ◌<◌, ◌≤◌, Bool, true, false, true≢false, IsTrue, List, [], ◌∷◌, map, length, refl, sym, ap, ◌∙◌, subst, arith, ⊎_elim, eq-eqb, ne_eqb}
-use Rattle.std.specs.Prelude.{nat_lt, get_or, slice_set}
-use Rattle.std.proofs.lemmas.Bool.{cases_lt}
+use Rattle.std.{specs.Prelude.{nat_lt, get_or, slice_set}, proofs.lemmas.{Bool.cases_lt, Grind.get_or-set_at}}
 use Rattle.std.proofs.lemmas.List.{length-set, length-map, get_or-set_same, get_or-set_other}
-use Rattle.std.proofs.lemmas.Grind.{get_or-set_at}
 use mathlib.Core.Logic.{dite}
 use native.Mathlib.Decide.{ℕ_discrete}
-use Rattle.tallies.specs.Seats.{numbers_from}
-use Rattle.tallies.proofs.Seatings.{map_all, at_all, total_beyond, total_once}
-use Rattle.tallies.specs.Notes.{numbers, is_of}
+use Rattle.tallies.{specs.{Seats.numbers_from, Notes.{numbers, is_of}}, proofs.Seatings.{map_all, at_all, total_beyond, total_once}}
 use Rattle.ipi.specs.Ledger.{raised_by, raised, taken, HasEveryHart, PendingView, PendingSeatView}
 use Rattle.ipi.specs.Pairs.{IsPending, Shows, with_pair, without_target}
 use Rattle.ipi.specs.Views.{pair_in, pairs_in, row_of, pair_at, AreRows, ArePairs, pairs_with, pairs_without}

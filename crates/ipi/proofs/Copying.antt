@@ -1,18 +1,12 @@
 -- A table that is made of another's pairs, pair by pair.
 use Rattle.std.proofs.Common.{◌≡◌, ◌↔◌, ℕ, ◌+◌, ◌<◌, ◌≤◌, Bool, false, true≢false, IsTrue, IfSome, Option, Some, List, [], get_or, sym, ap, subst, ◌∙◌, arith}
-use Rattle.std.specs.Int.{bit_at}
-use Rattle.std.proofs.lemmas.Nat.Bits.{bit_at-lt}
-use Rattle.std.proofs.lemmas.List.{get_or_past}
+use Rattle.std.{specs.Int.bit_at, proofs.lemmas.{Nat.Bits.bit_at-lt, List.get_or_past}}
 use mathlib.Core.Logic.{dite}
 use native.Mathlib.Decide.{ℕ_discrete, dec_le}
-use Rattle.tallies.specs.Seats.{numbers_from}
-use Rattle.tallies.specs.Notes.{numbers}
-use Rattle.ipi.specs.Ledger.{PendingSeatView, raised, taken}
-use Rattle.board_model.specs.HartSets.{Has}
-use Rattle.ipi.specs.Pairs.{Shows}
-use Rattle.ipi.specs.Views.{pair_in, pairs_in, pair_at, ArePairs}
-use Rattle.ipi.specs.Copies.{IsMade}
+use Rattle.tallies.specs.{Seats.numbers_from, Notes.numbers}
+use Rattle.ipi.specs.{Ledger.{PendingSeatView, raised, taken}, Pairs.Shows, Views.{pair_in, pairs_in, pair_at, ArePairs}, Copies.IsMade}
 use Rattle.ipi.proofs.Computed.{lt_told, seat_determines_pairs, same_bool, in_range, shows_as, shows_seen, whole_of}
+use Rattle.board_model.specs.HartSets.{Has}
 
 -- the senders in the word of a target are those of its pairs
 pub senders_are : (target found : ℕ) (c : PendingSeatView) → ((sender : ℕ) → raised sender target c ≡ taken sender target c + bit_at found sender) → (sender : ℕ) → Has sender found ↔ IsTrue (pair_in c sender target)

@@ -1,18 +1,12 @@
 -- The table at the start, and seats that are parted and joined.
 use Rattle.std.proofs.Common.{◌≡◌, ℕ, zero, suc, ◌<◌, false, true≢false, eqb, List, [], ◌∷◌, ◌++◌, length, set, refl, sym, ap, arith}
-use Rattle.std.specs.Prelude.{slice_index}
-use Rattle.std.specs.Int.{bit_at}
-use Rattle.std.proofs.lemmas.Nat.Bits.{bit_at-zero}
+use Rattle.std.{specs.{Prelude.slice_index, Int.bit_at}, proofs.lemmas.Nat.Bits.bit_at-zero}
 use Rattle.atomic_table.specs.Table.{Splits, Joins, opening}
-use Rattle.ipi.specs.declared.view.IpiAction.{IpiAction}
-use Rattle.tallies.specs.Notes.{first_hart, other_harts, together, nobody, opening_from}
-use Rattle.tallies.specs.Sums.{total}
+use Rattle.ipi.{specs.{declared.view.IpiAction.IpiAction, Pairs.Shows}, proofs.Keeps.{nothing, weight}}
 use Rattle.ipi.specs.Ledger.{raise_of, take_of, raised_by, taken_by, IsOwed, PendingInvariant, reading, first_word, opening_pending_view, PendingView, PendingSeatView}
-use Rattle.ipi.specs.Pairs.{Shows}
-use Rattle.tallies.proofs.Noted.{parted, opens_seated}
-use Rattle.tallies.proofs.Rules.{each_split, each_join, each_open, logged_split, logged_join, logged_open}
+use Rattle.tallies.specs.{Notes.{first_hart, other_harts, together, nobody, opening_from}, Sums.total}
+use Rattle.tallies.proofs.{Noted.{parted, opens_seated}, Rules.{each_split, each_join, each_open, logged_split, logged_join, logged_open}}
 use Rattle.tallies.proofs.Totals.{total_split, total_join, total-append}
-use Rattle.ipi.proofs.Keeps.{nothing, weight}
 
 -- ---- the start
 fresh_weight : (key : ℕ) (g : IpiAction → ℕ) (first n : ℕ) → total (weight key g) (opening_from (λ _. tt) first n) ≡ 0

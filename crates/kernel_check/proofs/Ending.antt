@@ -1,24 +1,13 @@
 -- What an end shows of which the whole memory is known.
 use Rattle.std.proofs.Common.{Bool, true, Result, IfOk, inr, Option, Some, IfSome, subst, ◌≡◌, ◌∙◌, ◌≤◌, ◌+◌, ◌-◌, ℕ, List, [], ◌∷◌, ◌++◌, Vec, Global, drop, take, ap, arith, refl, sym}
-use Rattle.std.specs.Prelude.{slice_range}
-use Rattle.std.proofs.lemmas.List.{drop-take, take-take}
-use Rattle.std.proofs.lemmas.Result.{IfOk-weaker}
-use Rattle.std.proofs.lemmas.List.Elements.{All-head, All-tail}
-use Rattle.board_model.specs.declared.durable.Reason.{Reason}
-use Rattle.model_board.specs.Boards.{Board, On, Off, Ended}
-use Rattle.model_board.specs.Events.{IsEnd}
-use Rattle.board_space.specs.Shown.{Shows}
-use Rattle.board_space.specs.Space.{Asked, Happens, start_of}
-use Rattle.board_space.specs.declared.outcomes.Outcome.{Outcome}
+use Rattle.std.{specs.Prelude.slice_range, proofs.lemmas.{List.{drop-take, take-take, Elements.{All-head, All-tail}}, Result.IfOk-weaker}}
+use Rattle.board_model.specs.declared.{durable.Reason.Reason, refusal.Refusal.Refusal}
+use Rattle.model_board.specs.{Boards.{Board, On, Off, Ended}, Events.IsEnd}
+use Rattle.board_space.specs.{Shown.Shows, Space.{Asked, Happens, start_of}, declared.outcomes.Outcome.{Outcome, TheVariants.{Rests, Ends}}}
 use Rattle.state_space.specs.Orders.{Leads}
-use Rattle.board_space.specs.declared.outcomes.Outcome.TheVariants.{Rests, Ends}
-use Rattle.kernel_check.specs.Failures.{AreOthers, AreSame, Differ}
-use Rattle.kernel_check.specs.declared.facts.EndShown.{EndShown}
-use Rattle.board_model.specs.declared.refusal.Refusal.{Refusal}
-use Rattle.kernel_check.specs.Shown.{AreIn, IsIn, looked}
-use Rattle.kernel_check.specs.Tells.{Comes, EndsWith, ShownBy}
+use Rattle.kernel_check.specs.{Failures.{AreOthers, AreSame, Differ}, declared.facts.EndShown.EndShown, Shown.{AreIn, IsIn, looked}}
+use Rattle.kernel_check.specs.{Tells.{Comes, EndsWith, ShownBy}, declared.looks.Look.Look}
 use Rattle.kernel_check.specs.declared.facts.EndShown.TheVariants as shown
-use Rattle.kernel_check.specs.declared.looks.Look.{Look}
 
 -- bytes among the first `ram`
 part_in : (memory : List ℕ) (ram start bytes : ℕ) → start + bytes ≤ ram

@@ -1,21 +1,13 @@
 -- The states of harts, by the copy of their table.
 use Rattle.std.proofs.Common.{◌≡◌, ◌∙◌, ◌<◌, ◌≤◌, ℕ, Option, Some, false, length, take, get_or, ap, arith, refl, subst, sym}
 use Rattle.std.proofs.lemmas.List.{get_or-map, get_or-take, get_or_read, length-take, length-take-le}
-use Rattle.hart.specs.Csrs.{csr_number, csr_read}
-use Rattle.hart.specs.State.{ArchState}
-use Rattle.hart.specs.declared.csr.Csr.{Csr}
-use Rattle.hart.specs.declared.csr.Csr.TheVariants.{Stvec}
-use Rattle.hsm.specs.Copies.{state_told}
-use Rattle.hsm.specs.States.{stopped}
-use Rattle.hsm.specs.declared.standings.Standing.{Standing}
+use Rattle.hart.specs.{Csrs.{csr_number, csr_read}, State.ArchState, declared.csr.Csr.{Csr, TheVariants.Stvec}}
+use Rattle.hsm.specs.{Copies.state_told, States.stopped, declared.standings.Standing.Standing}
 use Rattle.hsm.specs.declared.standings.Standing.TheVariants as told
 use Rattle.machine.specs.Machine.{Machine, state_at}
-use Rattle.model_board.specs.Boards.{Board, Life, On, Off, Ended}
-use Rattle.model_board.specs.Plain.{Sized, status_of}
-use Rattle.model_board.specs.Rests.{Fits, IsCopy, IsRest, table_copied}
+use Rattle.model_board.specs.{Boards.{Board, Life, On, Off, Ended}, Plain.{Sized, status_of}, Rests.{Fits, IsCopy, IsRest, table_copied}}
+use Rattle.model_board.specs.declared.{rests.Rest.Rest, tables.TableCopy.TableCopy}
 use Rattle.model_board.specs.declared.powers.Status.TheVariants as statuses
-use Rattle.model_board.specs.declared.rests.Rest.{Rest}
-use Rattle.model_board.specs.declared.tables.TableCopy.{TableCopy}
 use Rattle.kernel_check.specs.Failures.{IsOnAs}
 
 -- the copy has a place for each hart

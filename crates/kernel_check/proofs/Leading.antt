@@ -1,7 +1,6 @@
 -- Events that lead on.
 use Rattle.std.proofs.Common.{◌≡◌, ℕ, List, [], ◌∷◌, ◌++◌, refl, subst}
-use Rattle.model_board.specs.Boards.{Board}
-use Rattle.model_board.specs.Events.{Event}
+use Rattle.model_board.specs.{Boards.Board, Events.Event}
 use Rattle.state_space.specs.Orders.{Leads, Runs}
 use Rattle.board_space.specs.Space.{Asked, Happens, number_of}
 

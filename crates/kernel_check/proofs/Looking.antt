@@ -1,9 +1,7 @@
 -- Looks, one after the other.
 use Rattle.std.proofs.Common.{◌≡◌, ◌∙◌, ℕ, ◌+◌, ◌<◌, List, [], ◌∷◌, ◌++◌, length, get_or, take, drop, refl, sym, ap, append_assoc, append-nil}
-use Rattle.std.specs.Prelude.{slice_range}
-use Rattle.std.proofs.lemmas.List.{drop_more, take_more}
-use Rattle.kernel_check.specs.Shown.{looked}
-use Rattle.kernel_check.specs.declared.looks.Look.{Look}
+use Rattle.std.{specs.Prelude.slice_range, proofs.lemmas.List.{drop_more, take_more}}
+use Rattle.kernel_check.specs.{Shown.looked, declared.looks.Look.Look}
 
 -- a list from an element on begins with it
 pub drop_at : (looks : List Look) (i : ℕ) (look : Look) → i < length looks → look ≡ get_or looks i look → drop i looks ≡ look ∷ drop (i + 1) looks

@@ -2,9 +2,7 @@
 use Rattle.std.proofs.Common.{◌≡◌, ◌∙◌, ℕ, ◌+◌, ◌<◌, List, [], ◌∷◌, ◌++◌, Bor, Option, append_assoc, ap, arith, get_or, inr, length, map, subst, sym, take}
 use Rattle.std.proofs.lemmas.List.{map-append, take_more}
 use Rattle.elf_image.specs.declared.kernel_file.Elf.{Elf}
-use Rattle.kernel_check.specs.Looks.{AreLooks, AreLooksOf, IsLookOf, IsOwnLook}
-use Rattle.kernel_check.specs.Options.{AreForms}
-use Rattle.kernel_check.specs.declared.given.LookWord.{LookWord}
+use Rattle.kernel_check.specs.{Looks.{AreLooks, AreLooksOf, IsLookOf, IsOwnLook}, Options.AreForms, declared.given.LookWord.LookWord}
 use Rattle.kernel_check.specs.declared.looks.Look.{Look}
 
 -- the look of one word more

@@ -2,22 +2,11 @@
 use Rattle.std.proofs.Common.{◌≡◌, ℕ, zero, suc, List, [], ◌∷◌, All, Bool, true, false, Option, None, Some, arith, length, refl, subst}
 use Rattle.std.proofs.lemmas.List.Elements.{All-head}
 use Rattle.model_board.specs.Boards.{Board, On, Off, Ended}
-use Rattle.board_space.specs.Few.{AskedOrders}
-use Rattle.board_space.specs.Space.{Asked}
-use Rattle.board_space.specs.declared.bounds.Bound.{Bound}
-use Rattle.board_space.specs.declared.bounds.Bound.TheVariants.{Unbounded, Preemptions, PowerOns}
-use Rattle.kernel_check.specs.Failures.{CanFail}
-use Rattle.kernel_check.specs.Says.{Says, SaysAs}
-use Rattle.kernel_check.specs.Tells.{EveryOrder, Holds, HoldsAs, IsOnWith}
-use Rattle.kernel_check.specs.Verdicts.{fine_by, verdict_of}
-use Rattle.kernel_check.specs.declared.facts.EndKind.{EndKind}
-use Rattle.kernel_check.specs.declared.facts.EndShown.{EndShown}
-use Rattle.kernel_check.specs.declared.facts.Failure.{Failure}
-use Rattle.kernel_check.specs.declared.facts.Stop.{Stop}
-use Rattle.kernel_check.specs.declared.facts.Verdict.{Verdict}
+use Rattle.board_space.specs.{Few.AskedOrders, Space.Asked, declared.bounds.Bound.{Bound, TheVariants.{Unbounded, Preemptions, PowerOns}}}
+use Rattle.kernel_check.specs.{Failures.CanFail, Says.{Says, SaysAs}, Tells.{EveryOrder, Holds, HoldsAs, IsOnWith}}
+use Rattle.kernel_check.specs.{Verdicts.{fine_by, verdict_of}, declared.facts.{EndKind.EndKind, EndShown.EndShown, Failure.Failure}}
+use Rattle.kernel_check.specs.declared.{facts.{Stop.Stop, Verdict.Verdict}, given.FailureKind.FailureKind, looks.Look.Look}
 use Rattle.kernel_check.specs.declared.facts.Verdict.TheVariants as verdicts
-use Rattle.kernel_check.specs.declared.given.FailureKind.{FailureKind}
-use Rattle.kernel_check.specs.declared.looks.Look.{Look}
 
 on_both : (P Q R : List ℕ → Type 0) → ((memory : List ℕ) → P memory → Q memory → R memory) → (b : Board)
     → IsOnWith P b → IsOnWith Q b → IsOnWith R b

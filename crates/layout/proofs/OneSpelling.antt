@@ -1,16 +1,9 @@
 -- A sector is the spelling of one record alone.
 use Rattle.std.proofs.Common.{◌≡◌, ◌∙◌, ℕ, List, [], ◌∷◌, Option, Some, None, length, slice_index, refl, sym, ap, arith}
-use Rattle.board_model.specs.Shapes.{Size}
-use Rattle.board_model.specs.Views.{reason_number}
-use Rattle.board_model.specs.declared.durable.Reason.{Reason}
-use Rattle.board_model.specs.declared.durable.Reason.TheVariants.{NoReason, SystemFailure}
-use Rattle.layout.specs.Records.{version_number, presence_of, IsRecord}
-use Rattle.layout.specs.declared.records.Version.{Version}
-use Rattle.layout.specs.declared.records.Version.TheVariants.{One, Two}
+use Rattle.board_model.specs.{Shapes.Size, Views.reason_number, declared.durable.Reason.{Reason, TheVariants.{NoReason, SystemFailure}}}
 use Rattle.board_model.specs.declared.durable.Trial.{Trial}
-use Rattle.layout.specs.Read.{StandsIn}
-use Rattle.layout.specs.declared.saved.Saved.{Saved}
-use Rattle.layout.specs.declared.records.Record.{Record}
+use Rattle.layout.specs.{Records.{version_number, presence_of, IsRecord}, declared.records.Version.{Version, TheVariants.{One, Two}}}
+use Rattle.layout.specs.{Read.StandsIn, declared.{saved.Saved.Saved, records.Record.Record}}
 use Rattle.layout.proofs.SpelledRecords.{version_in, slot_in, reason_in, presence_in, next_in, image_in, record_is, no_trial, some_trial}
 
 four : (xs : List ℕ) → length xs ≡ 4 → xs ≡ slice_index xs 0 ∷ slice_index xs 1 ∷ slice_index xs 2 ∷ slice_index xs 3 ∷ []

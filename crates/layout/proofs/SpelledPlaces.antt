@@ -1,10 +1,8 @@
 -- What stands in a place header is what was put there.
 use Rattle.std.proofs.Common.{◌≡◌, ◌∙◌, ℕ, List, [], ◌∷◌, ◌++◌, refl, sym, ap, append_assoc}
 use Rattle.board_model.specs.Shapes.{Size}
-use Rattle.layout.specs.Fields.{number_bytes, fields_bytes, number_at}
-use Rattle.layout.specs.Places.{place_fields, IsPlaceHead}
-use Rattle.layout.specs.declared.places.PlaceHead.{PlaceHead}
-use Rattle.layout.proofs.Spellings.{number_at-field}
+use Rattle.layout.specs.{Fields.{number_bytes, fields_bytes, number_at}, Places.{place_fields, IsPlaceHead}}
+use Rattle.layout.{specs.declared.places.PlaceHead.PlaceHead, proofs.Spellings.number_at-field}
 
 pub filled_place : (head : PlaceHead) → (([] ++ number_bytes 4 head.page) ++ number_bytes 4 0) ++ number_bytes 8 head.serial ≡ fields_bytes (place_fields head)
 unfolding fields_bytes number_bytes

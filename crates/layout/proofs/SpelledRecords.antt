@@ -1,16 +1,9 @@
 -- What stands in a record is what was put there.
 use Rattle.std.proofs.Common.{◌≡◌, ◌∙◌, ℕ, ◌+◌, ◌^◌, ◌<◌, ◌≤◌, List, [], ◌∷◌, ◌++◌, Option, Some, None, length, slice_index, replicate, refl, ap, append_assoc, arith, Bool, true, false, true≢false, sym}
-use Rattle.board_model.specs.Shapes.{Size}
-use Rattle.board_model.specs.Views.{reason_number}
-use Rattle.board_model.specs.declared.durable.Reason.{Reason}
-use Rattle.layout.specs.Fields.{Field, FitAll, number_bytes, fields_bytes, width_of, sector_of, number_at}
+use Rattle.board_model.specs.{Shapes.Size, Views.reason_number, declared.durable.{Reason.Reason, Trial.Trial}}
+use Rattle.layout.specs.{Fields.{Field, FitAll, number_bytes, fields_bytes, width_of, sector_of, number_at}, Read.StandsIn}
 use Rattle.layout.specs.Records.{selected_by, gate_of, version_number, head_fields, saved_fields, no_saved_fields, image_fields, trial_fields, presence_of, IsSaved, IsRecord}
-use Rattle.layout.specs.Read.{StandsIn}
-use Rattle.layout.specs.declared.saved.Saved.{Saved}
-use Rattle.layout.specs.declared.records.Record.{Record}
-use Rattle.layout.specs.declared.records.Version.{Version}
-use Rattle.layout.specs.declared.records.Version.TheVariants.{Two}
-use Rattle.board_model.specs.declared.durable.Trial.{Trial}
+use Rattle.layout.specs.declared.{saved.Saved.Saved, records.{Record.Record, Version.{Version, TheVariants.Two}}}
 use Rattle.layout.proofs.Spellings.{number_at-field}
 
 -- what stands after the beginning of a record

@@ -1,8 +1,7 @@
 -- A number that was written is the number that is read.
 use Rattle.std.proofs.Common.{◌≡◌, ◌∙◌, zero, suc, ℕ, ◌+◌, ◌-◌, ◌^◌, ◌<◌, List, [], ◌∷◌, ◌++◌, length, drop, replicate, refl, sym, ap, subst, append_assoc, length-append, arith}
 use Rattle.std.proofs.Math.Seq.{drop-append_seam}
-use Rattle.byteorder.specs.Endian.{little_number}
-use Rattle.byteorder.specs.Numbers.{little_number-reads_back, length-bytes_low_first}
+use Rattle.byteorder.specs.{Endian.little_number, Numbers.{little_number-reads_back, length-bytes_low_first}}
 use Rattle.board_model.specs.Shapes.{Size, board_size}
 use Rattle.layout.specs.Superblocks.{magic, HasMagic, IsSuperblock, size_fields}
 use Rattle.layout.specs.Fields.{Field, number_bytes, fields_bytes, width_of, sector_of, number_at}

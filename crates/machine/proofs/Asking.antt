@@ -1,32 +1,18 @@
 -- A hart that is told to stand at a durable call is STARTED.
-use Rattle.board_model.specs.declared.call_words.CallWords.{CallWords}
+use Rattle.board_model.specs.{declared.call_words.CallWords.CallWords, Shapes.Size}
 use Rattle.std.proofs.Common.{◌≡◌, ℕ, zero, suc, ◌<◌, Bool, true, false, List, Option, Some, None, Ok, Err, refl, sym, ap, ◌∙◌, subst, inl, inr}
-use Rattle.std.specs.Prelude.{length}
-use Rattle.std.proofs.lemmas.List.{get_or-set_same, length-set}
-use Rattle.board_model.specs.Shapes.{Size}
-use Rattle.hart.specs.State.{ArchState, never_started}
-use Rattle.hart.specs.Means.{Steps}
-use Rattle.hart.specs.declared.Outcome.{Outcome}
+use Rattle.std.{specs.Prelude.length, proofs.lemmas.List.{get_or-set_same, length-set}}
+use Rattle.hart.specs.{State.{ArchState, never_started}, Means.Steps, declared.Outcome.Outcome}
 use Rattle.hart.specs.declared.Outcome.TheVariants as outcomes
-use Rattle.hsm.specs.States.{HartState, stopped, start_pending, started, suspended}
-use Rattle.hsm.specs.Views.{listed}
+use Rattle.hsm.specs.{States.{HartState, stopped, start_pending, started, suspended}, Views.listed}
 use Rattle.sbi_abi.specs.Calls.{call_of}
 use Rattle.sbi_calls.specs.declared.requests.Request.TheVariants.{Value, Start, Stop, Status, Suspend, SuspendAfresh, Send, Command}
-use Rattle.sbi_calls.specs.Both.{TableState}
-use Rattle.sbi_calls.specs.Requests.{Checked, request_of}
-use Rattle.sbi_calls.specs.Answers.{row, Ends}
-use Rattle.sbi_calls.specs.declared.words.Turned.{Turned}
-use Rattle.sbi_calls.specs.declared.words.Turned.TheVariants.{Made, Durable}
-use Rattle.sbi_calls.specs.declared.words.Did.{Did}
-use Rattle.sbi_calls.specs.declared.words.Did.TheVariants.{Next}
+use Rattle.sbi_calls.specs.{Both.TableState, Requests.{Checked, request_of}, Answers.{row, Ends}, declared.words.{Turned.Turned, Did.Did}}
+use Rattle.sbi_calls.specs.declared.words.{Turned.TheVariants.{Made, Durable}, Did.TheVariants.Next}
 use Rattle.turns.specs.Turns.{Moment, has_pending, woken_turn, begun_by, Finishes, TurnAs, TurnOf}
-use Rattle.susp.specs.Dozes.{doze_of}
-use Rattle.susp.specs.declared.buses.Doze.{Doze}
-use Rattle.machine.specs.Machine.{Machine, hart_at}
+use Rattle.susp.specs.{Dozes.doze_of, declared.buses.Doze.Doze}
+use Rattle.machine.{specs.{Machine.{Machine, hart_at}, Durables.StandsAtCall}, proofs.{Determined.is_decided, Rows.turns_as_many}}
 use Rattle.machine.specs.Turns.{moment_of, with_moment, TurnBy, DozeTurn, CallBy, MakesTurn, MakesRow, MakesOneCall, calling}
-use Rattle.machine.specs.Durables.{StandsAtCall}
-use Rattle.machine.proofs.Determined.{is_decided}
-use Rattle.machine.proofs.Rows.{turns_as_many}
 
 -- a step leaves the hart's number
 abbrev pub IsOneNumber : Type 0

@@ -1,15 +1,10 @@
 -- A machine whose board was woken holds what it held.
 use Rattle.std.proofs.Common.{◌≡◌, ℕ, Bool, true, false, List, Option, Some, None, sym, subst, if◌then◌else◌}
 use Rattle.std.specs.Prelude.{◌==◌, Result, Ok, Err, OnOk, IfErr}
-use Rattle.board_model.specs.Shapes.{Size}
-use Rattle.board_model.specs.declared.refusal.Refusal.{Refusal}
-use Rattle.board_model.specs.declared.refusal.Refusal.TheVariants.{NotDozing}
+use Rattle.board_model.specs.{Shapes.Size, declared.refusal.Refusal.{Refusal, TheVariants.NotDozing}}
 use Rattle.hart.specs.State.{ArchState}
-use Rattle.sbi_calls.specs.declared.tables.Tables.{Tables}
-use Rattle.sbi_calls.specs.declared.tables.Seats.{Seats}
-use Rattle.susp.specs.Dozes.{doze_of, after_wake}
-use Rattle.susp.specs.declared.buses.Bus.{Bus}
-use Rattle.susp.specs.declared.buses.Doze.{Doze}
+use Rattle.sbi_calls.specs.declared.tables.{Tables.Tables, Seats.Seats}
+use Rattle.susp.specs.{Dozes.{doze_of, after_wake}, declared.buses.{Bus.Bus, Doze.Doze}}
 use Rattle.machine.specs.Held.{RestsBy, AreAllSeats, IsHeld}
 
 -- whichever doze it is, its hart is quiet

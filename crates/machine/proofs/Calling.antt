@@ -2,23 +2,15 @@
 use Rattle.std.proofs.Common.{Some, None, ◌≡◌, ◌≢◌, ℕ, List, refl, sym, ap, ◌∙◌, subst, ⊎_elim, inl, inr}
 use Rattle.atomic_table.specs.declared.shared.Seat.{Seat}
 use Rattle.board_model.specs.Shapes.{Size}
-use Rattle.hart.specs.State.{ArchState}
-use Rattle.hart.specs.declared.Outcome.TheVariants.{Ecall}
+use Rattle.hart.specs.{State.ArchState, declared.Outcome.TheVariants.Ecall}
 use Rattle.hsm.specs.Seating as seating
-use Rattle.hsm.specs.Words.{HartSeatView, HartView}
-use Rattle.hsm.specs.declared.view.Stage.TheVariants.{Out, Running, Suspended}
-use Rattle.hsm.specs.Rule.{stands}
-use Rattle.hsm.specs.Calls.{ActsAlone, KeepsAll, KeepsOthers, named}
-use Rattle.hsm.specs.Views.{listed}
-use Rattle.hsm.specs.declared.state.State.{State as Code}
+use Rattle.hsm.specs.{Words.{HartSeatView, HartView}, declared.view.Stage.TheVariants.{Out, Running, Suspended}, Rule.stands, Views.listed}
+use Rattle.hsm.specs.{Calls.{ActsAlone, KeepsAll, KeepsOthers, named}, declared.{state.{State.{State as Code}}}}
 use Rattle.hsm.specs.declared.state.State.TheVariants as codes
-use Rattle.sbi_calls.specs.declared.tables.Tables.{Tables}
-use Rattle.sbi_calls.specs.declared.tables.Seats.{Seats}
+use Rattle.sbi_calls.specs.declared.{tables.{Tables.Tables, Seats.Seats}, words.Turned.Turned}
 use Rattle.sbi_calls.specs.Both.{TableState, IsTable, AreSeatsOfBoth, GivesBack, views, harts_known}
-use Rattle.turns.specs.Turns.{RestsAt, Finishes, FinishesAlone}
-use Rattle.sbi_calls.specs.declared.words.Turned.{Turned}
+use Rattle.turns.{specs.Turns.{RestsAt, Finishes, FinishesAlone}, proofs.Begun.is_started}
 use Rattle.machine.specs.Turns.{MakesCallAlone}
-use Rattle.turns.proofs.Begun.{is_started}
 
 -- ---- a look keeps each hart where it stands
 pub rests_kept : (h : ℕ) (vs vs' : List HartView) → KeepsAll vs vs' → RestsAt h vs → RestsAt h vs'

@@ -1,41 +1,21 @@
 -- A durable call as something that a hart of a machine did.
 use Rattle.std.proofs.Common.{◌≡◌, ◌⊎◌, ◌≢◌, ◌<◌, ℕ, false, true≢false, List, [], ◌∷◌, Option, Some, None, Result, Ok, Err, refl, sym, ap, ◌∙◌, subst, ⊎_elim, inl, inr}
-use Rattle.disk.specs.declared.device.Disk.{Ghosts}
-use Rattle.disk.specs.declared.device.Lane.{Ghosts as Lanes}
-use Rattle.board_model.specs.Shapes.{Size}
-use Rattle.board_model.specs.declared.durable.Reason.{Reason}
-use Rattle.board_model.specs.declared.refusal.Refusal.{Refusal}
+use Rattle.disk.specs.{declared.{device.{Disk.Ghosts, Lane.{Ghosts as Lanes}}}}
+use Rattle.board_model.specs.{Shapes.Size, declared.{durable.Reason.Reason, refusal.Refusal.Refusal}}
 use Rattle.hart.specs.State.{ArchState}
-use Rattle.hsm.specs.Words.{HartSeatView, HartView}
-use Rattle.hsm.specs.declared.view.Stage.{Stage}
-use Rattle.hsm.specs.declared.view.Stage.TheVariants.{Out, Running, Suspended, Quiet}
-use Rattle.hsm.specs.Rule.{stands}
-use Rattle.hsm.specs.States.{HartState, stopped, started, is_outside, is_running, IsIn}
-use Rattle.hsm.specs.Views.{listed}
+use Rattle.hsm.specs.{Words.{HartSeatView, HartView}, declared.view.Stage.{Stage, TheVariants.{Out, Running, Suspended, Quiet}}}
+use Rattle.hsm.specs.{Rule.stands, States.{HartState, stopped, started, is_outside, is_running, IsIn}, Views.listed}
 use Rattle.store.specs.declared.stores.Store.{Store}
-use Rattle.sbi_abi.specs.Calls.{call_of}
-use Rattle.sbi_abi.specs.declared.call.Call.{Call}
+use Rattle.sbi_abi.specs.{Calls.call_of, declared.{call.Call.Call, ret.SbiError.{SbiError, TheVariants.{Failed, Denied, NotSupported}}}}
 use Rattle.sbi_abi.specs.declared.call.Call.TheVariants as calls
-use Rattle.sbi_abi.specs.declared.ret.SbiError.{SbiError}
-use Rattle.sbi_abi.specs.declared.ret.SbiError.TheVariants.{Failed, Denied, NotSupported}
-use Rattle.sbi_calls.specs.declared.tables.Seats.{Seats}
-use Rattle.sbi_calls.specs.Both.{TableState, IsTable, GivesBack, Acts, harts_known}
-use Rattle.susp.specs.Dozes.{doze_of, dozing}
-use Rattle.susp.specs.declared.buses.Bus.{Bus}
-use Rattle.susp.specs.declared.buses.Doze.{Doze}
-use Rattle.susp.specs.declared.sleeps.Sleep.{Sleep}
-use Rattle.susp.specs.declared.sleeps.Sleep.TheVariants.{ToRam, ToDisk}
+use Rattle.sbi_calls.specs.{declared.tables.Seats.Seats, Both.{TableState, IsTable, GivesBack, Acts, harts_known}}
+use Rattle.susp.specs.{Dozes.{doze_of, dozing}, declared.{buses.{Bus.Bus, Doze.Doze}, sleeps.Sleep.{Sleep, TheVariants.{ToRam, ToDisk}}}}
 use Rattle.susp.specs.Sleeps.{AreStopped, Answers, FallsAsleepBy, SleepsBy}
-use Rattle.sbi.specs.Resets.{reset_of}
-use Rattle.sbi.specs.declared.resets.ResetType.{ResetType}
-use Rattle.sbi.specs.declared.words.Word.{Word}
-use Rattle.sbi.specs.Words.{word_of_sleep}
+use Rattle.sbi.specs.{Resets.reset_of, declared.{resets.ResetType.ResetType, words.Word.Word}, Words.word_of_sleep}
 use Rattle.sbi.specs.Helds.{Refuses, EndsReset, EndsSleep, MakesReset, HeldIn, HeldAlone}
 use Rattle.turns.specs.Turns.{Rests, RestsAt}
-use Rattle.machine.specs.declared.machine.Machine.TheInside.{Inside}
-use Rattle.machine.specs.Held.{table_of, shown_by, stage_left, RestsBy}
-use Rattle.machine.specs.Durables.{StandsAtCall, HeldOf}
-use Rattle.machine.proofs.Owners.{its_own, none_beside}
+use Rattle.machine.specs.{declared.machine.Machine.TheInside.Inside, Held.{table_of, shown_by, stage_left, RestsBy}}
+use Rattle.machine.{specs.Durables.{StandsAtCall, HeldOf}, proofs.Owners.{its_own, none_beside}}
 use Rattle.machine.proofs.Holding.{Finds, shown_as, seats_found, low_number, doze_found, seat_rests, others_rest, DoneAlone}
 
 -- ---- a STARTED hart at rest has nothing in flight

@@ -4,25 +4,15 @@ use Rattle.std.proofs.lemmas.Bool.{lt-ltb, le-ltb}
 use mathlib.Core.Logic.{dite}
 use native.Mathlib.Decide.{ℕ_discrete, dec_le}
 use Rattle.board_model.specs.Shapes.{Size}
-use Rattle.hsm.specs.declared.view.Stage.{Stage}
-use Rattle.hsm.specs.declared.view.Stage.TheVariants.{Quiet}
-use Rattle.hsm.specs.Words.{HartView, HartSeatView}
-use Rattle.hsm.specs.Rule.{stands}
-use Rattle.hsm.specs.States.{HartState, stopped, start_pending, started, suspended}
-use Rattle.hsm.specs.Calls.{KeepsOthers}
-use Rattle.hsm.specs.Views.{state_in, states_in, AreStates}
+use Rattle.hsm.specs.{declared.view.Stage.{Stage, TheVariants.Quiet}, Words.{HartView, HartSeatView}, Rule.stands, Calls.KeepsOthers}
+use Rattle.hsm.specs.{States.{HartState, stopped, start_pending, started, suspended}, Views.{state_in, states_in, AreStates}}
 use Rattle.hsm.specs.Copies.{rest_stage, stage_by}
-use Rattle.ipi.specs.Ledger.{PendingSeatView as Pairs}
-use Rattle.ipi.specs.Pairs.{Sits, SameHarts}
-use Rattle.ipi.specs.Views.{pairs_in, ArePairs}
-use Rattle.sbi_calls.specs.declared.tables.Tables.{Tables}
-use Rattle.sbi_calls.specs.declared.tables.Seats.{Seats}
+use Rattle.ipi.specs.{Ledger.{PendingSeatView as Pairs}, Pairs.{Sits, SameHarts}, Views.{pairs_in, ArePairs}}
+use Rattle.sbi_calls.specs.declared.tables.{Tables.Tables, Seats.Seats}
 use Rattle.sbi_calls.specs.Both.{TableState, IsTable, AreSeatsOfBoth, AreOfAll, Acts, views, harts_known, pair_crew}
 use Rattle.turns.specs.Turns.{RestsAt}
-use Rattle.susp.specs.Dozes.{doze_of}
-use Rattle.susp.specs.declared.buses.Doze.{Doze}
-use Rattle.machine.specs.Held.{shown_by, quiet_in, RestsBy, AreWhole}
-use Rattle.machine.proofs.Owners.{its_own, other_none, rests_moved}
+use Rattle.susp.specs.{Dozes.doze_of, declared.buses.Doze.Doze}
+use Rattle.machine.{specs.Held.{shown_by, quiet_in, RestsBy, AreWhole}, proofs.Owners.{its_own, other_none, rests_moved}}
 use Rattle.machine.proofs.Holding.{IsOneList, IsOneSet, one_shown}
 
 -- ---- the seats that are copied stay

@@ -1,24 +1,15 @@
 -- A turn of a hart is one outcome, and so is a call.
-use Rattle.board_model.specs.declared.call_words.CallWords.{CallWords}
+use Rattle.board_model.specs.{declared.call_words.CallWords.CallWords, Shapes.Size}
 use Rattle.std.proofs.Common.{ℕ, Bool, true, false, ◌≡◌, ◌⊎◌, List, Option, Some, None, sym, ◌∙◌, ap, refl, subst, inl, inr}
-use Rattle.board_model.specs.Shapes.{Size}
-use Rattle.hart.specs.State.{ArchState}
-use Rattle.hart.specs.Means.{Steps, IsSame}
-use Rattle.hart.specs.declared.Outcome.{Outcome}
+use Rattle.hart.specs.{State.ArchState, Means.{Steps, IsSame}, declared.Outcome.Outcome}
 use Rattle.hart.specs.declared.Outcome.TheVariants as outcomes
-use Rattle.hsm.specs.States.{HartState, stopped, start_pending, started, suspended}
-use Rattle.hsm.specs.Views.{listed}
+use Rattle.hsm.specs.{States.{HartState, stopped, start_pending, started, suspended}, Views.listed}
 use Rattle.sbi_abi.specs.Calls.{call_of}
-use Rattle.sbi_calls.specs.declared.endings.Ending.{Ending}
-use Rattle.sbi_calls.specs.declared.endings.Ending.TheVariants.{Answers, Stops, Suspends, SuspendsAfresh, Defers}
-use Rattle.sbi_calls.specs.Both.{TableState}
-use Rattle.sbi_calls.specs.Answers.{Ends, answer}
-use Rattle.sbi_calls.specs.declared.words.Turned.{Turned}
-use Rattle.turns.specs.declared.readies.Ready.{Ready}
+use Rattle.sbi_calls.specs.declared.endings.Ending.{Ending, TheVariants.{Answers, Stops, Suspends, SuspendsAfresh, Defers}}
+use Rattle.sbi_calls.specs.{Both.TableState, Answers.{Ends, answer}, declared.words.Turned.Turned}
+use Rattle.turns.specs.{declared.readies.Ready.Ready, Turns.{Moment, moment, turn_begun, Finishes, TurnAs, TurnOf}}
 use Rattle.turns.specs.declared.readies.Ready.TheVariants as readies
-use Rattle.turns.specs.Turns.{Moment, moment, turn_begun, Finishes, TurnAs, TurnOf}
-use Rattle.susp.specs.Dozes.{doze_of}
-use Rattle.susp.specs.declared.buses.Doze.{Doze}
+use Rattle.susp.specs.{Dozes.doze_of, declared.buses.Doze.Doze}
 use Rattle.machine.specs.Machine.{Machine, hart_at}
 use Rattle.machine.specs.Turns as turns
 

@@ -1,17 +1,11 @@
 -- A board that just fell asleep in its RAM stands still.
-use Rattle.std.proofs.Common.{◌≡◌, ◌≢◌, ℕ, suc, false, List, Some, sym, ap, ◌∙◌, arith}
-use Rattle.std.specs.Prelude.{length, get_or}
+use Rattle.std.{proofs.Common.{◌≡◌, ◌≢◌, ℕ, suc, false, List, Some, sym, ap, ◌∙◌, arith}, specs.Prelude.{length, get_or}}
 use Rattle.std.proofs.lemmas.List.{get_or_past}
 use native.Mathlib.Decide.{dec_le}
 use Rattle.hart.specs.State.{ArchState, never_started}
-use Rattle.hsm.specs.States.{HartState, stopped}
-use Rattle.hsm.specs.Views.{listed}
-use Rattle.susp.specs.Sleeps.{AreStopped}
-use Rattle.susp.specs.declared.buses.Doze.{Doze}
-use Rattle.machine.specs.Held.{AreNumbered}
-use Rattle.machine.specs.Machine.{Machine}
-use Rattle.machine.specs.Dozes.{Dozes}
-use Rattle.machine.proofs.Owners.{is_other}
+use Rattle.hsm.specs.{States.{HartState, stopped}, Views.listed}
+use Rattle.susp.specs.{Sleeps.AreStopped, declared.buses.Doze.Doze}
+use Rattle.machine.{specs.{Held.AreNumbered, Machine.Machine, Dozes.Dozes}, proofs.Owners.is_other}
 
 -- a hart has its number, also one that the board lacks
 number_at : (harts : List ArchState) → AreNumbered harts → (h : ℕ) → (get_or harts h (never_started h)).id ≡ h

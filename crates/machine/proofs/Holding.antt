@@ -1,28 +1,19 @@
 -- What a hart of a machine does, with the one seat of all harts.
 use Rattle.std.proofs.Common.{◌≡◌, ◌≢◌, ℕ, ◌<◌, Bool, List, Option, Some, None, IsSome, refl, sym, ap, ◌∙◌, subst, arith, vec_len}
-use Rattle.std.specs.Prelude.{length, get_or, slice_set}
-use Rattle.std.proofs.lemmas.List.{length-set, get_or-set_other, get_or_default}
+use Rattle.std.{specs.Prelude.{length, get_or, slice_set}, proofs.lemmas.List.{length-set, get_or-set_other, get_or_default}}
 use Rattle.std.proofs.lemmas.Grind.{get_or-set_at}
 use mathlib.Core.Logic.{dite}
 use native.Mathlib.Decide.{ℕ_discrete}
 use Rattle.board_model.specs.Shapes.{Size}
 use Rattle.hart.specs.State.{ArchState, never_started}
-use Rattle.hsm.specs.Words.{HartSeatView}
-use Rattle.hsm.specs.States.{HartState}
-use Rattle.hsm.specs.Views.{states_in, AreStates}
-use Rattle.ipi.specs.Ledger.{PendingSeatView as Pairs}
-use Rattle.ipi.specs.Views.{pairs_in, ArePairs}
-use Rattle.sbi_calls.specs.declared.tables.Tables.{Tables}
-use Rattle.sbi_calls.specs.declared.tables.Seats.{Seats}
+use Rattle.hsm.specs.{Words.HartSeatView, States.HartState, Views.{states_in, AreStates}}
+use Rattle.ipi.specs.{Ledger.{PendingSeatView as Pairs}, Views.{pairs_in, ArePairs}}
+use Rattle.sbi_calls.specs.declared.tables.{Tables.Tables, Seats.Seats}
 use Rattle.sbi_calls.specs.Both.{TableState, AreTablesOf, harts_of_both, IsTable, GivesBack, harts_known, pair_crew}
 use Rattle.turns.specs.Turns.{Moment, moment, Rests}
-use Rattle.susp.specs.Dozes.{doze_of}
-use Rattle.susp.specs.declared.buses.Doze.{Doze}
-use Rattle.machine.specs.declared.machine.Machine.TheInside.{Inside}
-use Rattle.machine.specs.Machine.{Machine}
-use Rattle.machine.specs.Turns.{DoneBy, moment_of, with_moment}
-use Rattle.machine.specs.Held.{shown_by, table_of, RestsBy, AreWhole, AreAllSeats, AreNumbered, IsHeld}
-use Rattle.machine.proofs.Owners.{rests_moved}
+use Rattle.susp.specs.{Dozes.doze_of, declared.buses.Doze.Doze}
+use Rattle.machine.specs.{declared.machine.Machine.TheInside.Inside, Machine.Machine, Turns.{DoneBy, moment_of, with_moment}}
+use Rattle.machine.{specs.Held.{shown_by, table_of, RestsBy, AreWhole, AreAllSeats, AreNumbered, IsHeld}, proofs.Owners.rests_moved}
 
 abbrev pub IsOneList : Type 0
 IsOneList = (harts : ℕ) (c : HartSeatView) (states : List HartState) → AreStates harts c states → states_in harts c ≡ states

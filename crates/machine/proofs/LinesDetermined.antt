@@ -1,12 +1,7 @@
 -- A line of a control and status register says one thing.
-use Rattle.std.proofs.Common.{ℕ, ◌≡◌, ◌≢◌, ◌⊎◌, List, [], ◌∷◌, length, inl, inr, sym, ◌∙◌, arith}
-use Rattle.std.proofs.lemmas.Bool.{cases_eq, cases_lt}
-use Rattle.hart.specs.Csrs.{csr_number}
-use Rattle.hart.specs.declared.csr.Csr.{Csr}
-use Rattle.hart.specs.declared.csr.Csr.TheVariants.{Sstatus, Sie, Stvec, Sscratch, Sepc, Scause, Stval, Sip, Satp}
-use Rattle.machine.specs.Machine.{Machine}
-use Rattle.machine.specs.Shows.{HasHart, CsrLine}
-use Rattle.machine.specs.declared.line.MachineLine.{MachineLine}
+use Rattle.std.proofs.{Common.{ℕ, ◌≡◌, ◌≢◌, ◌⊎◌, List, [], ◌∷◌, length, inl, inr, sym, ◌∙◌, arith}, lemmas.Bool.{cases_eq, cases_lt}}
+use Rattle.hart.specs.{Csrs.csr_number, declared.csr.Csr.{Csr, TheVariants.{Sstatus, Sie, Stvec, Sscratch, Sepc, Scause, Stval, Sip, Satp}}}
+use Rattle.machine.specs.{Machine.Machine, Shows.{HasHart, CsrLine}, declared.line.MachineLine.MachineLine}
 
 -- the number is that of one in the list, or of none in it
 abbrev AreOthers : ℕ → List Csr → Type 0

@@ -2,19 +2,11 @@
 use Rattle.std.proofs.Common.{◌≡◌, ℕ, List, Option, Some, sym, ap, ◌∙◌, subst}
 use Rattle.atomic_table.specs.declared.shared.Seat.{Seat}
 use Rattle.board_model.specs.Shapes.{Size}
-use Rattle.hsm.specs.Words.{HartSeatView}
+use Rattle.hsm.specs.{Words.HartSeatView, Seating.harts_in, Rule.stands, declared.view.Stage.Stage}
 use Rattle.hart.specs.State.{ArchState}
-use Rattle.sbi_calls.specs.declared.tables.Tables.{Tables}
-use Rattle.sbi_calls.specs.declared.tables.Seats.{Seats}
-use Rattle.sbi_calls.specs.Both.{TableState, IsTable, GivesBack, views}
-use Rattle.susp.specs.Dozes.{doze_of}
-use Rattle.susp.specs.declared.buses.Doze.{Doze}
-use Rattle.hsm.specs.Seating.{harts_in}
-use Rattle.hsm.specs.Rule.{stands}
-use Rattle.hsm.specs.declared.view.Stage.{Stage}
-use Rattle.machine.specs.Machine.{Machine}
-use Rattle.machine.specs.Held.{shown_by, table_of, AreWhole, IsHeld}
-use Rattle.machine.proofs.Owners.{rests_moved}
+use Rattle.sbi_calls.specs.{declared.tables.{Tables.Tables, Seats.Seats}, Both.{TableState, IsTable, GivesBack, views}}
+use Rattle.susp.specs.{Dozes.doze_of, declared.buses.Doze.Doze}
+use Rattle.machine.{specs.{Machine.Machine, Held.{shown_by, table_of, AreWhole, IsHeld}}, proofs.Owners.rests_moved}
 use Rattle.machine.proofs.Holding.{IsOneList, IsOneSet, one_shown, all_seats}
 
 -- each hart stands where it stood

@@ -1,29 +1,20 @@
 -- A machine as it is made.
 use Rattle.std.proofs.Common.{◌≡◌, ◌↔◌, ℕ, zero, suc, ◌-◌, ◌<◌, Bool, false, List, [], ◌∷◌, Some, None, refl, sym, ap, ◌∙◌, subst, inl, inr, arith, IsTrue, if◌then◌else◌, eq-eqb, ne_eqb}
-use Rattle.std.specs.Prelude.{length, get_or, replicate, ◌==◌}
+use Rattle.std.{specs.Prelude.{length, get_or, replicate, ◌==◌}, proofs.lemmas.Grind.get_or-set_at}
 use Rattle.std.proofs.lemmas.List.{length-set, get_or-set_other, length-replicate, length-append, get_or-replicate, get_or_past, get_or_append_left, get_or-append_right}
-use Rattle.std.proofs.lemmas.Grind.{get_or-set_at}
 use mathlib.Core.Logic.{dite}
 use native.Mathlib.Decide.{ℕ_discrete, dec_le}
 use Rattle.board_model.specs.Shapes.{Size, ram_bytes_of}
 use Rattle.hart.specs.State.{ArchState, never_started}
-use Rattle.hsm.specs.declared.view.Stage.{Stage}
-use Rattle.hsm.specs.declared.view.Stage.TheVariants.{Out, Running}
-use Rattle.hsm.specs.Words.{HartSeatView}
-use Rattle.hsm.specs.Rule.{stands}
-use Rattle.hsm.specs.States.{HartState, stopped, started, Shows, IsIn}
-use Rattle.hsm.specs.Outcomes.{opening_states}
-use Rattle.hsm.specs.Views.{listed, AreStates}
-use Rattle.ipi.specs.Ledger.{PendingSeatView as Pairs}
+use Rattle.hsm.specs.{declared.view.Stage.{Stage, TheVariants.{Out, Running}}, Words.HartSeatView, Rule.stands, Outcomes.opening_states}
+use Rattle.hsm.specs.{States.{HartState, stopped, started, Shows, IsIn}, Views.{listed, AreStates}}
+use Rattle.ipi.specs.{Ledger.{PendingSeatView as Pairs}, Views.{pair_at, ArePairs}}
 use Rattle.ipi.specs.Pairs as shown
-use Rattle.ipi.specs.Views.{pair_at, ArePairs}
-use Rattle.sbi_calls.specs.declared.tables.Tables.{Tables}
-use Rattle.sbi_calls.specs.declared.tables.Seats.{Seats}
+use Rattle.sbi_calls.specs.declared.tables.{Tables.Tables, Seats.Seats}
 use Rattle.sbi_calls.specs.Both.{TableState, AreTablesOf, AreSeatsOfBoth, AreOfAll, IsTable, views, harts_known, pair_crew}
 use Rattle.turns.specs.Turns.{Rests}
 use Rattle.machine.specs.Machine.{Machine, stopped_harts, only_first, none_pending, resting}
-use Rattle.machine.specs.Held.{shown_by, AreWhole, IsHeld, AreNumbered}
-use Rattle.machine.proofs.Holding.{IsOneList, IsOneSet, one_shown}
+use Rattle.machine.{specs.Held.{shown_by, AreWhole, IsHeld, AreNumbered}, proofs.Holding.{IsOneList, IsOneSet, one_shown}}
 
 pub long : (n : ℕ) → length (stopped_harts n) ≡ n
 long zero = refl

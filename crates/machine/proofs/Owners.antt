@@ -2,15 +2,10 @@
 use Rattle.std.proofs.Common.{◌≡◌, ◌≢◌, ℕ, Option, Some, None, refl, sym, ◌∙◌, subst, ne_eqb, eq-eqb, ⊎_elim, inl, inr}
 use mathlib.Core.Logic.{dite}
 use native.Mathlib.Decide.{ℕ_discrete}
-use Rattle.hsm.specs.declared.view.Stage.{Stage}
-use Rattle.hsm.specs.declared.view.Stage.TheVariants.{Out, Running, Suspended, Quiet}
-use Rattle.hsm.specs.Rule.{stands}
-use Rattle.hsm.specs.Calls.{Sits as SitsIn}
+use Rattle.hsm.specs.{declared.view.Stage.{Stage, TheVariants.{Out, Running, Suspended, Quiet}}, Rule.stands, Calls.{Sits as SitsIn}}
 use Rattle.ipi.specs.Pairs.{Sits}
-use Rattle.sbi_calls.specs.declared.tables.Seats.{Seats}
-use Rattle.sbi_calls.specs.Both.{views, pair_crew}
-use Rattle.susp.specs.Dozes.{doze_of}
-use Rattle.susp.specs.declared.buses.Doze.{Doze}
+use Rattle.sbi_calls.specs.{declared.tables.Seats.Seats, Both.{views, pair_crew}}
+use Rattle.susp.specs.{Dozes.doze_of, declared.buses.Doze.Doze}
 use Rattle.turns.proofs.Begun.{sits}
 use Rattle.machine.specs.Held.{RestsBy}
 

@@ -1,8 +1,6 @@
 -- A refusal that is handed on, and no room for a copy.
-use Rattle.std.proofs.Common.{◌≡◌, ◌∙◌, Result, Err, refl, ap, sym, subst}
-use Rattle.std.specs.Prelude.{IfOk, IfErr, OnErr}
-use Rattle.board_model.specs.declared.refusal.Refusal.{Refusal}
-use Rattle.board_model.specs.declared.refusal.Refusal.TheVariants.{Memory}
+use Rattle.std.{proofs.Common.{◌≡◌, ◌∙◌, Result, Err, refl, ap, sym, subst}, specs.Prelude.{IfOk, IfErr, OnErr}}
+use Rattle.board_model.specs.declared.refusal.Refusal.{Refusal, TheVariants.Memory}
 
 pub nothing_made : {B : Type 0} (P : B → Type 0) (r : Result B Refusal) (y : Refusal) → r ≡ Err y → IfOk r P
 nothing_made {B} P r y is = subst (λ (x : Result B Refusal). IfOk x P) (sym is) tt

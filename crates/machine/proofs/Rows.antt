@@ -1,17 +1,11 @@
 -- Turns in a row by one look.
 use Rattle.std.proofs.Common.{◌≡◌, ℕ, zero, suc, ◌+◌, ◌<◌, Bool, true, false, List, [], ◌∷◌, ◌++◌, take, get_or, Option, Some, None, refl, sym, ap, ◌∙◌, subst, inl, inr, arith}
-use Rattle.std.specs.Prelude.{length}
-use Rattle.std.proofs.lemmas.List.{get_or-set_same, set-set, set-get_or, length-set, take_more}
+use Rattle.std.{specs.Prelude.length, proofs.lemmas.List.{get_or-set_same, set-set, set-get_or, length-set, take_more}}
 use Rattle.hart.specs.State.{ArchState, never_started, started as fresh}
-use Rattle.sbi_calls.specs.declared.words.Turned.{Turned}
-use Rattle.sbi_calls.specs.declared.words.Did.TheVariants.{Next}
-use Rattle.sbi_calls.specs.declared.words.Turned.TheVariants.{Made}
-use Rattle.turns.specs.Turns.{Moment, moment, TurnOf}
-use Rattle.turns.specs.Many.{NextTurns, RowOf}
-use Rattle.susp.specs.Dozes.{doze_of}
-use Rattle.susp.specs.declared.buses.Doze.{Doze}
-use Rattle.machine.specs.Machine.{Machine, hart_at}
-use Rattle.machine.specs.Turns.{moment_of, with_moment, TurnBy, DozeTurn, DoneBy, MakesTurn, MakesRow}
+use Rattle.sbi_calls.specs.declared.words.{Turned.{Turned, TheVariants.Made}, Did.TheVariants.Next}
+use Rattle.turns.specs.{Turns.{Moment, moment, TurnOf}, Many.{NextTurns, RowOf}}
+use Rattle.susp.specs.{Dozes.doze_of, declared.buses.Doze.Doze}
+use Rattle.machine.specs.{Machine.{Machine, hart_at}, Turns.{moment_of, with_moment, TurnBy, DozeTurn, DoneBy, MakesTurn, MakesRow}}
 
 -- a hart that stands so is read so, and replaced by the next
 read_back : (h : ℕ) (m : Machine) (a : Moment) → h < length m.harts → moment_of h (with_moment h m a) ≡ a

@@ -1,21 +1,13 @@
 -- A doze that was not woken stands.
-use Rattle.board_model.specs.declared.call_words.CallWords.{CallWords}
+use Rattle.board_model.specs.{declared.call_words.CallWords.CallWords, Shapes.Size}
 use Rattle.std.proofs.Common.{◌≡◌, ℕ, zero, suc, Bool, false, Option, Some, None, refl, sym, ap, ◌∙◌, subst, inl, inr}
-use Rattle.board_model.specs.Shapes.{Size}
 use Rattle.hart.specs.State.{ArchState}
-use Rattle.hsm.specs.States.{HartState, stopped, started}
-use Rattle.hsm.specs.Views.{listed}
-use Rattle.susp.specs.Dozes.{doze_of}
-use Rattle.susp.specs.declared.buses.Doze.{Doze}
-use Rattle.sbi_calls.specs.declared.words.Turned.{Turned}
-use Rattle.sbi_calls.specs.declared.words.Did.TheVariants.{Idle}
-use Rattle.sbi_calls.specs.declared.words.Turned.TheVariants.{Made}
+use Rattle.hsm.specs.{States.{HartState, stopped, started}, Views.listed}
+use Rattle.susp.specs.{Dozes.doze_of, declared.buses.Doze.Doze}
+use Rattle.sbi_calls.specs.declared.words.{Turned.{Turned, TheVariants.Made}, Did.TheVariants.Idle}
 use Rattle.turns.specs.Turns.{Moment, begun_by, TurnAs}
-use Rattle.machine.specs.Machine.{Machine, hart_at, state_at}
-use Rattle.machine.specs.Turns.{moment_of, with_moment, DozeTurn, TurnBy, MakesTurn, CallBy, MakesOneCall, calling}
-use Rattle.machine.specs.Durables.{StandsAtCall}
-use Rattle.machine.specs.Dozes.{Dozes, Moves, MovesOften}
-use Rattle.machine.proofs.Owners.{doze_is}
+use Rattle.machine.specs.{Machine.{Machine, hart_at, state_at}, Durables.StandsAtCall, Dozes.{Dozes, Moves, MovesOften}}
+use Rattle.machine.{specs.Turns.{moment_of, with_moment, DozeTurn, TurnBy, MakesTurn, CallBy, MakesOneCall, calling}, proofs.Owners.doze_is}
 use Rattle.machine.proofs.Rows.{put_same}
 
 -- ---- a turn

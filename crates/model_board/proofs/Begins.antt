@@ -1,24 +1,17 @@
 -- A machine that begins, or begins again.
 use Rattle.std.proofs.Common.{ℕ, Bool, true, false, List, ◌≡◌, ◌<◌, length, sym, ap, ◌∙◌, subst, arith}
-use Rattle.std.specs.Prelude.{Option, Some, None, slice_set, replicate, not}
-use Rattle.std.proofs.lemmas.List.{length-set, length-replicate}
-use Rattle.board_model.specs.Shapes.{Size, IsSize, ram_bytes_of}
-use Rattle.board_model.specs.declared.durable.Reason.{Reason}
+use Rattle.std.{specs.Prelude.{Option, Some, None, slice_set, replicate, not}, proofs.lemmas.List.{length-set, length-replicate}}
+use Rattle.board_model.specs.{Shapes.{Size, IsSize, ram_bytes_of}, declared.durable.Reason.Reason}
 use Rattle.hart.specs.State.{ArchState, started as fresh}
 use Rattle.hsm.specs.States.{HartState, stopped, started}
-use Rattle.machine.specs.Held.{AreNumbered}
-use Rattle.machine.specs.Machine.{Machine, stopped_harts, only_first}
-use Rattle.machine.proofs.Opening.{long, stopped_numbered}
+use Rattle.machine.{specs.{Held.AreNumbered, Machine.{Machine, stopped_harts, only_first}}, proofs.Opening.{long, stopped_numbered}}
 use Rattle.sbi_calls.specs.Both.{TableState}
 use Rattle.store.specs.declared.saving.Resumption.{Resumption}
 use Rattle.susp.specs.declared.buses.Doze.{Doze}
-use Rattle.model_board.specs.Boards.{Board, On, powered_by}
-use Rattle.model_board.specs.Events.{PowersOn, TurnsBy, TurnOn, RefusedOn, Asks}
+use Rattle.model_board.specs.{Boards.{Board, On, powered_by}, Events.{PowersOn, TurnsBy, TurnOn, RefusedOn, Asks}}
 use Rattle.model_board.specs.Plain.{IsPlain, Sized, Settles, HasSleeper, IsKnown, sized, board_shown, board_after, life_of, standing, image_at}
-use Rattle.model_board.specs.declared.holds.Settled.{Settled}
-use Rattle.model_board.specs.declared.powers.Power.{Power}
+use Rattle.model_board.{specs.declared.{holds.Settled.Settled, powers.Power.Power}, proofs.Kept.{shown, numbered_with}}
 use Rattle.model_board.specs.declared.powers.Power.TheVariants as powers
-use Rattle.model_board.proofs.Kept.{shown, numbered_with}
 
 only_long : (n first : ℕ) → length (only_first n first) ≡ n
 only_long n first = length-set (replicate n stopped) first started ∙ length-replicate n stopped

@@ -1,30 +1,18 @@
 -- A step that keeps a map, and one that is local by it, by its footprint; and what such a step makes of a machine and a board.
 use Rattle.std.proofs.Common.{ℕ, Bool, true, false, IsTrue, List, ◌≡◌, ◌≢◌, ◌⊎◌, ◌+◌, ◌%◌, ◌^◌, ◌<◌, length, slice_index, refl, sym, ap, ◌∙◌, subst, inl, inr, Option, Some, None, arith}
-use Rattle.std.specs.Prelude.{get_or, slice_set}
-use Rattle.std.proofs.lemmas.List.{ext_get_or, get_or-set_same}
+use Rattle.std.{specs.Prelude.{get_or, slice_set}, proofs.lemmas.List.{ext_get_or, get_or-set_same}}
 use Rattle.board_model.specs.Shapes.{Size}
-use Rattle.hart.specs.State.{ArchState, never_started}
-use Rattle.hart.specs.Means.{Steps}
-use Rattle.hart.specs.declared.Outcome.{Outcome}
-use Rattle.hart.specs.declared.Outcome.TheVariants.{Next}
-use Rattle.hart.proofs.Decided.{unless, same_number}
-use Rattle.hart.proofs.Numbered.{step_keeps as number_kept}
-use Rattle.hsm.specs.States.{started}
-use Rattle.hsm.specs.Views.{listed}
+use Rattle.hart.specs.{State.{ArchState, never_started}, Means.Steps, declared.Outcome.{Outcome, TheVariants.Next}}
+use Rattle.hart.proofs.{Decided.{unless, same_number}, Numbered.{step_keeps as number_kept}}
+use Rattle.hsm.specs.{States.started, Views.listed}
 use Rattle.rv_decode.specs.declared.instr.Instr.TheVariants as instr
 use Rattle.sbi_abi.specs.Calls.{call_of}
-use Rattle.sbi_calls.specs.Requests.{request_of}
-use Rattle.sbi_calls.specs.Both.{TableState}
+use Rattle.sbi_calls.specs.{Requests.request_of, Both.TableState}
 use Rattle.susp.specs.declared.buses.Doze.{Doze}
 use Rattle.turns.specs.Turns.{has_pending}
 use Rattle.machine.specs.Machine.{Machine, hart_at}
-use Rattle.model_board.specs.Touches.{WritesWord}
-use Rattle.model_board.specs.Footprints.{Covers}
-use Rattle.model_board.specs.Masks.{MaySend, IsAloneBy}
-use Rattle.model_board.specs.Maps.{Map, StepKeeps, StepsAlone, MovesTo}
-use Rattle.model_board.specs.Plain.{IsPlain}
-use Rattle.model_board.specs.declared.footprints.Footprint.{Footprint}
-use Rattle.model_board.proofs.Frames.{step_long, step_changes}
+use Rattle.model_board.specs.{Touches.WritesWord, Footprints.Covers, Masks.{MaySend, IsAloneBy}, Maps.{Map, StepKeeps, StepsAlone, MovesTo}}
+use Rattle.model_board.{specs.{Plain.IsPlain, declared.footprints.Footprint.Footprint}, proofs.Frames.{step_long, step_changes}}
 use Rattle.model_board.proofs.Kept.{shown, hart_is, number_is}
 
 -- ---- by its footprint

@@ -1,23 +1,16 @@
 -- A board that stands for others goes where they go.
 use Rattle.std.proofs.Common.{ℕ, zero, suc, Bool, true, false, ◌≡◌, ◌⊎◌, ⊎_elim, inl, inr, ◌<◌, ◌≤◌, List, length, length-set, refl, sym, ap, ◌∙◌, subst, if◌then◌else◌, arith}
-use Rattle.std.specs.Prelude.{slice_index, slice_set, get_or, nat_eq, not}
-use Rattle.std.proofs.lemmas.Bool.{cases_lt, eqb-true}
+use Rattle.std.{specs.Prelude.{slice_index, slice_set, get_or, nat_eq, not}, proofs.lemmas.Bool.{cases_lt, eqb-true}}
 use Rattle.std.proofs.lemmas.List.{set-set, set-get_or, set_comm, set_past, get_or-set_same, get_or-set_other}
 use Rattle.board_model.specs.Shapes.{Size}
-use Rattle.hart.specs.State.{ArchState, reg, never_started}
-use Rattle.hart.specs.Means.{word_at}
-use Rattle.hart.proofs.Decided.{either, same_number}
-use Rattle.hart.proofs.Obeyed.{HasOne}
+use Rattle.hart.{specs.{State.{ArchState, reg, never_started}, Means.word_at}, proofs.{Decided.{either, same_number}, Obeyed.HasOne}}
 use Rattle.rv_decode.specs.Spells.{Reads}
 use Rattle.machine.specs.Machine.{Machine, hart_at}
-use Rattle.model_board.specs.Boards.{Standing, Life, Board, On, Off, Ended}
-use Rattle.model_board.specs.Events.{Event, Turn, Refused, Wake, Cut, PowerOn, Does, TurnOn}
-use Rattle.model_board.specs.Maps.{Map, Keeps, Local}
+use Rattle.model_board.specs.{Boards.{Standing, Life, Board, On, Off, Ended}, Maps.{Map, Keeps, Local}}
+use Rattle.model_board.{specs.Events.{Event, Turn, Refused, Wake, Cut, PowerOn, Does, TurnOn}, proofs.Once.event_determines_board}
 use Rattle.model_board.specs.Registers.{with_register, machine_holding, board_holding, TurnUnread, TurnsUnread, EventUnread, KnowsHart, MovesPc}
 use Rattle.model_board.specs.LeftOut.{LEFT_OUT, PROBE, IsLeftOut, Filled, StandsFor, ReadsNone, HartFor, LifeFor, held_at, IsProbed, AreProbed}
-use Rattle.model_board.proofs.Once.{event_determines_board}
-use Rattle.model_board.proofs.Swaps.{IsOneTurn, turns, one}
-use Rattle.model_board.proofs.UnreadEvents.{event_unread, other_turns, own_hart, other_hart}
+use Rattle.model_board.proofs.{Swaps.{IsOneTurn, turns, one}, UnreadEvents.{event_unread, other_turns, own_hart, other_hart}}
 use Rattle.model_board.proofs.UnreadTouches.{keeps_unread, local_unread}
 
 -- ---- registers

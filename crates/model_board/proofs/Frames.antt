@@ -2,21 +2,13 @@
 -- it changes.
 use Rattle.std.proofs.Common.{ℕ, ℤ, Bool, List, ◌≡◌, ◌+◌, ◌-◌, ◌/◌, ◌%◌, length, slice_index, refl, sym, ap, ◌∙◌, subst, inl, inr}
 use Rattle.std.proofs.lemmas.Bool.{cases_lt}
-use Rattle.hart.specs.State.{ArchState, reg}
-use Rattle.hart.specs.Csrs.{csr_number}
-use Rattle.hart.specs.Causes.{illegal_instruction}
+use Rattle.hart.specs.{State.{ArchState, reg}, Csrs.csr_number, Causes.illegal_instruction, declared.{Outcome.Outcome, csr.Csr.Csr}}
 use Rattle.hart.specs.Means.{sum, loaded, Sets, DoesLoad, DoesStore, Exchanges, DoesCsr, load_bytes, store_bytes, means, Steps, Traps, Interrupts, word_at}
-use Rattle.hart.specs.declared.Outcome.{Outcome}
-use Rattle.hart.specs.declared.csr.Csr.{Csr}
 use Rattle.hart.specs.declared.csr.Csr.TheVariants.{Sstatus, Sie, Stvec, Sscratch, Sepc, Scause, Stval, Sip, Satp}
 use Rattle.hart.proofs.Decided.{either, unless, same_number, inside, interrupted}
 use Rattle.ram.specs.Memory.{value, IsInside}
-use Rattle.rv_decode.specs.Spells.{spells}
-use Rattle.rv_decode.specs.declared.instr.Instr.{Instr}
+use Rattle.rv_decode.specs.{Spells.spells, declared.{instr.Instr.Instr, ops.{LoadOp.LoadOp, StoreOp.StoreOp, CsrOp.CsrOp}}}
 use Rattle.rv_decode.specs.declared.instr.Instr.TheVariants as instr
-use Rattle.rv_decode.specs.declared.ops.LoadOp.{LoadOp}
-use Rattle.rv_decode.specs.declared.ops.StoreOp.{StoreOp}
-use Rattle.rv_decode.specs.declared.ops.CsrOp.{CsrOp}
 use Rattle.model_board.specs.Touches.{word_of, Fetches, ComesTo, Accesses, ReadsWord, WritesWord, AccessesSip, ReadsPending}
 use Rattle.model_board.proofs.Words.{SameWord, Merges, still, in_load, in_store, in_fetch, value_in, stored, inside_in}
 

@@ -1,32 +1,20 @@
 -- What a turn leaves as it was: the hart's number, how many harts there are, and how large the memory is.
 use Rattle.std.proofs.Common.{ℕ, Bool, true, false, List, ◌≡◌, ◌<◌, length, refl, sym, ap, ◌∙◌, subst, inl, inr, true≢false}
-use Rattle.std.specs.Prelude.{Ok, Err, Option, None, get_or, slice_set, not}
-use Rattle.std.proofs.lemmas.Bool.{cases_eq}
+use Rattle.std.{specs.Prelude.{Ok, Err, Option, None, get_or, slice_set, not}, proofs.lemmas.Bool.cases_eq}
 use Rattle.std.proofs.lemmas.List.{length-set, get_or-set_same, get_or-set_other, get_or_default}
 use Rattle.board_model.specs.Shapes.{Size}
-use Rattle.hart.specs.State.{ArchState, never_started, started as fresh}
-use Rattle.hart.specs.declared.Outcome.{Outcome}
+use Rattle.hart.specs.{State.{ArchState, never_started, started as fresh}, declared.Outcome.Outcome}
 use Rattle.hart.specs.declared.Outcome.TheVariants as outcomes
-use Rattle.hsm.specs.States.{HartState, stopped, start_pending, started, suspended, grant}
-use Rattle.hsm.specs.Views.{listed}
-use Rattle.machine.specs.Held.{AreNumbered}
-use Rattle.machine.specs.Machine.{Machine}
-use Rattle.machine.specs.Turns.{DoneBy, DozeTurn, resumed}
-use Rattle.machine.proofs.Asking.{IsOneNumber}
+use Rattle.hsm.specs.{States.{HartState, stopped, start_pending, started, suspended, grant}, Views.listed}
+use Rattle.machine.{specs.{Held.AreNumbered, Machine.Machine, Turns.{DoneBy, DozeTurn, resumed}}, proofs.Asking.IsOneNumber}
 use Rattle.sbi_abi.specs.Calls.{call_of}
-use Rattle.sbi_calls.specs.Answers.{row, Ends}
-use Rattle.sbi_calls.specs.Both.{TableState}
-use Rattle.sbi_calls.specs.Requests.{Checked, request_of}
-use Rattle.sbi_calls.specs.declared.endings.Ending.{Ending}
-use Rattle.sbi_calls.specs.declared.endings.Ending.TheVariants.{Answers, Stops, Suspends, SuspendsAfresh, Defers}
+use Rattle.sbi_calls.specs.{Answers.{row, Ends}, Both.TableState, Requests.{Checked, request_of}, declared.endings.Ending.Ending}
+use Rattle.sbi_calls.specs.declared.{endings.Ending.TheVariants.{Answers, Stops, Suspends, SuspendsAfresh, Defers}, words.Turned.Turned}
 use Rattle.sbi_calls.specs.declared.requests.Request.TheVariants.{Value, Start, Stop, Status, Suspend, SuspendAfresh, Send, Command}
-use Rattle.sbi_calls.specs.declared.words.Did.TheVariants.{Resumed}
-use Rattle.sbi_calls.specs.declared.words.Turned.{Turned}
-use Rattle.sbi_calls.specs.declared.words.Turned.TheVariants.{Made}
+use Rattle.sbi_calls.specs.declared.words.{Did.TheVariants.Resumed, Turned.TheVariants.Made}
 use Rattle.susp.specs.declared.buses.Doze.{Doze}
 use Rattle.turns.specs.Turns.{Moment, moment, has_pending, after_take, woken_turn, begun_by, Finishes, TurnAs, TurnOf}
-use Rattle.model_board.specs.Plain.{IsPlain}
-use Rattle.model_board.proofs.Frames.{step_long}
+use Rattle.model_board.{specs.Plain.IsPlain, proofs.Frames.step_long}
 
 pub record Kept (a b : Moment) : Type 0 where
   pub number : b.hart.id ≡ a.hart.id

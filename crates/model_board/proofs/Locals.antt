@@ -2,24 +2,16 @@
 use Rattle.std.proofs.Common.{ℕ, Bool, IsTrue, List, ◌≡◌, ◌≢◌, ◌+◌, ◌/◌, ◌<◌, ◌≤◌, slice_index, refl, sym, ap, ◌∙◌, subst, inl, Option, None}
 use Rattle.std.proofs.lemmas.List.{get_or-set_other, set_comm, length-set, ext_get_or}
 use Rattle.board_model.specs.Shapes.{Size}
-use Rattle.hart.specs.State.{ArchState, never_started}
-use Rattle.hart.specs.declared.Outcome.TheVariants.{Next}
-use Rattle.hart.proofs.Decided.{unless, same_number}
-use Rattle.hsm.specs.States.{HartState}
-use Rattle.hsm.specs.Views.{listed}
+use Rattle.hart.{specs.{State.{ArchState, never_started}, declared.Outcome.TheVariants.Next}, proofs.Decided.{unless, same_number}}
+use Rattle.hsm.specs.{States.HartState, Views.listed}
 use Rattle.sbi_calls.specs.declared.words.Turned.{Turned}
 use Rattle.turns.specs.Turns.{Moment, moment, has_pending, TurnOf}
-use Rattle.susp.specs.Dozes.{doze_of}
-use Rattle.susp.specs.declared.buses.Doze.{Doze}
-use Rattle.machine.specs.Machine.{Machine, hart_at}
-use Rattle.machine.specs.Turns.{moment_of, with_moment, DoneBy, TurnBy, MakesTurn}
-use Rattle.model_board.specs.Held.{with_hart}
-use Rattle.model_board.specs.Touches.{word_of, Fetches}
+use Rattle.susp.specs.{Dozes.doze_of, declared.buses.Doze.Doze}
+use Rattle.machine.specs.{Machine.{Machine, hart_at}, Turns.{moment_of, with_moment, DoneBy, TurnBy, MakesTurn}}
+use Rattle.model_board.{specs.{Held.with_hart, Touches.{word_of, Fetches}}, proofs.Words.{SameWord, Merges, merges_back}}
 use Rattle.model_board.specs.Maps.{Map, pending_at, StepKeeps, KeepsMap, HearsNone, StepsAlone, MovesAlone, moved}
-use Rattle.model_board.proofs.Words.{SameWord, Merges, merges_back}
-use Rattle.model_board.proofs.Frames.{step_long}
+use Rattle.model_board.proofs.{Frames.step_long, Turned.{Fits, Turns, turn_moves}}
 use Rattle.model_board.proofs.Steps.{Agrees, reads_in, writes_in, sends_in, OthersChange, alone_pending, alone_memory, alone_changes, none_called}
-use Rattle.model_board.proofs.Turned.{Fits, Turns, turn_moves}
 
 pub beside : (g h : ℕ) (t : ArchState) (n : List ℕ) (m : Machine) → g ≢ h → hart_at (moved h t n m) g ≡ hart_at m g
 beside g h t n m ne = get_or-set_other m.harts h g t (never_started g) ne

@@ -1,9 +1,6 @@
 -- The harts of a mask.
-use Rattle.std.proofs.Common.{ℕ, ◌≡◌, ◌≢◌, ◌*◌, ◌%◌, ◌^◌, ◌<◌, ap, ◌∙◌, arith, inl, inr}
-use Rattle.std.proofs.lemmas.Bool.{cases_lt}
-use Rattle.std.specs.Int.{bit_at}
-use Rattle.std.proofs.lemmas.Nat.{pow_below}
-use Rattle.std.proofs.lemmas.Nat.Bits.{bit_at-pow_other, bit_at_above}
+use Rattle.std.{proofs.{Common.{ℕ, ◌≡◌, ◌≢◌, ◌*◌, ◌%◌, ◌^◌, ◌<◌, ap, ◌∙◌, arith, inl, inr}, lemmas.Bool.cases_lt}, specs.Int.bit_at}
+use Rattle.std.proofs.lemmas.Nat.{pow_below, Bits.{bit_at-pow_other, bit_at_above}}
 
 pub one_alone : (mask h g : ℕ) → h < 8 → mask ≡ 1 * 2 ^ h % 2 ^ 8 → g ≢ h → bit_at mask g ≡ 1 → ⊥
 one_alone mask h g low e ne has =

@@ -2,20 +2,13 @@
 use Rattle.std.proofs.Common.{ℕ, Bool, false, List, ◌≡◌, ◌≢◌, ◌⊎◌, refl, sym, ap, ◌∙◌, subst, inl, inr, not, arith}
 use Rattle.std.specs.Prelude.{Result, Ok, Err}
 use Rattle.board_model.specs.Shapes.{Size}
-use Rattle.sbi_abi.specs.Calls.{call_of}
-use Rattle.sbi_abi.specs.declared.call.Call.{Call}
+use Rattle.sbi_abi.specs.{Calls.call_of, declared.{call.Call.Call, ret.SbiError.SbiError}}
 use Rattle.sbi_abi.specs.declared.call.Call.TheVariants as calls
-use Rattle.sbi_abi.specs.declared.ret.SbiError.{SbiError}
-use Rattle.sbi_calls.specs.declared.words.Turned.{Turned}
-use Rattle.sbi_calls.specs.declared.words.Turned.TheVariants.{Made, Durable}
-use Rattle.susp.specs.Checks.{IsChecked, kind_of, to_ram, to_disk}
-use Rattle.susp.specs.declared.sleeps.Sleep.{Sleep}
-use Rattle.susp.specs.declared.sleeps.Sleep.TheVariants.{ToRam, ToDisk}
+use Rattle.sbi_calls.specs.declared.words.Turned.{Turned, TheVariants.{Made, Durable}}
+use Rattle.susp.specs.{Checks.{IsChecked, kind_of, to_ram, to_disk}, declared.sleeps.Sleep.{Sleep, TheVariants.{ToRam, ToDisk}}}
 use Rattle.machine.specs.Machine.{Machine, hart_at}
-use Rattle.model_board.specs.Boards.{Life, Board, On, Off, Ended}
-use Rattle.model_board.specs.Held.{SleptBy, HeldBy}
+use Rattle.model_board.{specs.{Boards.{Life, Board, On, Off, Ended}, Held.{SleptBy, HeldBy}}, proofs.Swaps.IsOneTurn}
 use Rattle.model_board.specs.Events.{Event, Turn, Refused, Wake, Cut, PowerOn, ToldBy, TurnsBy, Does}
-use Rattle.model_board.proofs.Swaps.{IsOneTurn}
 
 one_sleep : (a b : Sleep) → kind_of a ≡ kind_of b → a ≡ b
 one_sleep ToRam ToRam e = refl

@@ -1,21 +1,13 @@
 -- What a turn that keeps a map leaves of the memory.
 use Rattle.std.proofs.Common.{ℕ, Bool, true, false, List, ◌≡◌, ◌/◌, length, slice_index, refl, sym, ap, subst, Option, Some, None}
 use Rattle.board_model.specs.Shapes.{Size}
-use Rattle.hart.specs.State.{ArchState}
-use Rattle.hart.specs.Means.{Steps}
-use Rattle.hart.specs.declared.Outcome.{Outcome}
-use Rattle.hart.proofs.Decided.{unless, same_number}
-use Rattle.hsm.specs.States.{HartState, stopped, start_pending, started, suspended}
-use Rattle.hsm.specs.Views.{listed}
+use Rattle.hart.{specs.{State.ArchState, Means.Steps, declared.Outcome.Outcome}, proofs.Decided.{unless, same_number}}
+use Rattle.hsm.specs.{States.{HartState, stopped, start_pending, started, suspended}, Views.listed}
 use Rattle.sbi_calls.specs.declared.words.Turned.{Turned}
-use Rattle.susp.specs.Dozes.{doze_of}
-use Rattle.susp.specs.declared.buses.Doze.{Doze}
+use Rattle.susp.specs.{Dozes.doze_of, declared.buses.Doze.Doze}
 use Rattle.turns.specs.Turns.{Moment, woken_turn, begun_by, has_pending, TurnAs}
-use Rattle.machine.specs.Machine.{Machine, hart_at}
-use Rattle.machine.specs.Turns.{moment_of, TurnBy, DozeTurn, MakesTurn}
-use Rattle.model_board.specs.Maps.{Map, StepKeeps, KeepsMap, SameOutside}
-use Rattle.model_board.proofs.Frames.{step_long, step_changes}
-use Rattle.model_board.proofs.Turned.{pending_in}
+use Rattle.machine.specs.{Machine.{Machine, hart_at}, Turns.{moment_of, TurnBy, DozeTurn, MakesTurn}}
+use Rattle.model_board.{specs.Maps.{Map, StepKeeps, KeepsMap, SameOutside}, proofs.{Frames.{step_long, step_changes}, Turned.pending_in}}
 
 pub same_memory : (map : Map) (m n : List ℕ) → n ≡ m → SameOutside map m n
 same_memory map m n e = record { long = ap (λ (b : List ℕ). length b) e; same = λ j none. ap (λ (b : List ℕ). slice_index b j) e }

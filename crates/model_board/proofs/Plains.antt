@@ -1,22 +1,16 @@
 -- The tables as plain data are those of the model.
 use Rattle.std.proofs.Common.{ℕ, zero, suc, Bool, true, false, IsTrue, List, [], ◌∷◌, map, ◌≡◌, ◌≢◌, ◌+◌, ◌*◌, ◌/◌, ◌%◌, ◌^◌, ◌<◌, ◌≤◌, length, refl, sym, ap, ◌∙◌, subst, inl, inr, if◌then◌else◌, eq-eqb, ne_eqb, arith}
-use Rattle.std.specs.Prelude.{get_or, slice_set, slice_index, replicate, not, ◌==◌}
-use Rattle.std.specs.Int.{bit_at, w8}
-use Rattle.std.proofs.lemmas.Bool.{cases_lt, cases_eq, eqb-false}
+use Rattle.std.specs.{Prelude.{get_or, slice_set, slice_index, replicate, not, ◌==◌}, Int.{bit_at, w8}}
+use Rattle.std.proofs.lemmas.{Bool.{cases_lt, cases_eq, eqb-false}, Nat.{or_lt, pow_pos, pow_below, div_below}}
 use Rattle.std.proofs.lemmas.List.{get_or-map, map-set, length-map, length-set, get_or-set_same, get_or-set_other, get_or_past, ext_get_or, set-get_or, get_or_read, length-replicate, get_or-replicate}
 use Rattle.std.proofs.lemmas.Nat.Bits.{bit_at-zero, same_from_bits, bit_at_set_same, bit_at_set_other}
-use Rattle.std.proofs.lemmas.Nat.{or_lt, pow_pos, pow_below, div_below}
-use Rattle.tallies.specs.Seats.{numbers_from}
-use Rattle.tallies.proofs.Seatings.{at_all}
-use Rattle.hsm.specs.States.{HartState, stopped, start_pending, started, suspended, is_stopped}
-use Rattle.machine.specs.Machine.{only_first, none_pending}
-use Rattle.hsm.specs.Copies.{state_told}
+use Rattle.tallies.{specs.Seats.numbers_from, proofs.Seatings.at_all}
+use Rattle.hsm.specs.{States.{HartState, stopped, start_pending, started, suspended, is_stopped}, Copies.state_told, Views.listed}
 use Rattle.hsm.specs.declared.standings.Standing.{Standing}
+use Rattle.machine.specs.Machine.{only_first, none_pending}
 use Rattle.hsm.specs.declared.standings.Standing.TheVariants as told
-use Rattle.hsm.specs.Views.{listed}
 use Rattle.ipi.specs.Views.{row_of}
-use Rattle.sbi_calls.specs.Both.{TableState}
-use Rattle.sbi_calls.specs.Answers.{with_state, row_sent, pairs_sent}
+use Rattle.sbi_calls.specs.{Both.TableState, Answers.{with_state, row_sent, pairs_sent}}
 use Rattle.turns.specs.Turns.{has_true, has_pending, after_take}
 use Rattle.model_board.specs.Plain.{row_in, table_in, raised, sent_to, AreTables}
 

@@ -3,8 +3,7 @@ use Rattle.std.proofs.Common.{ℕ, Option, Some, None}
 use Rattle.rv_decode.specs.declared.instr.Instr.{Instr}
 use Rattle.rv_decode.specs.declared.instr.Instr.TheVariants as instr
 use Rattle.rv_decode.specs.declared.ops.SystemOp.TheVariants as system
-use Rattle.model_board.specs.Registers.{IsUnread}
-use Rattle.model_board.specs.Sources.{sources_read, IsAmong}
+use Rattle.model_board.specs.{Registers.IsUnread, Sources.{sources_read, IsAmong}}
 
 pub unread_by : (o : Option Instr) (k : ℕ) → (IsAmong (sources_read o) k → ⊥) → IsUnread o k
 unread_by None k none = tt

@@ -1,19 +1,13 @@
 -- What a turn of one hart leaves of the state of another that is STARTED, and of what is pending for it.
 use Rattle.std.proofs.Common.{ℕ, zero, suc, Bool, true, false, IsTrue, List, [], ◌∷◌, map, ◌≡◌, ◌≢◌, ◌<◌, ◌≤◌, length, refl, sym, ap, ◌∙◌, subst, inl, inr, if◌then◌else◌, ne_eqb, arith}
-use Rattle.std.specs.Prelude.{slice_set, Ok, Err, ◌==◌}
-use Rattle.std.specs.Int.{bit_at}
-use Rattle.std.proofs.lemmas.Bool.{cases_lt}
+use Rattle.std.{specs.{Prelude.{slice_set, Ok, Err, ◌==◌}, Int.bit_at}, proofs.lemmas.Bool.cases_lt}
 use Rattle.std.proofs.lemmas.List.{get_or-set_other, set-get_or, get_or_past, length-map}
-use Rattle.tallies.specs.Seats.{numbers_from}
-use Rattle.tallies.proofs.Seatings.{at_all}
+use Rattle.tallies.{specs.Seats.numbers_from, proofs.Seatings.at_all}
 use Rattle.board_model.specs.HartSets.{Has}
 use Rattle.hart.proofs.Decided.{either, same_number}
-use Rattle.hsm.specs.States.{HartState, stopped, started, suspended, grant}
-use Rattle.hsm.specs.Views.{listed}
+use Rattle.hsm.specs.{States.{HartState, stopped, started, suspended, grant}, Views.listed}
 use Rattle.ipi.specs.Views.{row_of}
-use Rattle.sbi_calls.specs.Both.{TableState}
-use Rattle.sbi_calls.specs.Answers.{row, row_sent, pairs_sent, with_state}
-use Rattle.sbi_calls.specs.Requests.{Checked}
+use Rattle.sbi_calls.specs.{Both.TableState, Answers.{row, row_sent, pairs_sent, with_state}, Requests.Checked}
 use Rattle.sbi_calls.specs.declared.requests.Request.TheVariants.{Value, Start, Stop, Status, Suspend, SuspendAfresh, Send, Command}
 use Rattle.turns.specs.Turns.{has_true, has_pending, after_take}
 

@@ -1,20 +1,14 @@
 -- What a step touches on a memory that agrees with another, and a step whose place another hart's turn can't change.
 use Rattle.std.proofs.Common.{ℕ, Bool, List, ◌≡◌, ◌/◌, ◌%◌, length, slice_index, refl, sym, ◌∙◌, subst, inl, inr, IsTrue}
 use Rattle.board_model.specs.Shapes.{Size}
-use Rattle.hart.specs.State.{ArchState}
-use Rattle.hart.specs.Csrs.{csr_number}
-use Rattle.hart.specs.Means.{Steps, DoesCsr, Exchanges, means, word_at}
+use Rattle.hart.specs.{State.ArchState, Csrs.csr_number, Means.{Steps, DoesCsr, Exchanges, means, word_at}, declared.csr.Csr.Csr}
 use Rattle.hart.specs.declared.Outcome.TheVariants.{Next, Ecall, TakePending}
-use Rattle.hart.specs.declared.csr.Csr.{Csr}
 use Rattle.hart.proofs.Decided.{either, unless, same_number, inside, interrupted, takes, listed}
-use Rattle.rv_decode.specs.Spells.{spells}
-use Rattle.rv_decode.specs.declared.instr.Instr.{Instr}
+use Rattle.rv_decode.specs.{Spells.spells, declared.{instr.Instr.Instr, ops.CsrOp.CsrOp}}
 use Rattle.rv_decode.specs.declared.instr.Instr.TheVariants as instr
-use Rattle.rv_decode.specs.declared.ops.CsrOp.{CsrOp}
 use Rattle.rv_decode.specs.declared.ops.SystemOp.TheVariants as system
 use Rattle.model_board.specs.Touches.{word_of, Fetches, ComesTo, ReadsWord, WritesWord, SendsTo, AccessesSip, ReadsPending, IsOpen}
-use Rattle.model_board.specs.Maps.{Map, WritesAlone, ReadsAlone, HearsNone, StepsAlone}
-use Rattle.model_board.proofs.Words.{SameWord, Merges}
+use Rattle.model_board.{specs.Maps.{Map, WritesAlone, ReadsAlone, HearsNone, StepsAlone}, proofs.Words.{SameWord, Merges}}
 use Rattle.model_board.proofs.Frames.{Moves, comes_in, fetches_in, accesses_in, step_moves, step_asks, step_changes}
 
 -- ---- on a memory that agrees on the word that is fetched

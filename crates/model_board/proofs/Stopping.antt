@@ -1,11 +1,9 @@
 -- Every hart is made one that never ran.
 use Rattle.std.proofs.Common.{ℕ, zero, suc, List, [], ◌∷◌, ◌≡◌, ◌+◌, ◌-◌, ◌<◌, length, sym, ap, ◌∙◌, subst, inl, inr, arith}
-use Rattle.std.specs.Prelude.{get_or, slice_set}
-use Rattle.std.proofs.lemmas.Bool.{cases_eq, cases_lt}
+use Rattle.std.{specs.Prelude.{get_or, slice_set}, proofs.lemmas.Bool.{cases_eq, cases_lt}}
 use Rattle.std.proofs.lemmas.List.{get_or-set_same, get_or-set_other, get_or_default, ext_get_or, get_or_append_left, get_or-append_right}
 use Rattle.hart.specs.State.{ArchState, never_started}
-use Rattle.machine.specs.Machine.{stopped_harts}
-use Rattle.machine.proofs.Opening.{long}
+use Rattle.machine.{specs.Machine.stopped_harts, proofs.Opening.long}
 
 stopped_at : (n h : ℕ) (d : ArchState) → h < n → get_or (stopped_harts n) h d ≡ never_started h
 stopped_at zero h d low = absurd (omega (arith, low))

@@ -1,31 +1,19 @@
 -- Events of the model board, before and after a local turn.
 use Rattle.std.proofs.Common.{ℕ, Bool, true, false, List, ◌≡◌, ◌≢◌, ◌⊎◌, refl, sym, ap, ◌∙◌, subst, inl, inr, not, None}
-use Rattle.std.specs.Prelude.{Result, Ok, Err, []}
-use Rattle.std.proofs.lemmas.List.{get_or-set_same}
-use Rattle.board_model.specs.Shapes.{Size}
-use Rattle.board_model.specs.declared.durable.Reason.{Reason}
-use Rattle.hart.specs.State.{ArchState, never_started, answered}
-use Rattle.hart.specs.declared.Outcome.TheVariants.{Next}
+use Rattle.std.{specs.Prelude.{Result, Ok, Err, []}, proofs.lemmas.List.get_or-set_same}
+use Rattle.board_model.specs.{Shapes.Size, declared.durable.Reason.Reason}
+use Rattle.hart.specs.{State.{ArchState, never_started, answered}, declared.Outcome.TheVariants.Next}
 use Rattle.hart.proofs.Decided.{either, same_number}
-use Rattle.hsm.specs.States.{HartState, stopped, started}
-use Rattle.hsm.specs.Views.{listed}
-use Rattle.sbi_abi.specs.Answers.{error_of}
-use Rattle.sbi_abi.specs.Calls.{call_of}
-use Rattle.sbi_abi.specs.declared.call.Call.{Call}
-use Rattle.sbi_abi.specs.declared.call.Call.TheVariants as calls
-use Rattle.sbi_abi.specs.declared.ret.SbiError.{SbiError}
+use Rattle.hsm.specs.{States.{HartState, stopped, started}, Views.listed}
+use Rattle.sbi_abi.specs.{Answers.error_of, Calls.call_of, declared.{call.Call.Call, ret.SbiError.SbiError}}
 use Rattle.sbi_abi.specs.declared.ret.SbiError.TheVariants.{NotSupported, Denied, Failed}
-use Rattle.sbi_calls.specs.declared.words.Turned.{Turned}
+use Rattle.sbi_abi.specs.declared.call.Call.TheVariants as calls
+use Rattle.sbi_calls.specs.declared.words.Turned.{Turned, TheVariants.{Made, Durable}}
 use Rattle.sbi_calls.specs.declared.words.Did.TheVariants as dids
-use Rattle.sbi_calls.specs.declared.words.Turned.TheVariants.{Made, Durable}
-use Rattle.sbi.specs.Resets.{reset_of}
-use Rattle.sbi.specs.declared.resets.ResetType.{ResetType}
-use Rattle.sbi.specs.declared.resets.ResetType.TheVariants.{Shutdown, ColdReboot}
-use Rattle.susp.specs.Dozes.{can_wake}
-use Rattle.susp.specs.declared.sleeps.Sleep.{Sleep}
+use Rattle.sbi.specs.{Resets.reset_of, declared.resets.ResetType.{ResetType, TheVariants.{Shutdown, ColdReboot}}}
+use Rattle.susp.specs.{Dozes.can_wake, declared.sleeps.Sleep.Sleep}
 use Rattle.turns.specs.Turns.{moment, begun_by, TurnAs}
-use Rattle.machine.specs.Machine.{Machine, hart_at}
-use Rattle.machine.specs.Turns.{MakesTurn}
+use Rattle.machine.specs.{Machine.{Machine, hart_at}, Turns.MakesTurn}
 use Rattle.model_board.specs.Boards.{Standing, Life, Board, On, Off, Ended}
 use Rattle.model_board.specs.Held.{refused, after_reset, reset_by, IsAlone, SleptBy, Sleeps, HeldBy, AsksStore, with_hart}
 use Rattle.model_board.specs.Events.{Event, Turn, Refused, Wake, Cut, PowerOn, ToldBy, TurnsBy, Asks, Does, IsEnd, IsOff}

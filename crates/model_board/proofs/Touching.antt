@@ -1,19 +1,13 @@
 -- A footprint has all that a step touches.
 use Rattle.std.proofs.Common.{ℕ, Bool, true, false, List, ◌≡◌, ◌+◌, ◌*◌, ◌/◌, ◌%◌, length, refl, sym, ap, ◌∙◌, subst, inl, inr, if◌then◌else◌, eq-eqb, Option, Some, None, true≢false}
-use Rattle.std.specs.Prelude.{◌==◌, ◌&&◌, nat_le}
-use Rattle.std.proofs.lemmas.Bool.{le-leb}
-use Rattle.hart.specs.State.{ArchState, reg}
-use Rattle.hart.specs.Csrs.{csr_number, csr_read, flag}
-use Rattle.hart.specs.Means.{sum, load_bytes, store_bytes, word_at}
-use Rattle.hart.specs.declared.csr.Csr.TheVariants.{Sip, Sstatus, Sie}
-use Rattle.hart.proofs.Obeyed.{HasOne}
-use Rattle.rv_decode.specs.Spells.{spells, Reads}
-use Rattle.rv_decode.specs.declared.instr.Instr.{Instr}
+use Rattle.std.{specs.Prelude.{◌==◌, ◌&&◌, nat_le}, proofs.lemmas.Bool.le-leb}
+use Rattle.hart.specs.{State.{ArchState, reg}, Csrs.{csr_number, csr_read, flag}, Means.{sum, load_bytes, store_bytes, word_at}}
+use Rattle.hart.{specs.declared.csr.Csr.TheVariants.{Sip, Sstatus, Sie}, proofs.Obeyed.HasOne}
+use Rattle.rv_decode.specs.{Spells.{spells, Reads}, declared.instr.Instr.Instr}
 use Rattle.rv_decode.specs.declared.instr.Instr.TheVariants as instr
 use Rattle.rv_decode.specs.declared.ops.SystemOp.TheVariants as system
 use Rattle.model_board.specs.Touches.{word_of, ComesTo, Accesses, LoadsWord, WritesWord, AccessesSip, IsOpen}
-use Rattle.model_board.specs.Footprints.{accessed, touch_read, footprint_at, Covers}
-use Rattle.model_board.specs.declared.footprints.Footprint.{Footprint}
+use Rattle.model_board.specs.{Footprints.{accessed, touch_read, footprint_at, Covers}, declared.footprints.Footprint.Footprint}
 use Rattle.model_board.specs.declared.footprints.Touch.{Touch}
 use Rattle.model_board.specs.declared.footprints.Touch.TheVariants as touch
 

@@ -2,25 +2,15 @@
 use Rattle.std.proofs.Common.{ℕ, Bool, true, false, List, ◌≡◌, ◌≢◌, ◌/◌, length, slice_index, refl, sym, ◌∙◌, subst, inl, inr}
 use Rattle.std.specs.Prelude.{Ok}
 use Rattle.board_model.specs.Shapes.{Size}
-use Rattle.hart.specs.State.{ArchState}
-use Rattle.hart.specs.Means.{Steps}
-use Rattle.hart.specs.declared.Outcome.{Outcome}
+use Rattle.hart.{specs.{State.ArchState, Means.Steps, declared.Outcome.Outcome}, proofs.{Decided.{IsDecided, unless}, Numbered.step_keeps}}
 use Rattle.hart.specs.declared.Outcome.TheVariants as outcomes
-use Rattle.hart.proofs.Decided.{IsDecided, unless}
-use Rattle.hart.proofs.Numbered.{step_keeps}
-use Rattle.hsm.specs.States.{HartState, stopped, start_pending, started, suspended}
-use Rattle.hsm.specs.Views.{listed}
+use Rattle.hsm.specs.{States.{HartState, stopped, start_pending, started, suspended}, Views.listed}
 use Rattle.sbi_abi.specs.Calls.{call_of}
-use Rattle.sbi_calls.specs.Requests.{request_of}
-use Rattle.sbi_calls.specs.declared.requests.Request.TheVariants.{Send}
-use Rattle.sbi_calls.specs.Both.{TableState}
-use Rattle.sbi_calls.specs.Answers.{row, with_state}
+use Rattle.sbi_calls.specs.{Requests.request_of, declared.requests.Request.TheVariants.Send, Both.TableState, Answers.{row, with_state}}
 use Rattle.sbi_calls.specs.declared.words.Turned.{Turned}
 use Rattle.turns.specs.Turns.{Moment, moment, begun_by, woken_turn, has_pending, after_take, Finishes, TurnAs}
-use Rattle.model_board.specs.Touches.{ReadsWord, WritesWord, SendsTo}
-use Rattle.model_board.proofs.Words.{SameWord, Merges, merged, merges}
+use Rattle.model_board.{specs.Touches.{ReadsWord, WritesWord, SendsTo}, proofs.{Words.{SameWord, Merges, merged, merges}, Steps.step_calls}}
 use Rattle.model_board.proofs.Frames.{Moves, step_moves, step_changes, step_long}
-use Rattle.model_board.proofs.Steps.{step_calls}
 use Rattle.model_board.proofs.Stays.{Leaves, leaves, state_leaves, take_leaves, row_leaves}
 
 same_bool : (a b : Bool) → IsDecided (a ≡ b)

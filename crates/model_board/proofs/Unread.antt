@@ -1,45 +1,22 @@
 -- A turn that does not read a register does the same whatever it holds, and leaves it as it is or writes it.
 use Rattle.std.proofs.Common.{ℕ, ℤ, Bool, true, false, ◌≡◌, ◌⊎◌, ⊎_elim, inl, inr, ◌+◌, ◌%◌, ◌^◌, List, Option, Some, None, refl, sym, ap, ◌∙◌, subst, if◌then◌else◌}
-use Rattle.std.proofs.lemmas.List.{set-set, set_comm, get_or-set_other}
-use Rattle.std.specs.Prelude.{slice_set, nat_eq}
-use Rattle.hart.specs.Values.{residue}
-use Rattle.hart.specs.State.{ArchState, reg, put, jump, next}
-use Rattle.hart.specs.Csrs.{csr_read, csr_write, csr_new, csr_writes}
+use Rattle.std.{proofs.lemmas.List.{set-set, set_comm, get_or-set_other}, specs.Prelude.{slice_set, nat_eq}}
+use Rattle.hart.specs.{Values.residue, State.{ArchState, reg, put, jump, next, answered}, Csrs.{csr_read, csr_write, csr_new, csr_writes}}
 use Rattle.hart.specs.Means.{sum, even, Sets, Jumps, DoesUpper, DoesArith, DoesArithWord, DoesBranch, DoesLoad, DoesStore, Exchanges, DoesCsr, DoesSystem, csr_put, load_bytes, imm_op, shift_op, shift_word_op, means, Steps, Traps, Interrupts, Obeys, word_at}
-use Rattle.hart.specs.declared.Outcome.{Outcome}
-use Rattle.hart.specs.declared.csr.Csr.{Csr}
-use Rattle.hart.specs.declared.csr.Csr.TheVariants.{Sstatus, Sie, Stvec, Sscratch, Sepc, Scause, Stval, Sip, Satp}
-use Rattle.hart.proofs.Decided.{either, same_number, inside, listed, takes, interrupted}
-use Rattle.hart.proofs.Obeyed.{HasOne, obeyed}
+use Rattle.hart.specs.declared.{Outcome.Outcome, csr.Csr.{Csr, TheVariants.{Sstatus, Sie, Stvec, Sscratch, Sepc, Scause, Stval, Sip, Satp}}}
+use Rattle.hart.proofs.{Decided.{either, same_number, inside, listed, takes, interrupted}, Obeyed.{HasOne, obeyed}}
 use Rattle.ram.specs.Memory.{IsInside}
-use Rattle.rv_decode.specs.Spells.{Reads}
-use Rattle.rv_decode.specs.declared.instr.Instr.{Instr}
+use Rattle.rv_decode.specs.{Spells.Reads, declared.{instr.Instr.Instr, ops.{UpperOp.{UpperOp, TheVariants.{Lui, Auipc}}, ArithOp.ArithOp}}}
+use Rattle.rv_decode.specs.declared.ops.{ArithWordOp.{ArithWordOp, TheVariants.Addw}, BranchOp.BranchOp, LoadOp.LoadOp, StoreOp.StoreOp}
+use Rattle.rv_decode.specs.declared.ops.{CsrOp.CsrOp, SystemOp.{SystemOp, TheVariants.{Ecall, Ebreak, Sret, Wfi}}}
 use Rattle.rv_decode.specs.declared.instr.Instr.TheVariants as instr
-use Rattle.rv_decode.specs.declared.ops.UpperOp.{UpperOp}
-use Rattle.rv_decode.specs.declared.ops.UpperOp.TheVariants.{Lui, Auipc}
-use Rattle.rv_decode.specs.declared.ops.ArithOp.{ArithOp}
-use Rattle.rv_decode.specs.declared.ops.ArithWordOp.{ArithWordOp}
-use Rattle.rv_decode.specs.declared.ops.ArithWordOp.TheVariants.{Addw}
-use Rattle.rv_decode.specs.declared.ops.BranchOp.{BranchOp}
-use Rattle.rv_decode.specs.declared.ops.LoadOp.{LoadOp}
-use Rattle.rv_decode.specs.declared.ops.StoreOp.{StoreOp}
-use Rattle.rv_decode.specs.declared.ops.CsrOp.{CsrOp}
-use Rattle.rv_decode.specs.declared.ops.SystemOp.{SystemOp}
-use Rattle.rv_decode.specs.declared.ops.SystemOp.TheVariants.{Ecall, Ebreak, Sret, Wfi}
 use Rattle.hart.specs.declared.Outcome.TheVariants as outcomes
-use Rattle.hart.specs.State.{answered}
 use Rattle.board_model.specs.Shapes.{Size}
-use Rattle.sbi_abi.specs.Calls.{call_of, call_at}
-use Rattle.sbi_abi.specs.Answers.{error_of, value_of}
-use Rattle.sbi_abi.specs.declared.call.Call.{Call}
-use Rattle.sbi_calls.specs.Both.{TableState}
-use Rattle.sbi_calls.specs.Answers.{CallRow, answer, Ends}
-use Rattle.sbi_calls.specs.declared.endings.Ending.{Ending}
+use Rattle.sbi_abi.specs.{Calls.{call_of, call_at}, Answers.{error_of, value_of}, declared.call.Call.Call}
+use Rattle.sbi_calls.specs.{Both.TableState, Answers.{CallRow, answer, Ends}, declared.{endings.Ending.Ending, words.Turned.Turned}}
 use Rattle.sbi_calls.specs.declared.endings.Ending.TheVariants.{Answers, Stops, Suspends, SuspendsAfresh, Defers}
-use Rattle.sbi_calls.specs.declared.words.Turned.{Turned}
-use Rattle.turns.specs.declared.readies.Ready.{Ready}
+use Rattle.turns.specs.{declared.readies.Ready.Ready, Turns.{Moment, TurnAs, TurnOf, Finishes, turn_begun}}
 use Rattle.turns.specs.declared.readies.Ready.TheVariants as readies
-use Rattle.turns.specs.Turns.{Moment, TurnAs, TurnOf, Finishes, turn_begun}
 use Rattle.model_board.specs.Registers.{with_register, holding, IsRead, IsUnread, IsOfCall}
 
 pub map_sum : {A B C D : Type 0} → (A → C) → (B → D) → A ⊎ B → C ⊎ D

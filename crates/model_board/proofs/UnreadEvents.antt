@@ -1,38 +1,20 @@
 -- An event that reads not a register of a hart does the same to a board whatever it holds.
 use Rattle.std.proofs.Common.{ℕ, Bool, true, false, ◌≡◌, ◌⊎◌, ⊎_elim, inl, inr, ◌<◌, List, length, Option, Some, None, Result, Ok, Err, refl, sym, ap, ◌∙◌, subst, length-set}
-use Rattle.std.proofs.lemmas.List.{set-set, set_comm, get_or-set_same, get_or-set_other}
-use Rattle.std.specs.Prelude.{slice_set, not}
-use Rattle.board_model.specs.Shapes.{Size}
-use Rattle.board_model.specs.declared.durable.Reason.{Reason}
-use Rattle.hart.specs.State.{ArchState, never_started, answered, started as fresh}
-use Rattle.hart.specs.Means.{Steps, word_at}
-use Rattle.hart.specs.declared.Outcome.{Outcome}
+use Rattle.std.{proofs.lemmas.List.{set-set, set_comm, get_or-set_same, get_or-set_other}, specs.Prelude.{slice_set, not}}
+use Rattle.board_model.specs.{Shapes.Size, declared.durable.Reason.Reason}
+use Rattle.hart.specs.{State.{ArchState, never_started, answered, started as fresh}, Means.{Steps, word_at}, declared.Outcome.Outcome}
+use Rattle.hart.proofs.{Decided.{either, same_number}, Obeyed.HasOne}
 use Rattle.hart.specs.declared.Outcome.TheVariants as outcomes
-use Rattle.hart.proofs.Decided.{either, same_number}
-use Rattle.hart.proofs.Obeyed.{HasOne}
-use Rattle.rv_decode.specs.Spells.{Reads}
-use Rattle.rv_decode.specs.declared.instr.Instr.{Instr}
-use Rattle.sbi_abi.specs.Answers.{error_of}
-use Rattle.sbi_abi.specs.Calls.{call_of}
-use Rattle.sbi_abi.specs.declared.call.Call.{Call}
-use Rattle.sbi_abi.specs.declared.call.Call.TheVariants as calls
-use Rattle.sbi_abi.specs.declared.ret.SbiError.{SbiError}
+use Rattle.rv_decode.specs.{Spells.Reads, declared.instr.Instr.Instr}
+use Rattle.sbi_abi.specs.{Answers.error_of, Calls.call_of, declared.{call.Call.Call, ret.SbiError.SbiError}}
 use Rattle.sbi_abi.specs.declared.ret.SbiError.TheVariants.{Failed, NotSupported, Denied}
-use Rattle.sbi.specs.Resets.{reset_of}
-use Rattle.sbi.specs.declared.resets.ResetType.{ResetType}
-use Rattle.sbi.specs.declared.resets.ResetType.TheVariants.{Shutdown, ColdReboot}
-use Rattle.sbi_calls.specs.Both.{TableState}
-use Rattle.sbi_calls.specs.declared.words.Turned.{Turned}
-use Rattle.sbi_calls.specs.declared.words.Turned.TheVariants.{Made, Durable}
-use Rattle.susp.specs.Dozes.{doze_of}
-use Rattle.susp.specs.declared.buses.Doze.{Doze}
-use Rattle.susp.specs.declared.sleeps.Sleep.{Sleep}
-use Rattle.susp.specs.declared.sleeps.Sleep.TheVariants.{ToRam, ToDisk}
-use Rattle.turns.specs.declared.readies.Ready.{Ready}
+use Rattle.sbi_abi.specs.declared.call.Call.TheVariants as calls
+use Rattle.sbi.specs.{Resets.reset_of, declared.resets.ResetType.{ResetType, TheVariants.{Shutdown, ColdReboot}}}
+use Rattle.sbi_calls.specs.{Both.TableState, declared.words.Turned.{Turned, TheVariants.{Made, Durable}}}
+use Rattle.susp.specs.{Dozes.doze_of, declared.{buses.Doze.Doze, sleeps.Sleep.{Sleep, TheVariants.{ToRam, ToDisk}}}}
+use Rattle.turns.specs.{declared.readies.Ready.Ready, Turns.{Moment, moment, Finishes, TurnAs, TurnOf, turn_begun, after_take}}
 use Rattle.turns.specs.declared.readies.Ready.TheVariants as readies
-use Rattle.turns.specs.Turns.{Moment, moment, Finishes, TurnAs, TurnOf, turn_begun, after_take}
-use Rattle.machine.specs.Machine.{Machine, hart_at}
-use Rattle.machine.specs.Turns.{MakesTurn, TurnBy, DozeTurn, moment_of, resumed}
+use Rattle.machine.specs.{Machine.{Machine, hart_at}, Turns.{MakesTurn, TurnBy, DozeTurn, moment_of, resumed}}
 use Rattle.model_board.specs.Boards.{Standing, Life, Board, On, Off, Ended}
 use Rattle.model_board.specs.Events.{Event, Turn, Refused, Wake, Cut, PowerOn, Does, TurnsBy, ToldBy, Asks}
 use Rattle.model_board.specs.Held.{HeldBy, SleptBy, AsksStore, reset_by, after_reset, slept_by, refused, with_hart}

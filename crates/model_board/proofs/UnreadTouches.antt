@@ -1,26 +1,18 @@
 -- What a turn touches, and whether it is local, does not depend on a register that it does not read.
 use Rattle.std.proofs.Common.{ℕ, Bool, ◌≡◌, ◌⊎◌, inl, inr, ◌<◌, List, length, Option, Some, None, refl, sym, ap, ◌∙◌, subst, length-set}
-use Rattle.std.proofs.lemmas.List.{get_or-set_same}
+use Rattle.std.{proofs.lemmas.List.get_or-set_same, specs.Prelude.Ok}
 use Rattle.board_model.specs.Shapes.{Size}
-use Rattle.hart.specs.State.{ArchState, never_started}
-use Rattle.turns.specs.Turns.{has_pending}
-use Rattle.hart.specs.Means.{Steps, sum, load_bytes, store_bytes, word_at}
-use Rattle.hart.specs.declared.Outcome.TheVariants as outcomes
+use Rattle.hart.{specs.{State.{ArchState, never_started}, Means.{Steps, sum, load_bytes, store_bytes, word_at}}, proofs.Obeyed.HasOne}
 use Rattle.hart.proofs.Decided.{either, same_number}
-use Rattle.hart.proofs.Obeyed.{HasOne}
-use Rattle.hsm.specs.States.{started}
-use Rattle.hsm.specs.Views.{listed}
-use Rattle.rv_decode.specs.Spells.{spells, Reads}
-use Rattle.rv_decode.specs.declared.instr.Instr.{Instr}
+use Rattle.turns.specs.Turns.{has_pending}
+use Rattle.hart.specs.declared.Outcome.TheVariants as outcomes
+use Rattle.hsm.specs.{States.started, Views.listed}
+use Rattle.rv_decode.specs.{Spells.{spells, Reads}, declared.{instr.Instr.Instr, ops.SystemOp.TheVariants.Ecall}}
 use Rattle.rv_decode.specs.declared.instr.Instr.TheVariants as instr
-use Rattle.rv_decode.specs.declared.ops.SystemOp.TheVariants.{Ecall}
 use Rattle.sbi_abi.specs.declared.call.Call.{Call}
-use Rattle.sbi_calls.specs.Requests.{request_of}
-use Rattle.sbi_calls.specs.declared.requests.Request.TheVariants.{Send}
-use Rattle.std.specs.Prelude.{Ok}
+use Rattle.sbi_calls.specs.{Requests.request_of, declared.requests.Request.TheVariants.Send}
 use Rattle.machine.specs.Machine.{Machine, hart_at}
-use Rattle.model_board.specs.Boards.{Life, Board, On, Off, Ended}
-use Rattle.model_board.specs.Events.{Event, Turn, Refused, Wake, Cut, PowerOn}
+use Rattle.model_board.specs.{Boards.{Life, Board, On, Off, Ended}, Events.{Event, Turn, Refused, Wake, Cut, PowerOn}}
 use Rattle.model_board.specs.Touches.{Fetches, ComesTo, Accesses, ReadsWord, WritesWord, SendsTo, ReadsPending}
 use Rattle.model_board.specs.Maps.{Map, StepKeeps, KeepsMap, Keeps, pending_at, IsSure, StepsAlone, MovesAlone, Local, moved}
 use Rattle.model_board.specs.Registers.{with_register, machine_holding, board_holding, IsRead, IsUnread, IsOfCall, TurnUnread, TurnsUnread, EventUnread, KnowsHart, MovesPc}

@@ -1,14 +1,11 @@
 -- Memories that agree on words, and a memory that has the changes of two.
 use Rattle.std.proofs.Common.{ℕ, zero, suc, List, [], ◌∷◌, ◌≡◌, ◌+◌, ◌-◌, ◌/◌, ◌%◌, ◌<◌, ◌≤◌, length, slice_index, refl, sym, ap, ◌∙◌, inl, inr, arith}
 use Rattle.std.proofs.lemmas.List.{ext_get_or}
-use Rattle.ram.specs.Memory.{value, AreBytes, Stored, IsInside}
-use Rattle.ram.proofs.Keeping.{same_value}
-use Rattle.rv_decode.specs.declared.ops.LoadOp.{LoadOp}
+use Rattle.ram.{specs.Memory.{value, AreBytes, Stored, IsInside}, proofs.Keeping.same_value}
+use Rattle.rv_decode.specs.declared.ops.{LoadOp.LoadOp, StoreOp.StoreOp}
 use Rattle.rv_decode.specs.declared.ops.LoadOp.TheVariants as load
-use Rattle.rv_decode.specs.declared.ops.StoreOp.{StoreOp}
 use Rattle.rv_decode.specs.declared.ops.StoreOp.TheVariants as store
-use Rattle.hart.specs.Means.{load_bytes, store_bytes}
-use Rattle.hart.proofs.Decided.{IsDecided, either, same_number}
+use Rattle.hart.{specs.Means.{load_bytes, store_bytes}, proofs.Decided.{IsDecided, either, same_number}}
 use Rattle.model_board.specs.Touches.{word_of}
 
 -- the word k is the same in both

@@ -1,34 +1,17 @@
 -- A command, from its plan to its answer.
 use Rattle.std.proofs.Common.{◌≡◌, ◌∙◌, inl, inr, ◌-◌, ◌^◌, ◌≤◌, ◌<◌, ℕ, Bool, true, false, Result, Err, None, length, refl, sym, ap, subst, arith}
-use Rattle.board_model.specs.Durable.{DurableState, Change, refusal_of, after, ends_life}
-use Rattle.board_model.specs.Shapes.{Size}
-use Rattle.board_model.specs.declared.refusal.Refusal.{Refusal}
+use Rattle.board_model.specs.{Durable.{DurableState, Change, refusal_of, after, ends_life}, Shapes.Size, declared.refusal.Refusal.Refusal}
 use Rattle.board_model.specs.declared.refusal.Refusal.TheVariants.{Device, Down}
-use Rattle.disk.specs.Facts.{Facts, Content, Lent, LeavesSince, counted, most}
-use Rattle.disk.specs.FaultState.{FaultState}
+use Rattle.disk.specs.{Facts.{Facts, Content, Lent, LeavesSince, counted, most}, FaultState.FaultState}
 use Rattle.disk.specs.Moments.{leaves_none, leaves_weaker}
-use Rattle.layout.specs.Records.{IsInRange}
-use Rattle.layout.specs.declared.records.Record.{Record}
-use Rattle.layout.specs.declared.records.Version.TheVariants.{Two}
-use Rattle.store.specs.Answers.{GoesTo, CountedRefusal}
-use Rattle.store.specs.Commits.{IsUp}
-use Rattle.store.specs.Leaves.{StandsForEither}
-use Rattle.store.specs.Opens.{CausedRefusal}
-use Rattle.store.specs.Standing.{state_of, StandsFor}
-use Rattle.store.proofs.Answering.{the_error}
-use Rattle.store.proofs.Renewing.{four_sectors}
-use Rattle.store.proofs.States.{up_leaves, stands_for}
-use Rattle.planned_store.specs.Commits.{asked_at}
-use Rattle.planned_store.specs.Plans.{asked, Commits, task_of}
-use Rattle.planned_store.specs.Reached.{CommitAt, Reached}
+use Rattle.layout.specs.{Records.IsInRange, declared.records.{Record.Record, Version.TheVariants.Two}}
+use Rattle.store.specs.{Answers.{GoesTo, CountedRefusal}, Commits.IsUp, Leaves.StandsForEither, Opens.CausedRefusal}
+use Rattle.store.{specs.Standing.{state_of, StandsFor}, proofs.{Answering.the_error, Renewing.four_sectors, States.{up_leaves, stands_for}}}
+use Rattle.planned_store.specs.{Commits.asked_at, Plans.{asked, Commits, task_of}, Reached.{CommitAt, Reached}, declared.plans.Plan.Plan}
 use Rattle.planned_store.specs.Stores.{state_now, Holds, Reaches, Told, Asked, receipt_at, receipt_of, store_at, store_after}
-use Rattle.planned_store.specs.declared.commits.Commit.{Commit}
-use Rattle.planned_store.specs.declared.commits.CommitStep.{CommitStep}
+use Rattle.planned_store.specs.declared.{commits.{Commit.Commit, CommitStep.CommitStep, Selected.Selected}, plans.Request.TheVariants.Done}
 use Rattle.planned_store.specs.declared.commits.CommitStep.TheVariants.{WriteRecord, SyncRecord, WriteGate, SyncGate, Committed, Unchanged, InDoubt}
-use Rattle.planned_store.specs.declared.commits.Selected.{Selected}
-use Rattle.planned_store.specs.declared.plans.Plan.{Plan}
 use Rattle.planned_store.specs.declared.plans.Plan.TheVariants.{Settling, ReadingSuperblock, ReadingGate, ReadingRecord, Found, Renewing, Committing, Formatting, Refused}
-use Rattle.planned_store.specs.declared.plans.Request.TheVariants.{Done}
 use Rattle.planned_store.specs.declared.stores.OpenStore.{OpenStore}
 use Rattle.planned_store.proofs.Committing.{done_up, done_moment, done_calls, done_wrote, unchanged_up, unchanged_moment, unchanged_still, unchanged_calls, doubted, doubt_moment, doubt_calls, next_same, goes_done, goes_unchanged, goes_doubt}
 

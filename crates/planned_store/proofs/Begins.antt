@@ -1,9 +1,8 @@
 -- Of which task a plan is when it begins.
 use Rattle.std.proofs.Common.{◌≡◌, ◌∙◌, inl, inr, ℕ, ap}
 use Rattle.board_model.specs.Shapes.{Size}
-use Rattle.planned_store.specs.Plans.{BeginsOpen, BeginsFormat, FormatBegins, Opens, Formats, task_of}
+use Rattle.planned_store.specs.{Plans.{BeginsOpen, BeginsFormat, FormatBegins, Opens, Formats, task_of}, declared.plans.Plan.Plan}
 use Rattle.planned_store.specs.declared.formats.Formatting.{Formatting as Format}
-use Rattle.planned_store.specs.declared.plans.Plan.{Plan}
 
 pub open_task : (n : ℕ) (p : Plan) → BeginsOpen n p → task_of p ≡ Opens
 open_task n p (inl begins) = ap task_of begins.1

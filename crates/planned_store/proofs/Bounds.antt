@@ -1,16 +1,12 @@
 -- Each call of a plan leaves fewer to come, and the plan stays one of the same task.
 use Rattle.std.proofs.Common.{◌≡◌, ◌<◌, ℕ, List, Ok, Err, refl, sym, ap, subst, arith}
-use Rattle.board_model.specs.Shapes.{Size}
-use Rattle.board_model.specs.declared.refusal.Refusal.TheVariants.{Device}
-use Rattle.planned_store.specs.Commits.{Answer, asked_at, step_after, left_at}
+use Rattle.board_model.specs.{Shapes.Size, declared.refusal.Refusal.TheVariants.Device}
+use Rattle.planned_store.specs.{Commits.{Answer, asked_at, step_after, left_at}, declared.{commits.CommitStep.CommitStep, plans.Plan.Plan}}
 use Rattle.planned_store.specs.Plans.{asked, Goes, ReadsSuperblock, ReadsRecord, FormatGoes, SuperblockStep, format_asks, format_left, calls_left, Opens, task_of}
-use Rattle.planned_store.specs.declared.commits.CommitStep.{CommitStep}
 use Rattle.planned_store.specs.declared.commits.CommitStep.TheVariants.{WriteRecord, SyncRecord, WriteGate, SyncGate, Committed, Unchanged, InDoubt}
-use Rattle.planned_store.specs.declared.formats.FormatStep.{FormatStep}
-use Rattle.planned_store.specs.declared.formats.FormatStep.TheVariants as formats
-use Rattle.planned_store.specs.declared.plans.Plan.{Plan}
+use Rattle.planned_store.specs.declared.{formats.FormatStep.FormatStep, plans.Request.TheVariants.Done}
 use Rattle.planned_store.specs.declared.plans.Plan.TheVariants.{Settling, ReadingSuperblock, ReadingGate, ReadingRecord, Found, Renewing, Committing, Formatting, Refused}
-use Rattle.planned_store.specs.declared.plans.Request.TheVariants.{Done}
+use Rattle.planned_store.specs.declared.formats.FormatStep.TheVariants as formats
 
 -- ---- fewer calls are left
 commit_fewer : (side : ℕ) (step : CommitStep) (r : Answer) → (asked_at side step ≡ Done → ⊥) → left_at (step_after step r) < left_at step

@@ -1,8 +1,6 @@
 -- Calls of a disk one after another, told of a disk of which nothing is lent.
 use Rattle.std.proofs.Common.{◌∙◌, ◌+◌, ◌≤◌, ℕ, Result, Ok, Err, sym, subst, arith}
-use Rattle.disk.specs.Calls.{MakesCalls}
-use Rattle.disk.specs.Facts.{Content, Facts, Stays}
-use Rattle.disk.specs.FaultState.{FaultState, Cause}
+use Rattle.disk.specs.{Calls.MakesCalls, Facts.{Content, Facts, Stays}, FaultState.{FaultState, Cause}}
 use Rattle.disk.specs.Moments.{passes_stays, called_fewer}
 
 -- a call that changes nothing comes after some that went well

@@ -1,10 +1,8 @@
 -- The sectors of a page, as chunks of its bytes.
 use Rattle.std.proofs.Common.{◌≡◌, ◌∙◌, zero, suc, ℕ, ◌+◌, ◌*◌, ◌-◌, ◌/◌, ◌<◌, Ok, Err, OnOk, List, length, take, drop, slice_range, refl, sym, ap, arith}
-use Rattle.std.proofs.lemmas.List.{drop-drop, drop-take, take-take}
-use Rattle.std.specs.Simd.{first_chunks}
+use Rattle.std.{proofs.lemmas.List.{drop-drop, drop-take, take-take}, specs.Simd.first_chunks}
 use Rattle.disk.specs.Facts.{Content, Written, sector}
-use Rattle.planned_store.specs.Commits.{Answer}
-use Rattle.planned_store.specs.SaveServed.{PageWritten}
+use Rattle.planned_store.specs.{Commits.Answer, SaveServed.PageWritten}
 
 length_chunks : (n k : ℕ) (xs : List ℕ) → length (first_chunks n k xs) ≡ k
 length_chunks n zero xs = refl

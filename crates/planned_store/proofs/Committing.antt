@@ -1,27 +1,16 @@
 -- What a commit that has ended has made of a disk on which a crash left its first record selected.
 use Rattle.std.proofs.Common.{◌≡◌, ◌∙◌, ◌+◌, ◌-◌, ◌<◌, ℕ, Result, Ok, Err, ap, subst, arith}
-use Rattle.board_model.specs.Durable.{DurableState}
-use Rattle.board_model.specs.Shapes.{Size}
-use Rattle.board_model.specs.declared.refusal.Refusal.TheVariants.{Device, Down}
-use Rattle.disk.specs.Calls.{MakesCalls}
-use Rattle.disk.specs.Facts.{Facts, Content, sector, Torn, LeavesSince}
-use Rattle.disk.specs.FaultState.{FaultState}
+use Rattle.board_model.specs.{Durable.DurableState, Shapes.Size, declared.refusal.Refusal.TheVariants.{Device, Down}}
+use Rattle.disk.specs.{Calls.MakesCalls, Facts.{Facts, Content, sector, Torn, LeavesSince}, FaultState.FaultState}
 use Rattle.disk.specs.Moments.{called_then, leaves_weaker}
-use Rattle.layout.specs.Records.{record_of, gate_of, IsInRange}
-use Rattle.layout.specs.declared.records.Record.{Record}
-use Rattle.layout.specs.declared.records.Version.TheVariants.{Two}
+use Rattle.layout.specs.{Records.{record_of, gate_of, IsInRange}, declared.records.{Record.Record, Version.TheVariants.Two}}
 use Rattle.layout.proofs.SpelledRecords.{selected_by-gate_of}
-use Rattle.store.specs.Answers.{GoesTo}
-use Rattle.store.specs.Commits.{SameAreas, SelectsAs, SelectsEither, IsUp, IsInDoubt}
-use Rattle.store.specs.Leaves.{LeavesOnly, LeavesEither, StandsForEither, WroteACommand}
-use Rattle.store.specs.Standing.{selected, state_of, StandsFor}
-use Rattle.store.proofs.Answering.{goes_to, wrote}
-use Rattle.store.proofs.Called.{called_apart}
-use Rattle.store.proofs.Contents.{gate_selects, kept_live, stands_there, areas_then}
+use Rattle.store.{specs.{Answers.GoesTo, Commits.{SameAreas, SelectsAs, SelectsEither, IsUp, IsInDoubt}}, proofs.Answering.{goes_to, wrote}}
+use Rattle.store.specs.{Leaves.{LeavesOnly, LeavesEither, StandsForEither, WroteACommand}, Standing.{selected, state_of, StandsFor}}
+use Rattle.store.proofs.{Called.called_apart, Contents.{gate_selects, kept_live, stands_there, areas_then}}
 use Rattle.store.proofs.States.{of_areas, state_same, up_leaves, doubt_leaves, stands_for, either_stands}
 use Rattle.store.proofs.Steps.{still_recorded, while_recorded, while_selected, in_doubt, committed, still_up}
-use Rattle.planned_store.specs.Reached.{Recorded, CommitAt}
-use Rattle.planned_store.specs.declared.commits.CommitStep.TheVariants.{Committed, Unchanged, InDoubt}
+use Rattle.planned_store.specs.{Reached.{Recorded, CommitAt}, declared.commits.CommitStep.TheVariants.{Committed, Unchanged, InDoubt}}
 
 module _ {D : Type 0} (f : D → Facts) (m : D → FaultState) (may_keep : (d : D) → (f d).may_leave (f d).content) (only_now : (d : D) (c : Content) → (f d).since (f d).moment c → (f d).may_leave c)
     (size : Size) (side : ℕ) (r next : Record) (known : side < 2) (a b : D) (up : IsUp (f a) size side r) (range : IsInRange size next) where

@@ -1,12 +1,9 @@
 -- Where a place stands that is counted through the lanes.
 use Rattle.std.proofs.Common.{◌≡◌, ◌∙◌, zero, suc, ℕ, ◌+◌, ◌*◌, ◌-◌, ◌^◌, ◌<◌, ◌≤◌, List, [], ◌∷◌, ◌++◌, length, slice_index, sum, take, drop, refl, sym, ap, subst, arith}
-use Rattle.std.proofs.lemmas.List.{length-append, get_or-append_right, get_or_append_left, take-append-drop, drop_more}
-use Rattle.std.proofs.lemmas.List.Sums.{sum_by-cons}
+use Rattle.std.proofs.lemmas.List.{length-append, get_or-append_right, get_or_append_left, take-append-drop, drop_more, Sums.sum_by-cons}
 use Rattle.board_model.specs.Shapes.{Size, area_sectors_of}
 use Rattle.layout.specs.Records.{AreCounts}
-use Rattle.image.specs.Images.{lane_places, places_in}
-use Rattle.image.proofs.Lanes.{place_within, lane_there}
-use Rattle.image.proofs.Lists.{Each, each_place, place_at}
+use Rattle.image.{specs.Images.{lane_places, places_in}, proofs.{Lanes.{place_within, lane_there}, Lists.{Each, each_place, place_at}}}
 use Rattle.image.proofs.Taking.{lane_split, lanes_split}
 
 pub length-lane_places : (size : Size) (lane n : ℕ) → length (lane_places size lane n) ≡ n

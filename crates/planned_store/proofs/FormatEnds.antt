@@ -1,25 +1,15 @@
 -- A format, from the end of its plan to what `format` of the crate `store` promises.
 use Rattle.std.proofs.Common.{◌≡◌, ◌∙◌, inl, inr, ◌≤◌, ◌<◌, ℕ, Ok, Err, length, refl, sym, ap, subst, arith}
-use Rattle.board_model.specs.Shapes.{Size, sectors_of}
-use Rattle.board_model.specs.declared.refusal.Refusal.TheVariants.{BadShape, AlreadyFormatted, Device}
-use Rattle.disk.specs.Facts.{Facts, Lent, most}
-use Rattle.disk.specs.FaultState.{FaultState}
-use Rattle.disk.specs.Moments.{passes_none}
-use Rattle.layout.specs.Records.{selected_by, IsInRange}
-use Rattle.layout.proofs.SpelledRecords.{selected_by-gate_of}
-use Rattle.store.specs.Commits.{IsUp}
-use Rattle.store.specs.Formats.{formatted_record, HeadInOrder}
-use Rattle.store.proofs.Formatting.{head_read}
-use Rattle.store.proofs.Found.{settled}
+use Rattle.board_model.specs.{Shapes.{Size, sectors_of}, declared.refusal.Refusal.TheVariants.{BadShape, AlreadyFormatted, Device}}
+use Rattle.disk.specs.{Facts.{Facts, Lent, most}, FaultState.FaultState, Moments.passes_none}
+use Rattle.layout.{specs.Records.{selected_by, IsInRange}, proofs.SpelledRecords.selected_by-gate_of}
+use Rattle.store.{specs.{Commits.IsUp, Formats.{formatted_record, HeadInOrder}}, proofs.{Formatting.head_read, Found.settled}}
 use Rattle.store.proofs.States.{up_leaves}
-use Rattle.planned_store.specs.Formats.{answer_at, formatted_by, FormatsTo}
-use Rattle.planned_store.specs.Plans.{asked, format_asks, Formats, task_of}
-use Rattle.planned_store.specs.Reached.{Unmarked, FormatAt, Reached}
-use Rattle.planned_store.specs.declared.formats.FormatStep.{FormatStep}
-use Rattle.planned_store.specs.declared.formats.FormatStep.TheVariants as formats
-use Rattle.planned_store.specs.declared.plans.Plan.{Plan}
+use Rattle.planned_store.specs.{Formats.{answer_at, formatted_by, FormatsTo}, Plans.{asked, format_asks, Formats, task_of}}
+use Rattle.planned_store.specs.{Reached.{Unmarked, FormatAt, Reached}, declared.{formats.FormatStep.FormatStep, plans.Plan.Plan}}
 use Rattle.planned_store.specs.declared.plans.Plan.TheVariants.{Settling, ReadingSuperblock, ReadingGate, ReadingRecord, Found, Renewing, Committing, Formatting, Refused}
 use Rattle.planned_store.specs.declared.plans.Request.TheVariants.{Done}
+use Rattle.planned_store.specs.declared.formats.FormatStep.TheVariants as formats
 
 in_range : (size : Size) → IsInRange size formatted_record
 in_range size = record {

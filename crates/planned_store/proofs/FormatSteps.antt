@@ -1,21 +1,14 @@
 -- A call of a format makes of what was reached what its next step has reached.
 use Rattle.std.proofs.Common.{◌≡◌, ◌∙◌, inl, inr, ◌+◌, ◌≤◌, ℕ, List, Result, Ok, Err, length, sym, ap, subst, arith}
 use Rattle.board_model.specs.Shapes.{Size, sectors_of}
-use Rattle.disk.specs.Calls.{MakesCalls}
-use Rattle.disk.specs.Facts.{Facts, Content, sector, Torn, Passes, Stays, Only}
-use Rattle.disk.specs.FaultState.{FaultState}
+use Rattle.disk.specs.{Calls.MakesCalls, Facts.{Facts, Content, sector, Torn, Passes, Stays, Only}, FaultState.FaultState}
 use Rattle.disk.specs.Moments.{called_then, passes_weaker}
 use Rattle.layout.specs.Superblocks.{HasMagic, IsSuperblock}
-use Rattle.store.specs.Formats.{HeadInOrder}
-use Rattle.store.proofs.Contents.{stands_there}
-use Rattle.store.proofs.Formatting.{order_behind, order_marked, passes_marked}
-use Rattle.planned_store.specs.Commits.{Answer}
-use Rattle.planned_store.specs.Plans.{FormatPuts, FormatGoes, SuperblockStep, format_asks}
-use Rattle.planned_store.specs.Reached.{Made, Behind, HasHead, FormatAt}
-use Rattle.planned_store.specs.Served.{IsServed}
-use Rattle.planned_store.specs.declared.formats.FormatStep.{FormatStep}
-use Rattle.planned_store.specs.declared.formats.FormatStep.TheVariants as formats
+use Rattle.store.{specs.Formats.HeadInOrder, proofs.{Contents.stands_there, Formatting.{order_behind, order_marked, passes_marked}}}
+use Rattle.planned_store.specs.{Commits.Answer, Plans.{FormatPuts, FormatGoes, SuperblockStep, format_asks}, Served.IsServed}
+use Rattle.planned_store.specs.{Reached.{Made, Behind, HasHead, FormatAt}, declared.formats.FormatStep.FormatStep}
 use Rattle.planned_store.proofs.Calls.{called_stays, called_ok, stopped}
+use Rattle.planned_store.specs.declared.formats.FormatStep.TheVariants as formats
 
 behind_torn : (first n : ℕ) (a b : Content) → 1 ≤ first → first + n ≤ 3 → Torn first n a b → Behind a b
 behind_torn first n a b from within torn = record {

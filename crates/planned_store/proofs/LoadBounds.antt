@@ -1,9 +1,7 @@
 -- Each call of a load leaves fewer to come.
 use Rattle.std.proofs.Common.{◌≡◌, ◌+◌, ◌<◌, nat_lt, if◌then◌else◌, true, false, Bool, ℕ, List, Ok, Err, refl, sym, subst, arith}
-use Rattle.planned_store.specs.Commits.{Answer}
+use Rattle.planned_store.specs.{Commits.Answer, declared.loads.{Loading.Loading, LoadStep.LoadStep}}
 use Rattle.planned_store.specs.Loads.{load_asks_at, load_asks, HeadGoes, LoadGoes, LoadGoesAt, HasPlaceAt, HasPlace, page_taken, loads_left, loads_left_at}
-use Rattle.planned_store.specs.declared.loads.Loading.{Loading}
-use Rattle.planned_store.specs.declared.loads.LoadStep.{LoadStep}
 use Rattle.planned_store.specs.declared.loads.LoadStep.TheVariants.{ReadHead, ReadPage, Loaded, Spoilt, Failed}
 use Rattle.planned_store.specs.declared.requests.ImageRequest.TheVariants.{Done}
 

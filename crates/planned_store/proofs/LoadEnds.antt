@@ -1,27 +1,16 @@
 -- A load that has ended, and its answer.
 use Rattle.std.proofs.Common.{◌≡◌, ◌∙◌, ◌⊎◌, inl, inr, ⊎_elim, ◌*◌, ℕ, Bool, true, false, List, [], length, Option, Some, None, Result, Ok, Err, refl, sym, ap, subst, arith}
-use Rattle.board_model.specs.Durable.{Image}
-use Rattle.board_model.specs.Shapes.{Size, ram_bytes_of}
-use Rattle.board_model.specs.declared.refusal.Refusal.{Refusal}
+use Rattle.board_model.specs.{Durable.Image, Shapes.{Size, ram_bytes_of}, declared.refusal.Refusal.Refusal}
 use Rattle.board_model.specs.declared.refusal.Refusal.TheVariants.{BadShape, NoImage, BadImage, Device, Down}
-use Rattle.disk.specs.Facts.{Facts, Content}
-use Rattle.disk.specs.FaultState.{FaultState}
+use Rattle.disk.specs.{Facts.{Facts, Content}, FaultState.FaultState}
 use Rattle.layout.specs.declared.saved.Saved.{Saved}
-use Rattle.image.specs.Images.{area_of, memory_of}
-use Rattle.image.specs.Refusals.{ReadsOn, StopsWithin}
-use Rattle.store.specs.Leaves.{ReadsAlone}
-use Rattle.store.specs.Lives.{LoadRefused}
-use Rattle.store.specs.Standing.{image_of, saved_memory}
+use Rattle.image.specs.{Images.{area_of, memory_of}, Refusals.{ReadsOn, StopsWithin}}
+use Rattle.store.specs.{Leaves.ReadsAlone, Lives.LoadRefused, Standing.{image_of, saved_memory}}
 use Rattle.store.proofs.Loading.{read_alone, none_read, stays_keeps, image_now, load_refused}
-use Rattle.planned_store.specs.Stores.{state_now, Holds}
-use Rattle.planned_store.specs.declared.stores.OpenStore.{OpenStore}
-use Rattle.planned_store.specs.Images.{LoadsTo}
-use Rattle.planned_store.specs.Loads.{load_asks_at, load_asks, loaded_at, loaded_by, NoLoad}
-use Rattle.planned_store.specs.LoadReached.{image_here, LoadAt, LoadReached}
-use Rattle.planned_store.specs.declared.loads.Loading.{Loading}
-use Rattle.planned_store.specs.declared.loads.LoadStep.{LoadStep}
+use Rattle.planned_store.specs.{Stores.{state_now, Holds}, declared.{stores.OpenStore.OpenStore, loads.Loading.Loading}, Images.LoadsTo}
+use Rattle.planned_store.specs.{Loads.{load_asks_at, load_asks, loaded_at, loaded_by, NoLoad}, declared.loads.LoadStep.LoadStep}
+use Rattle.planned_store.specs.{LoadReached.{image_here, LoadAt, LoadReached}, declared.requests.ImageRequest.TheVariants.Done}
 use Rattle.planned_store.specs.declared.loads.LoadStep.TheVariants.{ReadHead, ReadPage, Loaded, Spoilt, Failed}
-use Rattle.planned_store.specs.declared.requests.ImageRequest.TheVariants.{Done}
 
 abbrev Answered : Type 0
 Answered = Result (Unit {0}) Refusal

@@ -1,33 +1,20 @@
 -- One call more of a load.
 use Rattle.std.proofs.Common.{◌≡◌, ◌∙◌, inl, inr, ⊎_elim, nat_lt, if◌then◌else◌, true, false, Bool, zero, suc, ℕ, ◌+◌, ◌*◌, ◌<◌, ◌≤◌, ◌^◌, List, [], ◌∷◌, ◌++◌, length, slice_index, get_or, replicate, set, take, drop, Ok, Err, OnOk, refl, sym, ap, subst, arith, length-take}
-use Rattle.std.proofs.lemmas.Bool.{cases_Bool, cases_eq, cases_lt, lt-ltb, ltb-true}
+use Rattle.std.{proofs.lemmas.Bool.{cases_Bool, cases_eq, cases_lt, lt-ltb, ltb-true}, specs.List.flat_map}
 use Rattle.std.proofs.lemmas.List.{ext_get_or, get_or_past, get_or-map, get_or-take, get_or-set_same, get_or-set_other, get_or-replicate, length-map, length-set, length-replicate, take_all, take_more}
-use Rattle.std.specs.List.{flat_map}
 use Rattle.board_model.specs.Shapes.{Size, IsSize, ram_bytes_of, sectors_of, area_sectors_of}
 use Rattle.board_model.specs.declared.refusal.Refusal.TheVariants.{BadImage, Device}
-use Rattle.disk.specs.Calls.{MakesCalls}
-use Rattle.disk.specs.Facts.{Facts, Content, sector, Stays, most}
-use Rattle.disk.specs.FaultState.{FaultState}
+use Rattle.disk.specs.{Calls.MakesCalls, Facts.{Facts, Content, sector, Stays, most}, FaultState.FaultState, declared.device.Fault.Fault}
 use Rattle.disk.specs.Moments.{called_then, called_fewer}
-use Rattle.disk.specs.declared.device.Fault.{Fault}
-use Rattle.layout.specs.Places.{IsPlaceHead}
-use Rattle.layout.specs.Records.{AreCounts}
-use Rattle.layout.specs.Sizes.{area_start}
-use Rattle.layout.proofs.SpelledPlaces.{page_in as page_of_head}
-use Rattle.image.specs.Images.{area_of, page_of, is_head, is_whole}
-use Rattle.image.specs.Reading.{came, IsTaken}
-use Rattle.image.specs.Refusals.{HasRead}
+use Rattle.layout.{specs.{Places.IsPlaceHead, Records.AreCounts, Sizes.area_start}, proofs.{SpelledPlaces.{page_in as page_of_head}}}
+use Rattle.image.specs.{Images.{area_of, page_of, is_head, is_whole}, Reading.{came, IsTaken}, Refusals.HasRead}
 use Rattle.image.proofs.Heads.{area_sector, behind_is, head_from, head_true}
 use Rattle.image.proofs.ReadingOn.{reads_none, reads_place, reads_failed, reads_spoilt, reads_more}
 use Rattle.image.proofs.Taking.{no_head, came_twice, taken_more, taken_none, taken_all, not_whole}
-use Rattle.planned_store.specs.Commits.{Answer}
-use Rattle.planned_store.proofs.Calls.{called_ok}
+use Rattle.planned_store.{specs.{Commits.Answer, LoadServed.{PageFilled, IsLoadServed}}, proofs.Calls.called_ok}
 use Rattle.planned_store.specs.Loads.{flags, all_places, place_now, place_sector, load_asks, load_asks_at, HeadGoes, LoadGoes, LoadGoesAt, page_taken}
-use Rattle.planned_store.specs.LoadServed.{PageFilled, IsLoadServed}
-use Rattle.planned_store.specs.LoadReached.{area_here, ReadSo, HeadSo, LoadAt, LoadReached}
-use Rattle.planned_store.specs.declared.loads.Loading.{Loading}
-use Rattle.planned_store.specs.declared.loads.LoadStep.{LoadStep}
-use Rattle.planned_store.specs.declared.loads.LoadStep.TheVariants.{ReadHead, ReadPage, Loaded, Spoilt, Failed}
+use Rattle.planned_store.specs.{LoadReached.{area_here, ReadSo, HeadSo, LoadAt, LoadReached}, declared.loads.Loading.Loading}
+use Rattle.planned_store.specs.declared.loads.LoadStep.{LoadStep, TheVariants.{ReadHead, ReadPage, Loaded, Spoilt, Failed}}
 use Rattle.planned_store.proofs.Counting.{length-places_in, list_at, place_there}
 
 -- ---- the bytes of pages, and which of them came

@@ -1,36 +1,19 @@
 -- An open, from the end of its plan to what `Store::open` promises.
 use Rattle.std.proofs.Common.{◌≡◌, ◌∙◌, inl, inr, ◌-◌, ◌≤◌, ◌<◌, ℕ, Ok, Err, length, refl, sym, ap, subst, arith}
-use Rattle.board_model.specs.Durable.{DurableState}
-use Rattle.board_model.specs.Shapes.{Size, sectors_of}
-use Rattle.board_model.specs.declared.refusal.Refusal.{Refusal}
+use Rattle.board_model.specs.{Durable.DurableState, Shapes.{Size, sectors_of}, declared.refusal.Refusal.Refusal}
 use Rattle.board_model.specs.declared.refusal.Refusal.TheVariants.{NotFormatted, BadShape, BadRecord, Device}
-use Rattle.disk.specs.Calls.{MakesCalls}
-use Rattle.disk.specs.Facts.{Facts, Content, Lent, Stays, LeavesSince, counted, most}
-use Rattle.disk.specs.FaultState.{FaultState, Cause}
-use Rattle.layout.specs.Records.{IsInRange}
-use Rattle.layout.specs.declared.records.Record.{Record}
-use Rattle.layout.specs.declared.records.Version.TheVariants.{One, Two}
-use Rattle.store.specs.Commits.{SameAreas, SelectsEither, IsUp}
-use Rattle.store.specs.Leaves.{Leaves, ReadsAlone, IsSettled}
-use Rattle.store.specs.Opens.{ReadsAs, OpenRefused, OpenCalls, CausedRefusal, renewed_record}
-use Rattle.store.specs.Standing.{state_of, Selects, StandsFor}
-use Rattle.store.proofs.Alone.{called_alone}
-use Rattle.store.proofs.Found.{settled, stands_read, left_earlier}
-use Rattle.store.proofs.Loading.{none_read}
-use Rattle.store.proofs.Reading.{some_sectors, none_stands, one_refusal}
+use Rattle.disk.specs.{Calls.MakesCalls, Facts.{Facts, Content, Lent, Stays, LeavesSince, counted, most}, FaultState.{FaultState, Cause}}
+use Rattle.layout.specs.{Records.IsInRange, declared.records.{Record.Record, Version.TheVariants.{One, Two}}}
+use Rattle.store.{specs.{Commits.{SameAreas, SelectsEither, IsUp}, Leaves.{Leaves, ReadsAlone, IsSettled}}, proofs.Alone.called_alone}
+use Rattle.store.specs.{Opens.{ReadsAs, OpenRefused, OpenCalls, CausedRefusal, renewed_record}, Standing.{state_of, Selects, StandsFor}}
+use Rattle.store.proofs.{Found.{settled, stands_read, left_earlier}, Loading.none_read, Reading.{some_sectors, none_stands, one_refusal}}
 use Rattle.store.proofs.Renewing.{renewed_moment, leaves_two, in_range_two, still_settled, read_settled, settled_after, renewed_settled, renewed_state, calls_of, calls_on, calls_stop, open_by_find}
 use Rattle.store.proofs.States.{up_leaves}
-use Rattle.planned_store.specs.Commits.{asked_at}
-use Rattle.planned_store.specs.Opens.{opened_at, opened_by, OpensTo}
-use Rattle.planned_store.specs.Plans.{asked, Opens, task_of}
-use Rattle.planned_store.specs.Reached.{Made, CommitAt, ReadSo, FoundAt, RefusedAt, Reached}
-use Rattle.planned_store.specs.declared.commits.CommitStep.{CommitStep}
+use Rattle.planned_store.specs.{Commits.asked_at, Opens.{opened_at, opened_by, OpensTo}, Plans.{asked, Opens, task_of}}
+use Rattle.planned_store.specs.{Reached.{Made, CommitAt, ReadSo, FoundAt, RefusedAt, Reached}, declared.commits.CommitStep.CommitStep}
 use Rattle.planned_store.specs.declared.commits.CommitStep.TheVariants.{WriteRecord, SyncRecord, WriteGate, SyncGate, Committed, Unchanged, InDoubt}
-use Rattle.planned_store.specs.declared.commits.Selected.{Selected}
-use Rattle.planned_store.specs.declared.plans.Plan.{Plan}
+use Rattle.planned_store.{specs.declared.{commits.Selected.Selected, plans.{Plan.Plan, Request.TheVariants.Done}}, proofs.Calls.stopped}
 use Rattle.planned_store.specs.declared.plans.Plan.TheVariants.{Settling, ReadingSuperblock, ReadingGate, ReadingRecord, Found, Renewing, Committing, Formatting, Refused}
-use Rattle.planned_store.specs.declared.plans.Request.TheVariants.{Done}
-use Rattle.planned_store.proofs.Calls.{stopped}
 use Rattle.planned_store.proofs.Committing.{done_up, done_moment, done_calls, unchanged_moment, unchanged_calls, doubt_moment, doubt_calls}
 
 none_and_some : (n : ℕ) → n ≡ 0 → 0 < n → ⊥

@@ -1,11 +1,8 @@
 -- Each call of a suspension leaves fewer to come.
 use Rattle.std.proofs.Common.{◌≡◌, ◌+◌, ◌<◌, nat_lt, if◌then◌else◌, true, false, Bool, Ok, Err, refl, sym, subst, arith}
-use Rattle.planned_store.specs.Commits.{Answer}
-use Rattle.planned_store.specs.Saves.{save_asks_at, save_asks, SaveGoes, SaveGoesAt, HasPage, saves_left, saves_left_at}
-use Rattle.planned_store.specs.declared.saves.Saving.{Saving}
-use Rattle.planned_store.specs.declared.saves.SaveStep.{SaveStep}
+use Rattle.planned_store.specs.{Commits.Answer, Saves.{save_asks_at, save_asks, SaveGoes, SaveGoesAt, HasPage, saves_left, saves_left_at}}
+use Rattle.planned_store.specs.declared.{saves.{Saving.Saving, SaveStep.SaveStep}, requests.ImageRequest.TheVariants.Done}
 use Rattle.planned_store.specs.declared.saves.SaveStep.TheVariants.{WriteHead, WritePage, SyncArea, Saved, Failed}
-use Rattle.planned_store.specs.declared.requests.ImageRequest.TheVariants.{Done}
 
 module _ (s : Saving) (page : HasPage s) where
   abbrev Fewer : SaveStep → Saving → Type 0

@@ -1,49 +1,26 @@
 -- A suspension, from its plan to its answer.
 use Rattle.std.proofs.Common.{◌≡◌, ◌∙◌, ◌⊎◌, inl, inr, ⊎_elim, ◌+◌, ◌*◌, ◌-◌, ◌^◌, ◌≤◌, ◌<◌, ℕ, Bool, true, false, List, [], if◌then◌else◌, length, Option, Some, None, Result, Ok, Err, OnOk, IfErr, refl, sym, ap, subst, arith}
-use Rattle.std.specs.Result.{MatchResult}
-use Rattle.std.proofs.lemmas.Result.{IfErr-weaker}
-use Rattle.std.proofs.lemmas.Bool.{eq-eqb, ne_eqb}
-use Rattle.board_model.specs.Durable.{DurableState, Change, refusal_of, after}
-use Rattle.board_model.specs.Views.{number_of_refusal}
+use Rattle.std.{specs.Result.MatchResult, proofs.lemmas.{Result.IfErr-weaker, Bool.{eq-eqb, ne_eqb}}}
+use Rattle.board_model.specs.{Durable.{DurableState, Change, refusal_of, after}, Views.number_of_refusal, declared.refusal.Refusal.Refusal}
 use Rattle.board_model.specs.Shapes.{Size, IsSize, ram_bytes_of, sectors_of, area_sectors_of}
-use Rattle.board_model.specs.declared.refusal.Refusal.{Refusal}
 use Rattle.board_model.specs.declared.refusal.Refusal.TheVariants.{BadShape, Device, Down, Over, JournalFull, SerialsSpent}
-use Rattle.disk.specs.Facts.{Facts, Content, LeavesSince, counted, most}
-use Rattle.disk.specs.FaultState.{FaultState}
+use Rattle.disk.specs.{Facts.{Facts, Content, LeavesSince, counted, most}, FaultState.FaultState}
 use Rattle.disk.specs.Moments.{leaves_none, leaves_then, leaves_weaker}
 use Rattle.image.specs.Images.{area_of, memory_of}
-use Rattle.layout.specs.Records.{IsInRange}
-use Rattle.layout.specs.Sizes.{area_start}
-use Rattle.layout.specs.declared.records.Record.{Record}
-use Rattle.layout.specs.declared.saved.Saved.{Saved}
-use Rattle.store.specs.Answers.{GoesTo, CountedRefusal}
-use Rattle.store.specs.Commits.{IsUp}
-use Rattle.store.specs.Follows.{durable_after, suspended}
-use Rattle.store.specs.Leaves.{LeavesOnly, StandsForEither, WroteACommand}
-use Rattle.store.specs.Opens.{CausedRefusal}
-use Rattle.store.specs.Standing.{StandsFor, state_of, selected, live_sector}
-use Rattle.store.specs.declared.saving.Resumption.{Resumption}
-use Rattle.store.proofs.Freeing.{Frees, frees, free_up}
-use Rattle.store.proofs.States.{up_leaves, stands_for}
-use Rattle.planned_store.specs.Reached.{Ended, Reached}
-use Rattle.planned_store.specs.Stores.{state_now, Holds, Reaches, Told, Applied, Asked, receipt_at, receipt_of}
-use Rattle.planned_store.specs.declared.commits.Commit.{Commit}
-use Rattle.planned_store.specs.declared.commits.CommitStep.{CommitStep}
+use Rattle.layout.specs.{Records.IsInRange, Sizes.area_start, declared.{records.Record.Record, saved.Saved.Saved}}
+use Rattle.store.specs.{Answers.{GoesTo, CountedRefusal}, Commits.IsUp, Follows.{durable_after, suspended}, Opens.CausedRefusal}
+use Rattle.store.specs.{Leaves.{LeavesOnly, StandsForEither, WroteACommand}, Standing.{StandsFor, state_of, selected, live_sector}}
+use Rattle.store.{specs.declared.saving.Resumption.Resumption, proofs.{Freeing.{Frees, frees, free_up}, States.{up_leaves, stands_for}}}
+use Rattle.planned_store.specs.{Reached.{Ended, Reached}, Stores.{state_now, Holds, Reaches, Told, Applied, Asked, receipt_at, receipt_of}}
+use Rattle.planned_store.specs.declared.{commits.{Commit.Commit, CommitStep.CommitStep, Selected.Selected}, plans.Plan.Plan}
 use Rattle.planned_store.specs.declared.commits.CommitStep.TheVariants.{WriteRecord, SyncRecord, WriteGate, SyncGate, Committed, Unchanged, InDoubt}
-use Rattle.planned_store.specs.declared.plans.Plan.{Plan}
 use Rattle.planned_store.specs.declared.plans.Plan.TheVariants.{Settling, ReadingSuperblock, ReadingGate, ReadingRecord, Found, Renewing, Committing, Formatting, Refused}
-use Rattle.planned_store.specs.declared.commits.Selected.{Selected}
-use Rattle.planned_store.specs.declared.stores.OpenStore.{OpenStore}
+use Rattle.planned_store.specs.{declared.stores.OpenStore.OpenStore, SaveReached.{WroteRange, PageStands, WroteArea, SaveAt, SaveReached}}
 use Rattle.planned_store.specs.Saves.{free_side, counts_of, save_asks_at, save_asks, saved_record, commit_at, commit_of, PlansSave, NoSave}
-use Rattle.planned_store.specs.SaveReached.{WroteRange, PageStands, WroteArea, SaveAt, SaveReached}
-use Rattle.planned_store.specs.Suspends.{SuspendTold, suspension, Fits, SuspendsTo}
-use Rattle.planned_store.specs.declared.saves.Saving.{Saving}
-use Rattle.planned_store.specs.declared.requests.ImageRequest.TheVariants as requests
-use Rattle.planned_store.specs.declared.saves.SaveStep.{SaveStep}
+use Rattle.planned_store.specs.{Suspends.{SuspendTold, suspension, Fits, SuspendsTo}, declared.saves.{Saving.Saving, SaveStep.SaveStep}}
 use Rattle.planned_store.specs.declared.saves.SaveStep.TheVariants.{WriteHead, WritePage, SyncArea, Saved as AreaSaved, Failed}
-use Rattle.planned_store.proofs.LoadSteps.{ends_within}
-use Rattle.planned_store.proofs.SavedRecords.{free_two, saved_range}
-use Rattle.planned_store.proofs.SavingArea.{area_reads}
+use Rattle.planned_store.proofs.{LoadSteps.ends_within, SavedRecords.{free_two, saved_range}, SavingArea.area_reads}
+use Rattle.planned_store.specs.declared.requests.ImageRequest.TheVariants as requests
 
 not_both : (b : Bool) → b ≡ false → b ≡ true → ⊥
 not_both b isn is = cc

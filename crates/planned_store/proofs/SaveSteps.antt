@@ -2,22 +2,15 @@
 use Rattle.std.proofs.Common.{◌≡◌, ◌∙◌, inl, inr, nat_lt, if◌then◌else◌, true, false, Bool, ℕ, ◌+◌, ◌*◌, ◌≤◌, List, [], ◌∷◌, length, Ok, Err, OnOk, refl, sym, ap, subst, arith}
 use Rattle.std.proofs.lemmas.Bool.{cases_eq, cases_lt, lt-ltb, ltb-true}
 use Rattle.board_model.specs.Shapes.{Size, IsSize, ram_bytes_of, sectors_of, places_of, area_sectors_of}
-use Rattle.disk.specs.Calls.{MakesCalls}
-use Rattle.disk.specs.Facts.{Facts, Content, Lent, sector, Torn, Written, Stays, Passes, Only, most}
-use Rattle.disk.specs.FaultState.{FaultState, Cause}
-use Rattle.disk.specs.Moments.{passes_none, passes_then, passes_weaker}
-use Rattle.disk.specs.declared.device.Fault.{Fault}
+use Rattle.disk.specs.{Calls.MakesCalls, Facts.{Facts, Content, Lent, sector, Torn, Written, Stays, Passes, Only, most}}
+use Rattle.disk.specs.{FaultState.{FaultState, Cause}, Moments.{passes_none, passes_then, passes_weaker}, declared.device.Fault.Fault}
 use Rattle.layout.specs.Places.{place_head_of}
 use Rattle.image.proofs.Written.{lanes_of}
-use Rattle.planned_store.specs.Commits.{Answer}
-use Rattle.planned_store.proofs.Calls.{called_ok}
+use Rattle.planned_store.{specs.{Commits.Answer, SaveServed.{PageWritten, IsSaveServed}}, proofs.Calls.called_ok}
 use Rattle.planned_store.specs.Saves.{save_sector, save_asks, save_asks_at, SavePuts, SavePutsAt, SaveGoes, SaveGoesAt}
-use Rattle.planned_store.specs.SaveServed.{PageWritten, IsSaveServed}
 use Rattle.planned_store.specs.SaveReached.{WroteRange, PageStands, first_of, PagesStand, WroteArea, SaveAt, SaveReached}
-use Rattle.planned_store.specs.declared.saves.Saving.{Saving}
-use Rattle.planned_store.specs.declared.saves.SaveStep.{SaveStep}
+use Rattle.planned_store.{specs.declared.saves.{Saving.Saving, SaveStep.SaveStep}, proofs.SavingArea.places_enough}
 use Rattle.planned_store.specs.declared.saves.SaveStep.TheVariants.{WriteHead, WritePage, SyncArea, Saved, Failed}
-use Rattle.planned_store.proofs.SavingArea.{places_enough}
 
 -- ---- some sectors in a row are written by several calls
 torn_none : (first n : ℕ) (c d : Content) → d ≡ c → Torn first n c d

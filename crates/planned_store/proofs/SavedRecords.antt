@@ -1,15 +1,9 @@
 -- The record that names an area is in its range.
 use Rattle.std.proofs.Common.{◌≡◌, ◌+◌, ◌^◌, ◌<◌, zero, suc, ℕ, slice_index, Option, Some, None, subst, arith}
 use Rattle.board_model.specs.Shapes.{Size, IsSize, IsValidAddress}
-use Rattle.layout.specs.Records.{IsInRange, IsSaved}
-use Rattle.layout.specs.declared.records.Record.{Record}
-use Rattle.layout.specs.declared.saved.Saved.{Saved}
-use Rattle.store.specs.Follows.{durable_after, suspended}
-use Rattle.store.specs.declared.saving.Resumption.{Resumption}
-use Rattle.store.proofs.Renewing.{trial_in_two}
-use Rattle.planned_store.specs.declared.commits.Selected.{Selected}
-use Rattle.planned_store.specs.Saves.{free_side, counts_of}
-use Rattle.planned_store.proofs.SavingArea.{are_counts}
+use Rattle.layout.specs.{Records.{IsInRange, IsSaved}, declared.{records.Record.Record, saved.Saved.Saved}}
+use Rattle.store.{specs.{Follows.{durable_after, suspended}, declared.saving.Resumption.Resumption}, proofs.Renewing.trial_in_two}
+use Rattle.planned_store.{specs.{declared.commits.Selected.Selected, Saves.{free_side, counts_of}}, proofs.SavingArea.are_counts}
 
 pub free_two : (image : Option Saved) → free_side image < 2
 free_two None = omega arith

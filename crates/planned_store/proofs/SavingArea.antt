@@ -1,27 +1,14 @@
 -- An area in which the pages stand in their order reads as their memory.
 use Rattle.std.proofs.Common.{◌≡◌, ◌∙◌, inl, inr, true, false, Bool, zero, suc, ℕ, ◌+◌, ◌*◌, ◌-◌, ◌%◌, ◌<◌, ◌≤◌, ◌^◌, List, [], ◌∷◌, ◌++◌, length, slice_index, sum, replicate, set, take, drop, min, if◌then◌else◌, refl, sym, ap, subst, arith, append_assoc, mul_comm, length-take, length-drop}
-use Rattle.std.proofs.Math.Nat.{mod-lt}
-use Rattle.std.proofs.lemmas.Nat.{div-add-mod'}
-use Rattle.std.proofs.lemmas.Bool.{cases_lt, lt-ltb}
+use Rattle.std.{proofs.{Math.Nat.mod-lt, lemmas.{Nat.div-add-mod', Bool.{cases_lt, lt-ltb}, List.Sums.sum_by-cons}}, specs.List.flat_map}
 use Rattle.std.proofs.lemmas.List.{drop-drop, drop_more, take-append-drop, get_or-replicate, get_or-set_other, get_or_past, length-replicate, take_all, take_more}
-use Rattle.std.proofs.lemmas.List.Sums.{sum_by-cons}
-use Rattle.std.specs.List.{flat_map}
 use Rattle.board_model.specs.Shapes.{Size, IsSize, ram_bytes_of, places_of, area_sectors_of}
 use Rattle.disk.specs.Facts.{Content, sector}
-use Rattle.layout.specs.Places.{IsPlaceHead}
-use Rattle.layout.specs.Records.{AreCounts, most_places}
-use Rattle.layout.specs.Sizes.{area_start}
-use Rattle.layout.specs.declared.places.PlaceHead.{PlaceHead}
+use Rattle.layout.specs.{Places.IsPlaceHead, Records.{AreCounts, most_places}, Sizes.area_start, declared.places.PlaceHead.PlaceHead}
 use Rattle.layout.proofs.SpelledPlaces.{page_in as page_of_head}
-use Rattle.image.specs.Images.{area_of, places_in, memory_of}
-use Rattle.image.specs.Reading.{came, IsTaken}
-use Rattle.image.proofs.Heads.{area_sector, head_from}
-use Rattle.image.proofs.Taking.{behind, taken_more, taken_none, taken_all}
-use Rattle.image.proofs.Whole.{more}
-use Rattle.image.proofs.Written.{lanes_of}
-use Rattle.planned_store.specs.Saves.{counts_by, counts_of}
-use Rattle.planned_store.specs.SaveReached.{PageStands}
-use Rattle.planned_store.proofs.Counting.{length-places_in, located}
+use Rattle.image.{specs.{Images.{area_of, places_in, memory_of}, Reading.{came, IsTaken}}, proofs.Heads.{area_sector, head_from}}
+use Rattle.image.proofs.{Taking.{behind, taken_more, taken_none, taken_all}, Whole.more, Written.lanes_of}
+use Rattle.planned_store.{specs.{Saves.{counts_by, counts_of}, SaveReached.PageStands}, proofs.Counting.{length-places_in, located}}
 
 -- ---- the counts of lanes that are full one after another
 pub places_enough : (size : Size) → 1 ≤ size.lanes → size.pages ≤ size.lanes * places_of size

@@ -1,27 +1,15 @@
 -- A call that was asked for and served makes of what was reached what the next plan has reached.
 use Rattle.std.proofs.Common.{◌≡◌, ◌∙◌, inr, ◌+◌, ◌-◌, ◌≤◌, ◌<◌, ℕ, List, [], ◌∷◌, Ok, Err, OnOk, length, refl, sym, ap, subst, arith}
-use Rattle.board_model.specs.Shapes.{Size, sectors_of}
-use Rattle.board_model.specs.declared.refusal.Refusal.TheVariants.{NotFormatted, BadShape, BadRecord, Device}
-use Rattle.disk.specs.Calls.{MakesCalls}
-use Rattle.disk.specs.Facts.{Facts, Content, sector, Torn, Written, Stays, Only}
-use Rattle.disk.specs.FaultState.{FaultState}
-use Rattle.layout.specs.Records.{record_of, gate_of, selected_by, IsRecord}
-use Rattle.layout.specs.Superblocks.{HasMagic, IsSuperblock}
+use Rattle.board_model.specs.{Shapes.{Size, sectors_of}, declared.refusal.Refusal.TheVariants.{NotFormatted, BadShape, BadRecord, Device}}
+use Rattle.disk.specs.{Calls.MakesCalls, Facts.{Facts, Content, sector, Torn, Written, Stays, Only}, FaultState.FaultState}
+use Rattle.layout.specs.{Records.{record_of, gate_of, selected_by, IsRecord}, Superblocks.{HasMagic, IsSuperblock}}
 use Rattle.layout.specs.declared.records.Record.{Record}
-use Rattle.store.specs.Opens.{IsBoard}
-use Rattle.store.specs.Standing.{selected, Selects}
-use Rattle.store.proofs.Found.{still_only}
-use Rattle.store.proofs.Reading.{board_marked}
-use Rattle.planned_store.specs.Commits.{Answer, asked_at, PutsAt, step_after}
-use Rattle.planned_store.specs.Plans.{asked, Puts, Goes, ReadsSuperblock, ReadsRecord}
-use Rattle.planned_store.specs.Reached.{Made, CommitAt, ReadSo, Reached}
-use Rattle.planned_store.specs.Served.{IsServed}
-use Rattle.planned_store.specs.declared.commits.CommitStep.{CommitStep}
+use Rattle.store.{specs.{Opens.IsBoard, Standing.{selected, Selects}}, proofs.{Found.still_only, Reading.board_marked}}
+use Rattle.planned_store.specs.{Commits.{Answer, asked_at, PutsAt, step_after}, Plans.{asked, Puts, Goes, ReadsSuperblock, ReadsRecord}}
+use Rattle.planned_store.specs.{Reached.{Made, CommitAt, ReadSo, Reached}, Served.IsServed, declared.commits.CommitStep.CommitStep}
 use Rattle.planned_store.specs.declared.commits.CommitStep.TheVariants.{WriteRecord, SyncRecord, WriteGate, SyncGate, Committed, Unchanged, InDoubt}
-use Rattle.planned_store.specs.declared.commits.Selected.{Selected}
-use Rattle.planned_store.specs.declared.plans.Plan.{Plan}
+use Rattle.planned_store.{specs.declared.{commits.Selected.Selected, plans.Plan.Plan}, proofs.FormatSteps.format_on}
 use Rattle.planned_store.specs.declared.plans.Plan.TheVariants.{Settling, ReadingSuperblock, ReadingGate, ReadingRecord, Found, Renewing, Committing, Formatting, Refused}
-use Rattle.planned_store.proofs.FormatSteps.{format_on}
 use Rattle.planned_store.proofs.Calls.{called_stays, called_ok, stopped}
 
 module _ {D : Type 0} (f : D → Facts) (m : D → FaultState) where

@@ -1,11 +1,9 @@
 -- What the derived comparisons of an answer and of its line find equal is the same.
 use Rattle.std.proofs.Common.{◌≡◌, ◌∙◌, ◌&&◌, Bool, Option, Some, None, true, false, ap, refl, rules}
-use Rattle.board_model.proofs.Console.{equal-console}
-use Rattle.board_model.specs.declared.durable.Durable.{Durable}
+use Rattle.board_model.{proofs.Console.equal-console, specs.declared.durable.Durable.Durable}
 use Rattle.board_model.specs.contracts.durable.DurablePartialEq.TheImpl as durable
 use Rattle.machine.proofs.Alike.{equal-line}
-use Rattle.report_lines.specs.declared.printed.Answer.{Answer}
-use Rattle.report_lines.specs.declared.printed.Printed.{Printed}
+use Rattle.report_lines.specs.declared.printed.{Answer.Answer, Printed.Printed}
 use Rattle.report_lines.specs.declared.printed.Printed.TheVariants as printed
 use Rattle.report_lines.specs.contracts.printed.PrintedPartialEq.TheImpl as line
 use Rattle.report_lines.specs.contracts.printed.AnswerPartialEq.TheImpl as answer

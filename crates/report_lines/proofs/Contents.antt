@@ -1,23 +1,13 @@
 -- Any content is answered.
 use Rattle.std.proofs.Common.{◌≡◌, ℕ, inl, inr, Bool, true, false, List, [], ◌∷◌, Option, None, Some, refl, sym, ◌∙◌, subst, arith}
-use Rattle.std.specs.Prelude.{◌≢◌, IsTrue, nat_eq, ◌↔◌}
-use Rattle.std.specs.List.{starts_with}
-use Rattle.board_model.specs.Shapes.{Size}
-use Rattle.board_model.specs.declared.refusal.Refusal.TheVariants.{NotFormatted, BadShape}
+use Rattle.std.specs.{Prelude.{◌≢◌, IsTrue, nat_eq, ◌↔◌}, List.starts_with}
+use Rattle.board_model.specs.{Shapes.Size, declared.refusal.Refusal.TheVariants.{NotFormatted, BadShape}}
 use Rattle.disk.specs.Facts.{Content, sector}
-use Rattle.layout.specs.Superblocks.{magic, HasMagic}
-use Rattle.layout.specs.Records.{IsRecord}
-use Rattle.layout.specs.declared.saved.Saved.{Saved}
-use Rattle.layout.specs.declared.records.Record.{Record}
-use Rattle.store.specs.Opens.{IsBoard, ReadsAs}
-use Rattle.store.specs.Standing.{selected, live_sector, other_sector, saved_memory, state_of, StandsFor}
-use Rattle.store.specs.Inspects.{HasRecord, IsImageSeen, IsInspected}
-use Rattle.store.specs.declared.inspects.ImageSeen.{ImageSeen}
+use Rattle.layout.specs.{Superblocks.{magic, HasMagic}, Records.IsRecord, declared.{saved.Saved.Saved, records.Record.Record}}
+use Rattle.store.specs.{Opens.{IsBoard, ReadsAs}, Standing.{selected, live_sector, other_sector, saved_memory, state_of, StandsFor}}
+use Rattle.store.specs.{Inspects.{HasRecord, IsImageSeen, IsInspected}, declared.inspects.{ImageSeen.ImageSeen, Inspection.Inspection}}
 use Rattle.store.specs.declared.inspects.ImageSeen.TheVariants.{Absent, Whole, Bad}
-use Rattle.store.specs.declared.inspects.Inspection.{Inspection}
-use Rattle.report_lines.specs.Contents.{IsAnswered, IsExamined}
-use Rattle.report_lines.proofs.Searches.{Decided}
-use Rattle.report_lines.proofs.Records.{some_board, some_record}
+use Rattle.report_lines.{specs.Contents.{IsAnswered, IsExamined}, proofs.{Searches.Decided, Records.{some_board, some_record}}}
 
 is_true : (b : Bool) → Decided (IsTrue b)
 is_true true = inl refl

@@ -1,13 +1,9 @@
 -- Why the memory of an image is not read, and what reading it does to the disk.
 use Rattle.std.proofs.Common.{◌≡◌, ◌∙◌, ◌⊎◌, inl, inr, ℕ, ◌≤◌, length, sym, ap, subst, arith}
-use Rattle.board_model.specs.declared.refusal.Refusal.{Refusal}
-use Rattle.board_model.specs.declared.refusal.Refusal.TheVariants.{NotFormatted, BadShape, BadRecord, Device, Memory}
+use Rattle.board_model.specs.declared.refusal.Refusal.{Refusal, TheVariants.{NotFormatted, BadShape, BadRecord, Device, Memory}}
 use Rattle.disk.specs.Facts.{Content, Facts}
-use Rattle.store.specs.Answers.{StoreView, Opened}
-use Rattle.store.specs.Leaves.{ReadsAlone, IsSettled, IsRenewed, LeftAsBefore}
-use Rattle.store.specs.Opens.{OpenRefused}
-use Rattle.report_lines.specs.Memories.{MemoryRefused}
-use Rattle.report_lines.proofs.Seeing.{stands_board}
+use Rattle.store.specs.{Answers.{StoreView, Opened}, Leaves.{ReadsAlone, IsSettled, IsRenewed, LeftAsBefore}, Opens.OpenRefused}
+use Rattle.report_lines.{specs.Memories.MemoryRefused, proofs.Seeing.stands_board}
 
 pub not_opened : (disk new : Facts) (e : Refusal) → OpenRefused disk e new → MemoryRefused disk e new
 not_opened disk new NotFormatted why = why

@@ -2,19 +2,12 @@
 -- superblock or in a record has a bound, so one search over all of them tells.
 use Rattle.std.proofs.Common.{◌≡◌, ◌<◌, ◌≤◌, ◌+◌, ◌^◌, ℕ, zero, suc, inl, inr, List, [], ◌∷◌, Option, None, Some, length, slice_index, sum, refl, ap, sym, ◌∙◌, subst, arith}
 use Rattle.std.specs.Prelude.{◌%◌}
-use Rattle.board_model.specs.Shapes.{Size, IsSize, IsValidAddress, board_size, ram_bytes_of, sectors_of}
-use Rattle.board_model.specs.Views.{reason_number}
-use Rattle.board_model.specs.declared.durable.Reason.{Reason}
-use Rattle.board_model.specs.declared.durable.Reason.TheVariants.{NoReason, SystemFailure}
-use Rattle.board_model.specs.declared.durable.Trial.{Trial}
+use Rattle.board_model.specs.{Shapes.{Size, IsSize, IsValidAddress, board_size, ram_bytes_of, sectors_of}, Views.reason_number}
+use Rattle.board_model.specs.declared.durable.{Reason.{Reason, TheVariants.{NoReason, SystemFailure}}, Trial.Trial}
 use Rattle.disk.specs.Facts.{Content, sector}
-use Rattle.layout.specs.Fields.{Field, FitAll}
-use Rattle.layout.specs.Superblocks.{superblock_of}
+use Rattle.layout.specs.{Fields.{Field, FitAll}, Superblocks.superblock_of, declared.{saved.Saved.Saved, records.Record.Record}}
 use Rattle.layout.specs.Records.{saved_fields, head_fields, record_of, most_places, AreCounts, IsSaved, AreSaved, IsTrialIn, IsInRange, IsRecord}
-use Rattle.layout.specs.declared.saved.Saved.{Saved}
-use Rattle.layout.specs.declared.records.Record.{Record}
-use Rattle.layout.specs.declared.records.Version.{Version}
-use Rattle.layout.specs.declared.records.Version.TheVariants.{One, Two}
+use Rattle.layout.specs.declared.records.Version.{Version, TheVariants.{One, Two}}
 use Rattle.store.specs.Opens.{IsBoard}
 use Rattle.report_lines.proofs.Searches.{Decided, both, three, six, less, at_most, equal, equal_lists, all_below, AreBelow, rows}
 

@@ -1,6 +1,5 @@
 -- What can be told of numbers that are below a bound: either one of them is so, or none is.
-use Rattle.std.proofs.Common.{◌≡◌, ◌⊎◌, ◌<◌, ◌≤◌, ℕ, zero, suc, inl, inr, List, [], ◌∷◌, refl, ap, ◌∙◌, subst, arith}
-use Rattle.std.specs.Prelude.{⊤}
+use Rattle.std.{proofs.Common.{◌≡◌, ◌⊎◌, ◌<◌, ◌≤◌, ℕ, zero, suc, inl, inr, List, [], ◌∷◌, refl, ap, ◌∙◌, subst, arith}, specs.Prelude.⊤}
 use Rattle.std.proofs.lemmas.Bool.{cases_lt, cases_eq}
 
 -- it is so, or it is not

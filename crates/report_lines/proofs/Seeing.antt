@@ -1,13 +1,9 @@
 -- Why a disk is not seen.
-use Rattle.std.proofs.Common.{subst, arith}
-use Rattle.std.specs.Prelude.{IfErr}
-use Rattle.board_model.specs.Shapes.{Size}
-use Rattle.board_model.specs.declared.refusal.Refusal.{Refusal}
+use Rattle.std.{proofs.Common.{subst, arith}, specs.Prelude.IfErr}
+use Rattle.board_model.specs.{Shapes.Size, declared.refusal.Refusal.Refusal}
 use Rattle.board_model.specs.declared.refusal.Refusal.TheVariants.{NotFormatted, BadShape, BadRecord, Device, Memory}
 use Rattle.disk.specs.Facts.{Content, Facts}
-use Rattle.store.specs.Leaves.{ReadsAlone}
-use Rattle.store.specs.Opens.{IsBoard, ReadsAs, OpenRefused}
-use Rattle.store.specs.Standing.{StandsFor}
+use Rattle.store.specs.{Leaves.ReadsAlone, Opens.{IsBoard, ReadsAs, OpenRefused}, Standing.StandsFor}
 use Rattle.report_lines.specs.Sights.{SeeRefused, unrecorded}
 
 pub stands_board : (c : Content) (size : Size) → ((s : _) × StandsFor c size s) → IsBoard size c

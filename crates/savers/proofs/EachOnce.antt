@@ -1,18 +1,11 @@
 -- Lists of draws, and what it comes to that each number was drawn once.
 use Rattle.std.proofs.Common.{◌≡◌, ◌≢◌, ◌∙◌, ◌⊎◌, inl, inr, refl, zero, suc, ℕ, ◌+◌, ◌*◌, ◌-◌, ◌%◌, ◌<◌, ◌≤◌, List, [], ◌∷◌, ◌++◌, Bool, true, false, length, map, flat_map, slice_index, sum, nat_lt, if◌then◌else◌, sym, ap, subst, arith, suc-mul, mul_comm, length-append}
-use Rattle.std.specs.List.{concat}
-use Rattle.std.proofs.Math.Nat.{mod-lt}
-use Rattle.std.proofs.lemmas.Nat.{div-add-mod'}
-use Rattle.std.proofs.lemmas.List.Sums.{sum_by-cons}
-use Rattle.std.proofs.lemmas.Bool.{cases_eq}
+use Rattle.std.{specs.List.concat, proofs.{Math.Nat.mod-lt, lemmas.{Nat.div-add-mod', List.Sums.sum_by-cons, Bool.cases_eq}}}
 use Rattle.std.proofs.lemmas.Bool.Decides.{nat_tests}
 use Rattle.board_model.specs.Shapes.{Size, places_of}
 use Rattle.disk.specs.Facts.{LaneFacts, lane_at}
 use Rattle.layout.specs.Records.{AreCounts, most_places}
-use Rattle.savers.specs.Saved.{LanesHold}
-use Rattle.savers.specs.Pages.{Fills, DrawnPages, drawn_in}
-use Rattle.savers.specs.Draws.{times, once_below}
-use Rattle.savers.proofs.Steps.{times-append}
+use Rattle.savers.{specs.{Saved.LanesHold, Pages.{Fills, DrawnPages, drawn_in}, Draws.{times, once_below}}, proofs.Steps.times-append}
 
 -- ---- where a number stands in a list
 times_here : (x : ℕ) (ys : List ℕ) → times x (x ∷ ys) ≡ 1 + times x ys

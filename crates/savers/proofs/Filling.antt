@@ -1,17 +1,11 @@
 -- A saver fills one place more of its lane, or ends.
 use Rattle.std.proofs.Common.{◌≡◌, ◌∙◌, inl, inr, ℕ, ◌+◌, ◌-◌, ◌<◌, ◌≤◌, Result, Ok, Err, List, [], ◌∷◌, ◌++◌, length, slice_index, sym, ap, subst, append_assoc, add-one, arith}
-use Rattle.std.specs.Prelude.{OnOk, IsErr}
-use Rattle.std.proofs.lemmas.Bool.{cases_eq}
-use Rattle.std.proofs.lemmas.List.{get_or_push, get_or_append_left, length_push}
+use Rattle.std.{specs.Prelude.{OnOk, IsErr}, proofs.lemmas.{Bool.cases_eq, List.{get_or_push, get_or_append_left, length_push}}}
 use Rattle.board_model.specs.Shapes.{Size, places_of}
-use Rattle.disk.specs.Facts.{Content, Torn, Counts, counted}
-use Rattle.disk.specs.declared.device.LaneCall.{LaneCall}
+use Rattle.disk.specs.{Facts.{Content, Torn, Counts, counted}, declared.device.LaneCall.LaneCall}
 use Rattle.layout.specs.Sizes.{place_start}
-use Rattle.savers.specs.Calls.{place_calls, filling_calls, StopsAt, WritesPlaces}
-use Rattle.savers.specs.Draws.{ticket_view, share_of, draws_each}
-use Rattle.savers.specs.Pages.{AreFilled, Fills}
-use Rattle.savers.specs.Saved.{PageStands}
-use Rattle.savers.specs.declared.view.TicketView.{TicketView}
+use Rattle.savers.specs.{Calls.{place_calls, filling_calls, StopsAt, WritesPlaces}, Draws.{ticket_view, share_of, draws_each}}
+use Rattle.savers.specs.{Pages.{AreFilled, Fills}, Saved.PageStands, declared.view.TicketView.TicketView}
 
 -- a draw makes one number more
 pub one_more : (drawn after : List ℕ) (number n : ℕ) → after ≡ drawn ++ number ∷ [] → length drawn ≡ n → length after ≡ n + 1

@@ -1,13 +1,8 @@
 -- Lanes and savers go from one list to another, one after another.
 use Rattle.std.proofs.Common.{◌≡◌, ◌∙◌, refl, inl, inr, zero, suc, true, false, ℕ, ◌+◌, ◌*◌, ◌<◌, ◌≤◌, List, [], ◌∷◌, ◌++◌, length, map, flat_map, get_or, take, drop, slice_index, slice_set, sym, ap, subst, append_assoc, arith}
-use Rattle.std.specs.Prelude.{All, ◌==◌}
-use Rattle.std.proofs.lemmas.Bool.{cases_eq}
-use Rattle.std.proofs.lemmas.Bool.Decides.{nat_tests}
+use Rattle.std.{specs.Prelude.{All, ◌==◌}, proofs.lemmas.Bool.{cases_eq, Decides.nat_tests}}
 use Rattle.std.proofs.lemmas.List.{length_push, length-append, append-nil, nil_from_length, take_at, map_push, get_or_push, get_or_append_left, get_or-set_same, get_or-set_other}
-use Rattle.savers.specs.Draws.{share_of, draws_each, together}
-use Rattle.savers.specs.Jobs.{drawn_by}
-use Rattle.savers.specs.declared.saver.Saver.{Saver}
-use Rattle.savers.specs.declared.view.TicketView.{TicketView}
+use Rattle.savers.specs.{Draws.{share_of, draws_each, together}, Jobs.drawn_by, declared.{saver.Saver.Saver, view.TicketView.TicketView}}
 
 -- ---- what a test of a count says
 pub some_left : (n k : ℕ) → n ≡ k → false ≡ (n == 0) → 0 < k

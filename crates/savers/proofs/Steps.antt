@@ -1,8 +1,6 @@
 -- Each step keeps the rule of a ticket.
 use Rattle.std.proofs.Common.{◌≡◌, ◌≢◌, ◌∙◌, ℕ, ◌+◌, ◌-◌, ◌%◌, ◌^◌, ◌<◌, ◌≤◌, List, [], ◌∷◌, ◌++◌, length, refl, sym, ap, arith, length-set, length-append, get_or-set_same}
-use Rattle.std.specs.Prelude.{slice_index, slice_set}
-use Rattle.std.proofs.Math.Nat.{mod-eq_of_lt}
-use Rattle.std.proofs.lemmas.Bool.Decides.{nat_tests}
+use Rattle.std.{specs.Prelude.{slice_index, slice_set}, proofs.{Math.Nat.mod-eq_of_lt, lemmas.Bool.Decides.nat_tests}}
 use mathlib.Core.Option.{some, none}
 use lib.ListN.{get_elem?}
 use Rattle.atomic_table.specs.Table.{State, Me, step, keeps, Allows, Splits, Joins}

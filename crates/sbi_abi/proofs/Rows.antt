@@ -2,9 +2,7 @@
 use Rattle.std.proofs.Common.{◌≡◌, ◌≢◌, ◌↔◌, ℕ, Option, Some, None, refl, sym, ap, subst, ne_eqb}
 use mathlib.Core.Logic.{dite}
 use native.Mathlib.Decide.{ℕ_discrete}
-use Rattle.sbi_abi.specs.Calls.{low, call_at}
-use Rattle.sbi_abi.specs.Table.{numbers_of, HasArguments, HasNoCall, IsCallAt}
-use Rattle.sbi_abi.specs.declared.call.Call.{Call}
+use Rattle.sbi_abi.specs.{Calls.{low, call_at}, Table.{numbers_of, HasArguments, HasNoCall, IsCallAt}, declared.call.Call.Call}
 use Rattle.sbi_abi.specs.declared.call.Call.TheVariants as calls
 
 abbrev first : Option (ℕ × ℕ) → ℕ

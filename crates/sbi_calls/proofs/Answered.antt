@@ -1,20 +1,13 @@
 -- What the table of answers says in the words of the calls.
 use Rattle.std.proofs.Common.{rules, ◌≡◌, ◌⊎◌, ℕ, ◌<◌, ◌%◌, ◌+◌, Bool, true, false, List, Ok, Err, refl, sym, ap, ◌∙◌, inl, inr, arith, if◌then◌else◌, ◌&&◌, ◌==◌}
-use Rattle.std.specs.Prelude.{nat_lt, nat_le}
-use Rattle.std.proofs.lemmas.List.{set-get_or}
+use Rattle.std.{specs.Prelude.{nat_lt, nat_le}, proofs.lemmas.List.set-get_or}
 use Rattle.board_model.specs.Shapes.{Size, IsValidAddress, ram_bytes_of}
-use Rattle.hsm.specs.States.{HartState, stopped, start_pending, started, suspended, grant, is_stopped}
-use Rattle.hsm.specs.Calls.{code_of, named}
+use Rattle.hsm.specs.{States.{HartState, stopped, start_pending, started, suspended, grant, is_stopped}, Calls.{code_of, named}}
 use Rattle.hsm.specs.Views.{listed}
-use Rattle.sbi_abi.specs.declared.ret.SbiError.{SbiError}
-use Rattle.sbi_abi.specs.declared.ret.SbiError.TheVariants.{InvalidParam, InvalidAddress}
+use Rattle.sbi_abi.specs.declared.ret.SbiError.{SbiError, TheVariants.{InvalidParam, InvalidAddress}}
 use Rattle.sbi_calls.specs.declared.requests.Request.TheVariants.{Value, Start, Stop, Status, Suspend, SuspendAfresh, Send, Command}
-use Rattle.sbi_calls.specs.declared.endings.Ending.{Ending}
-use Rattle.sbi_calls.specs.declared.endings.Ending.TheVariants.{Answers}
-use Rattle.sbi_calls.specs.Requests.{Checked, request_of, checked}
-use Rattle.sbi_calls.specs.Both.{TableState}
-use Rattle.sbi_calls.specs.Answers.{row, with_state, start_answer}
-use Rattle.sbi_calls.specs.Laws.{ErrorsChangeNothing, StartsTheStopped, StatusIsOne}
+use Rattle.sbi_calls.specs.{declared.endings.Ending.{Ending, TheVariants.Answers}, Requests.{Checked, request_of, checked}, Both.TableState}
+use Rattle.sbi_calls.specs.{Answers.{row, with_state, start_answer}, Laws.{ErrorsChangeNothing, StartsTheStopped, StatusIsOne}}
 
 -- ---- an error changes nothing
 unchanged : (t : TableState) (h : ℕ) (y : HartState) → y ≡ listed t.states h → with_state t h y ≡ t

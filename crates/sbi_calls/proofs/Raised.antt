@@ -1,16 +1,11 @@
 -- One target after another.
 use Rattle.std.proofs.Common.{◌≡◌, ◌≢◌, ℕ, zero, suc, ◌+◌, ◌<◌, ◌≤◌, Bool, true, List, [], refl, sym, ap, ◌∙◌, subst, arith, eq-eqb, ne_eqb, length, get_or, ◌==◌, if◌then◌else◌}
-use Rattle.std.specs.Prelude.{slice_set}
-use Rattle.std.specs.Int.{bit_at}
-use Rattle.std.proofs.lemmas.List.{get_or-set_other, get_or-set_same, length-set}
+use Rattle.std.{specs.{Prelude.slice_set, Int.bit_at}, proofs.lemmas.List.{get_or-set_other, get_or-set_same, length-set}}
 use mathlib.Core.Logic.{dite}
 use native.Mathlib.Decide.{ℕ_discrete}
 use Rattle.tallies.proofs.Seatings.{map_all}
-use Rattle.ipi.specs.Ledger.{PendingSeatView, PendingView}
-use Rattle.ipi.specs.Pairs.{SameHarts}
-use Rattle.ipi.specs.Views.{ArePairs, row_of}
-use Rattle.sbi_calls.specs.Answers.{row_sent, pairs_sent, pairs_to}
-use Rattle.sbi_calls.specs.Steps.{Sends, SendsTo}
+use Rattle.ipi.specs.{Ledger.{PendingSeatView, PendingView}, Pairs.SameHarts, Views.{ArePairs, row_of}}
+use Rattle.sbi_calls.specs.{Answers.{row_sent, pairs_sent, pairs_to}, Steps.{Sends, SendsTo}}
 
 abbrev pub Pairs : Type 0
 Pairs = List (List Bool)

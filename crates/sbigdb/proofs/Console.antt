@@ -1,6 +1,5 @@
 -- A text that goes to the console, piece by piece.
-use Rattle.std.proofs.Common.{◌≡◌, ◌∙◌, ℕ, List, [], ◌∷◌, ◌++◌, map, refl, sym, ap, append_assoc}
-use Rattle.std.specs.List.{flat_map}
+use Rattle.std.{proofs.Common.{◌≡◌, ◌∙◌, ℕ, List, [], ◌∷◌, ◌++◌, map, refl, sym, ap, append_assoc}, specs.List.flat_map}
 use Rattle.std.proofs.lemmas.List.{map-append}
 use Rattle.sbigdb.specs.Texts.{console_packet}
 

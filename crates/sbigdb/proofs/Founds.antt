@@ -1,24 +1,14 @@
 -- A script up to where what was found parts from it.
 use Rattle.std.proofs.Common.{◌≡◌, ◌⊎◌, inl, inr, ◌∙◌, ℕ, List, [], ◌∷◌, ◌++◌, Some, Result, Ok, Err, refl, ap, subst, sym}
-use Rattle.std.specs.Prelude.{IfOk}
-use Rattle.std.proofs.lemmas.Result.{IfOk-weaker}
-use Rattle.board_model.specs.Shapes.{Size}
-use Rattle.board_model.specs.declared.refusal.Refusal.{Refusal}
-use Rattle.board_model.specs.declared.refusal.Refusal.TheVariants.{BadShape, Memory, NotPlain, Output}
-use Rattle.script_lang.specs.Scripts.{Script, script_of}
-use Rattle.script_lang.specs.Spellings.{script_text}
-use Rattle.script_lang.specs.Views.{view}
+use Rattle.std.{specs.Prelude.IfOk, proofs.lemmas.Result.IfOk-weaker}
+use Rattle.board_model.specs.{Shapes.Size, declared.refusal.Refusal.{Refusal, TheVariants.{BadShape, Memory, NotPlain, Output}}}
+use Rattle.script_lang.specs.{Scripts.{Script, script_of}, Spellings.script_text, Views.view}
 use Rattle.script_lang.specs.declared.scripts.Script as code
 use Rattle.bench_schedules.specs.Orders.{IsScheduleOf}
-use Rattle.sbigdb.specs.declared.given.ScheduleChoice.{ScheduleChoice}
-use Rattle.bench_sweep.specs.Shown.{NoRowOf, ShownRow}
-use Rattle.bench_sweep.specs.Swept.{NoBenchRuns}
-use Rattle.bench_sweep.specs.declared.points.BenchKind.{BenchKind}
+use Rattle.sbigdb.specs.declared.given.{ScheduleChoice.ScheduleChoice, Begin.TheVariants.{Cut, End, Failure, Schedule}}
+use Rattle.sbigdb.{specs.{Begins.{BeginsAt, IsRow, NoRow, PartsAt}, Strikes.StopsBefore}, proofs.Partings.{parts_nowhere, same_script}}
+use Rattle.bench_sweep.specs.{Shown.{NoRowOf, ShownRow}, Swept.NoBenchRuns, declared.points.BenchKind.BenchKind}
 use Rattle.bench_sweep.specs.declared.points.BenchKind.TheVariants.{Cuts, Fails}
-use Rattle.sbigdb.specs.declared.given.Begin.TheVariants.{Cut, End, Failure, Schedule}
-use Rattle.sbigdb.specs.Begins.{BeginsAt, IsRow, NoRow, PartsAt}
-use Rattle.sbigdb.specs.Strikes.{StopsBefore}
-use Rattle.sbigdb.proofs.Partings.{parts_nowhere, same_script}
 
 pub begins_end : (text : List ℕ) (payloads : List (List ℕ)) (own : Script) → script_of text ≡ Ok own → BeginsAt End text payloads own
 begins_end text payloads own read = record {

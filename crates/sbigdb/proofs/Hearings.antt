@@ -1,8 +1,6 @@
 -- What is heard, byte by byte.
-use Rattle.std.proofs.Common.{◌≡◌, ℕ, Bool, List, [], ◌∷◌, ◌++◌, Option, sym, subst}
-use Rattle.std.specs.Io.KnownBytes.{Consumes}
-use Rattle.debug_session.specs.Streams.{Completes, Hears, Standing, standing_after}
-use Rattle.debug_session.specs.declared.heard.PacketEvent.{PacketEvent}
+use Rattle.std.{proofs.Common.{◌≡◌, ℕ, Bool, List, [], ◌∷◌, ◌++◌, Option, sym, subst}, specs.Io.KnownBytes.Consumes}
+use Rattle.debug_session.specs.{Streams.{Completes, Hears, Standing, standing_after}, declared.heard.PacketEvent.PacketEvent}
 use Rattle.sbigdb.specs.Hearings.{AreTaken, newly}
 
 -- a byte more, and what it completes

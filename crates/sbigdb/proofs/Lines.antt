@@ -2,8 +2,7 @@
 use Rattle.std.proofs.Common.{◌≡◌, ◌<◌, ◌≤◌, ◌-◌, List, [], ◌∷◌, Option, Some, None, length, refl, arith}
 use Rattle.std.specs.Prelude.{slice_index_or, All, IfSome}
 use Rattle.board_model.specs.Shapes.{Size}
-use Rattle.script_lang.specs.Lines.{IsLineInRange}
-use Rattle.script_lang.specs.declared.line.Line.{Line}
+use Rattle.script_lang.specs.{Lines.IsLineInRange, declared.line.Line.Line}
 use Rattle.sbigdb.specs.Moved.{just_one}
 
 pub just_from : (lines : List Line) (r : Option Line) → length lines ≤ 1 → (length lines ≡ 0 → r ≡ None) → ((d : Line) → 0 < length lines → r ≡ Some (slice_index_or lines (length lines - 1) d)) → r ≡ just_one lines

@@ -1,19 +1,12 @@
 -- Two scripts that differ in rows of turns alone: the line in which they part.
 use Rattle.std.proofs.Common.{◌≡◌, ◌∙◌, ◌==◌, ◌<◌, ◌+◌, ◌-◌, ℕ, suc, Bool, true, false, List, [], ◌∷◌, ◌++◌, None, Some, Ok, Err, Result, inl, inr, if◌then◌else◌, min, get_or, take, drop, length, refl, ap, ap₂, sym, subst, arith, add-one, length-append}
-use Rattle.std.specs.Prelude.{All, IfErr, IfOk}
-use Rattle.std.specs.Option.{option_to_list}
-use Rattle.std.proofs.Math.Seq.{drop-cons, take-append_seam, take-suc}
+use Rattle.std.{specs.{Prelude.{All, IfErr, IfOk}, Option.option_to_list}, proofs.Math.Seq.{drop-cons, take-append_seam, take-suc}}
 use Rattle.std.proofs.lemmas.List.{append-nil, length-drop, take-append-drop, take_rest}
 use Rattle.std.proofs.lemmas.List.Elements.{All-append, All-drop, All-head, All-nil, All-push, All-take}
-use Rattle.board_model.specs.Shapes.{Size}
-use Rattle.board_model.specs.declared.refusal.Refusal.{Refusal}
-use Rattle.board_model.specs.declared.refusal.Refusal.TheVariants.{Memory}
-use Rattle.script_lang.specs.Lines.{IsLineInRange}
-use Rattle.script_lang.specs.Scripts.{Gives, Script, script_of}
-use Rattle.script_lang.specs.Spellings.{script_text}
-use Rattle.script_lang.specs.Views.{view}
-use Rattle.script_lang.specs.declared.scripts.Script as code
+use Rattle.board_model.specs.{Shapes.Size, declared.refusal.Refusal.{Refusal, TheVariants.Memory}}
+use Rattle.script_lang.specs.{Lines.IsLineInRange, Scripts.{Gives, Script, script_of}, Spellings.script_text, Views.view}
 use Rattle.script_lang.specs.declared.line.Line.{Line}
+use Rattle.script_lang.specs.declared.scripts.Script as code
 use Rattle.script_lang.specs.declared.line.Line.TheVariants as lines
 use Rattle.bench_schedules.specs.Orders.{AreOrderOf, is_other, more_turns, seen_by}
 use Rattle.sbigdb.specs.Begins.{PartsAt, both_turn, is_same_row, turns_of_both}

@@ -1,10 +1,8 @@
 -- Lines that are in their range, one after another.
-use Rattle.std.proofs.Common.{◌≤◌, ◌++◌, ◌∷◌, [], ℕ, List, length}
-use Rattle.std.specs.Prelude.{All}
+use Rattle.std.{proofs.Common.{◌≤◌, ◌++◌, ◌∷◌, [], ℕ, List, length}, specs.Prelude.All}
 use Rattle.std.proofs.lemmas.List.Elements.{All-append, All-nil, All-push}
 use Rattle.board_model.specs.Shapes.{Size}
-use Rattle.script_lang.specs.Lines.{IsLineInRange}
-use Rattle.script_lang.specs.declared.line.Line.{Line}
+use Rattle.script_lang.specs.{Lines.IsLineInRange, declared.line.Line.Line}
 use Rattle.script_lang.specs.declared.line.Line.TheVariants as lines
 
 pub payload_ranged : (size : Size) (old : List Line) (slot : ℕ) (bytes : List ℕ) → All (IsLineInRange size) old → slot ≤ 3 → 1 ≤ length bytes → length bytes ≤ 1024 → All (IsLineInRange size) (old ++ lines.Payload slot bytes ∷ [])

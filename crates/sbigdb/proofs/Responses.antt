@@ -1,18 +1,13 @@
 -- Where a talk begins; what is sent for all that was heard.
 use Rattle.std.proofs.Common.{◌≡◌, ℕ, Bool, true, false, List, [], ◌∷◌, ◌++◌, Option, Some, None, Vec, Global, inl, inr, refl, sym, ap, ◌∙◌, subst, append_assoc}
-use Rattle.std.specs.Iterator.{Count, IsFinite, MakesProgress}
-use Rattle.std.proofs.lemmas.List.{append-nil}
+use Rattle.std.{specs.Iterator.{Count, IsFinite, MakesProgress}, proofs.lemmas.List.append-nil}
 use Rattle.board_model.specs.Shapes.{Size}
 use Rattle.script_lang.specs.declared.line.Line.{Line}
-use Rattle.debug_session.specs.declared.heard.PacketEvent.{PacketEvent}
-use Rattle.debug_session.specs.declared.heard.PacketEvent.TheVariants as heards
-use Rattle.debug_session.specs.Ats.{IsAt}
+use Rattle.debug_session.specs.{declared.{heard.PacketEvent.PacketEvent, session.SessionPlan.SessionPlan}, Ats.IsAt, Steps.AreNoted}
 use Rattle.debug_session.specs.Sessions.{begins_of, history_of, plan_of, points_of, size_of, timeline_of, watches_of}
-use Rattle.debug_session.specs.Steps.{AreNoted}
-use Rattle.debug_session.specs.declared.session.SessionPlan.{SessionPlan}
 use Rattle.debug_session.specs.declared.session.Session.{Session}
-use Rattle.sbigdb.specs.Talks.{acknowledges_in, hart_in, is_over_in, runner_in, selected_in, sent_in, session_in}
-use Rattle.sbigdb.specs.declared.talk.Talk.{Talk}
+use Rattle.debug_session.specs.declared.heard.PacketEvent.TheVariants as heards
+use Rattle.sbigdb.specs.{Talks.{acknowledges_in, hart_in, is_over_in, runner_in, selected_in, sent_in, session_in}, declared.talk.Talk.Talk}
 use Rattle.sbigdb.specs.Responses.{AnswersAll, AnswersFrom, Begins, Says, ack_text, next_ack}
 
 pub begun : {C : Type 0} (size : Size) (plan : SessionPlan) (payloads : List (List ℕ)) (lines : List Line) (session : Session C) (talk : Talk C) → session_in talk ≡ session → IsAt (size_of session) (timeline_of session) → size_of session ≡ size

@@ -1,6 +1,5 @@
 -- Two boards of the same harts, pages and lanes are of one shape.
-use Rattle.std.proofs.Common.{◌≡◌, ◌∙◌, ◌==◌, ◌&&◌, ap, false, rules, tests}
-use Rattle.std.specs.Prelude.{not}
+use Rattle.std.{proofs.Common.{◌≡◌, ◌∙◌, ◌==◌, ◌&&◌, ap, false, rules, tests}, specs.Prelude.not}
 use Rattle.board_model.specs.Shapes.{Size, board_size}
 
 pub same_shape : (a b : Size) → false ≡ not ((a.harts == b.harts) && ((a.pages == b.pages) && (a.lanes == b.lanes))) → a ≡ b

@@ -1,23 +1,15 @@
 -- Where what a row arms strikes: runs of first lines.
 use Rattle.std.proofs.Common.{◌≡◌, ◌∙◌, ◌<◌, ◌+◌, ℕ, zero, suc, Bool, true, false, List, [], ◌∷◌, ◌++◌, Option, None, Some, length, take, drop, get_or, refl, ap, ap₂, sym, subst, arith, add-one}
-use Rattle.std.specs.Prelude.{◌↔◌, All}
-use Rattle.std.proofs.lemmas.List.Elements.{All-append, All-get_or, All-nil, All-push, All-take}
+use Rattle.std.{specs.Prelude.{◌↔◌, All}, proofs.lemmas.List.Elements.{All-append, All-get_or, All-nil, All-push, All-take}}
 use Rattle.board_model.specs.Shapes.{Size}
 use Rattle.disk.specs.FaultState.{Armed, CutArmed, FaultArmed, FaultState, Unarmed}
 use Rattle.simdisk.specs.declared.SimDisk.{SimDisk}
-use Rattle.script_lang.specs.Lines.{IsLineInRange}
-use Rattle.script_lang.specs.declared.line.Line.{Line}
+use Rattle.script_lang.specs.{Lines.IsLineInRange, declared.line.Line.Line}
 use Rattle.script_lang.specs.declared.line.Line.TheVariants as lines
 use Rattle.report_lines.specs.declared.printed.Answer.{Answer}
-use Rattle.bench_report.specs.Agree.{OffIs}
-use Rattle.bench_report.specs.Bench.{Bench, bench_with}
-use Rattle.bench_report.specs.Happens.{off}
-use Rattle.bench_report.specs.Steps.{Moves}
-use Rattle.bench_report.specs.Views.{fault_state}
-use Rattle.bench_report.proofs.RunLines.{run_more}
-use Rattle.bench_report.specs.Lives.{Shows}
+use Rattle.bench_report.specs.{Agree.OffIs, Bench.{Bench, bench_with}, Happens.off, Steps.Moves, Views.fault_state, Lives.Shows}
+use Rattle.bench_report.{proofs.RunLines.run_more, specs.declared.live.LiveBench.LiveBench}
 use Rattle.debug_session.specs.Pasts.{some_turns}
-use Rattle.bench_report.specs.declared.live.LiveBench.{LiveBench}
 use Rattle.sbigdb.specs.Strikes.{ArmedBehind, RanTo, StopsBefore, StopsIn, count_in, hart_in, is_armed}
 use Rattle.sbigdb.proofs.Partings.{split_here, take_here}
 

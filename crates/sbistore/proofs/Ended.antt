@@ -1,21 +1,13 @@
 -- A command that ends leaves the open store that it makes of the one that was kept.
 use Rattle.std.proofs.Common.{◌≡◌, ◌∙◌, ℕ, Bool, Result, inl, refl, sym, ap, subst, arith}
-use Rattle.board_model.specs.Durable.{ends_life}
-use Rattle.board_model.specs.Views.{change_of}
-use Rattle.board_model.specs.declared.durable.Command.{Command}
-use Rattle.planned_store.specs.Plans.{asked}
-use Rattle.board_model.specs.declared.refusal.Refusal.{Refusal}
-use Rattle.planned_store.specs.Stores.{PlansCommand, receipt_of, store_after, store_at}
-use Rattle.planned_store.specs.declared.commits.Commit.{Commit}
-use Rattle.planned_store.specs.declared.commits.CommitStep.{CommitStep}
+use Rattle.board_model.specs.{Durable.ends_life, Views.change_of, declared.{durable.Command.Command, refusal.Refusal.Refusal}}
+use Rattle.planned_store.specs.{Plans.asked, Stores.{PlansCommand, receipt_of, store_after, store_at}, declared.commits.Commit.Commit}
+use Rattle.planned_store.specs.declared.{commits.CommitStep.CommitStep, plans.{Plan.Plan, Request.TheVariants.Done}}
 use Rattle.planned_store.specs.declared.commits.CommitStep.TheVariants.{WriteRecord, SyncRecord, WriteGate, SyncGate, Committed, Unchanged, InDoubt}
-use Rattle.planned_store.specs.declared.plans.Plan.{Plan}
 use Rattle.planned_store.specs.declared.plans.Plan.TheVariants.{Settling, ReadingSuperblock, ReadingGate, ReadingRecord, Found, Renewing, Committing, Formatting, Refused}
-use Rattle.planned_store.specs.declared.plans.Request.TheVariants.{Done}
 use Rattle.planned_store.specs.declared.stores.OpenStore.{OpenStore}
 use Rattle.sbistore.specs.Ends.{flag_number, receipt_code, Keeps, Ended, EndsCommand, Begun, CommandBegun}
-use Rattle.sbistore.specs.Packed.{IsPacked, IsSelectedSound, IsSound}
-use Rattle.sbistore.specs.declared.state.Sbistore.{Sbistore}
+use Rattle.sbistore.specs.{Packed.{IsPacked, IsSelectedSound, IsSound}, declared.state.Sbistore.Sbistore}
 
 pub ended_command : (plan : Plan) (k : Commit) (old new : Sbistore) → plan ≡ Committing k
     → ((life : OpenStore) → (over : Bool) → Keeps life old → old.ends ≡ flag_number over → EndsCommand life over plan new) → Ended plan old new

@@ -1,8 +1,7 @@
 -- The open store is kept where none of its numbers and bytes has changed.
 use Rattle.std.proofs.Common.{◌≡◌, ◌∙◌}
 use Rattle.planned_store.specs.declared.stores.OpenStore.{OpenStore}
-use Rattle.sbistore.specs.Ends.{Keeps}
-use Rattle.sbistore.specs.declared.state.Sbistore.{Sbistore}
+use Rattle.sbistore.specs.{Ends.Keeps, declared.state.Sbistore.Sbistore}
 
 pub record SameStore (s t : Sbistore) : Type 0 where
   pub opened : t.opened ≡ s.opened

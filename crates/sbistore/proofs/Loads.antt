@@ -1,14 +1,10 @@
 -- The call that a load asks for, in the numbers and bytes of C.
 use Rattle.std.proofs.Common.{◌≡◌, ◌+◌, ◌<◌, ℕ, Some, refl, sym, ap, subst}
-use Rattle.planned_store.specs.declared.stores.OpenStore.{OpenStore}
+use Rattle.planned_store.specs.declared.{stores.OpenStore.OpenStore, loads.{Loading.Loading, LoadStep.LoadStep}}
 use Rattle.planned_store.specs.Loads.{place_sector, load_asks, load_asks_at, HasPlace, HasPlaceAt, loaded_by}
-use Rattle.planned_store.specs.declared.loads.Loading.{Loading}
-use Rattle.planned_store.specs.declared.loads.LoadStep.{LoadStep}
 use Rattle.planned_store.specs.declared.loads.LoadStep.TheVariants.{ReadHead, ReadPage, Loaded, Spoilt, Failed}
-use Rattle.sbistore.specs.Ends.{Keeps, answer_code}
+use Rattle.sbistore.{specs.{Ends.{Keeps, answer_code}, declared.state.Sbistore.Sbistore}, proofs.Keeping.kept_on}
 use Rattle.sbistore.specs.Images.{load_number, page_of_step, with_load, IsStep, IsLoadPacked, AsksLoad, IsAskedLoad}
-use Rattle.sbistore.specs.declared.state.Sbistore.{Sbistore}
-use Rattle.sbistore.proofs.Keeping.{kept_on}
 
 module _ (life : OpenStore) (p : Loading) (old new : Sbistore) (kind : ℕ) (kept : Keeps life old) (shape : p.shape ≡ life.selected.shape) (image : life.selected.live.image ≡ Some p.saved) where
   abbrev asking : ℕ → Sbistore

@@ -1,20 +1,14 @@
 -- The numbers and bytes that C keeps are those of one plan, which goes on as the loop's.
-use Rattle.std.proofs.Common.{◌≡◌, ⊎_elim, ◌<◌, ℕ, List, Option, Some, Ok, Err, refl, sym, subst, arith}
-use Rattle.std.proofs.lemmas.Bool.{cases_eq}
+use Rattle.std.proofs.{Common.{◌≡◌, ⊎_elim, ◌<◌, ℕ, List, Option, Some, Ok, Err, refl, sym, subst, arith}, lemmas.Bool.cases_eq}
 use Rattle.board_model.specs.Shapes.{Size, IsSize}
 use Rattle.layout.specs.Records.{IsRecord, IsInRange}
 use Rattle.store.proofs.Renewing.{in_range_two}
-use Rattle.planned_store.specs.Commits.{Answer, asked_at, step_after}
-use Rattle.planned_store.specs.Plans.{asked, format_asks, Goes, ReadsSuperblock, ReadsRecord}
-use Rattle.planned_store.specs.declared.commits.Commit.{Commit}
-use Rattle.planned_store.specs.declared.commits.CommitStep.{CommitStep}
+use Rattle.planned_store.specs.{Commits.{Answer, asked_at, step_after}, Plans.{asked, format_asks, Goes, ReadsSuperblock, ReadsRecord}}
+use Rattle.planned_store.specs.declared.{commits.{Commit.Commit, CommitStep.CommitStep, Selected.Selected}, formats.FormatStep.FormatStep}
 use Rattle.planned_store.specs.declared.commits.CommitStep.TheVariants.{WriteRecord, SyncRecord, WriteGate, SyncGate, Committed, Unchanged, InDoubt}
-use Rattle.planned_store.specs.declared.commits.Selected.{Selected}
-use Rattle.planned_store.specs.declared.formats.FormatStep.{FormatStep}
-use Rattle.planned_store.specs.declared.formats.FormatStep.TheVariants as formats
-use Rattle.planned_store.specs.declared.plans.Plan.{Plan}
+use Rattle.planned_store.specs.declared.plans.{Plan.Plan, Request.TheVariants.Done}
 use Rattle.planned_store.specs.declared.plans.Plan.TheVariants.{Settling, ReadingSuperblock, ReadingGate, ReadingRecord, Found, Renewing, Committing, Formatting, Refused}
-use Rattle.planned_store.specs.declared.plans.Request.TheVariants.{Done}
+use Rattle.planned_store.specs.declared.formats.FormatStep.TheVariants as formats
 use Rattle.sbistore.specs.Packed.{step_number, format_number, HasShape, HasCommit, IsPacked, IsSelectedSound, IsSound}
 use Rattle.sbistore.specs.declared.state.Sbistore.{Sbistore}
 

@@ -1,25 +1,14 @@
 -- A suspension in the numbers and bytes of C.
 use Rattle.std.proofs.Common.{◌≡◌, ◌∙◌, inr, ◌+◌, ◌^◌, ◌<◌, ℕ, List, Some, refl, sym, ap, subst, arith}
-use Rattle.board_model.specs.Shapes.{IsValidAddress}
-use Rattle.board_model.specs.Views.{number_of_refusal}
-use Rattle.board_model.specs.declared.refusal.Refusal.{Refusal}
+use Rattle.board_model.specs.{Shapes.IsValidAddress, Views.number_of_refusal, declared.refusal.Refusal.Refusal}
 use Rattle.store.specs.declared.saving.Resumption.{Resumption}
-use Rattle.planned_store.specs.Plans.{asked}
-use Rattle.planned_store.specs.declared.commits.Commit.{Commit}
-use Rattle.planned_store.specs.declared.commits.CommitStep.TheVariants.{WriteRecord}
-use Rattle.planned_store.specs.declared.commits.Selected.{Selected}
-use Rattle.planned_store.specs.declared.plans.Plan.TheVariants.{Committing}
-use Rattle.planned_store.specs.declared.plans.Request.TheVariants.{Done}
-use Rattle.planned_store.specs.declared.stores.OpenStore.{OpenStore}
+use Rattle.planned_store.specs.{Plans.asked, declared.commits.{Commit.Commit, CommitStep.TheVariants.WriteRecord, Selected.Selected}}
+use Rattle.planned_store.specs.declared.{plans.{Plan.TheVariants.Committing, Request.TheVariants.Done}, stores.OpenStore.OpenStore}
 use Rattle.planned_store.specs.Saves.{save_sector, save_asks, save_asks_at, saved_record, commit_at, commit_of, HasPage, NoSave}
-use Rattle.planned_store.specs.declared.saves.Saving.{Saving}
-use Rattle.planned_store.specs.declared.saves.SaveStep.{SaveStep}
+use Rattle.planned_store.specs.declared.saves.{Saving.Saving, SaveStep.SaveStep}
 use Rattle.planned_store.specs.declared.saves.SaveStep.TheVariants.{WriteHead, WritePage, SyncArea, Saved, Failed}
-use Rattle.sbistore.specs.Ends.{Keeps}
+use Rattle.sbistore.{specs.{Ends.Keeps, Packed.IsSelectedSound, declared.state.Sbistore.Sbistore}, proofs.Keeping.kept_on}
 use Rattle.sbistore.specs.Images.{save_number, with_save, resumption, IsSavePacked, IsSaveSound, AsksSave, IsAskedSave, SaveBegun}
-use Rattle.sbistore.specs.Packed.{IsSelectedSound}
-use Rattle.sbistore.specs.declared.state.Sbistore.{Sbistore}
-use Rattle.sbistore.proofs.Keeping.{kept_on}
 
 -- ---- the suspension that is kept
 pub from_known : (life opened : OpenStore) (s : Saving) (store : Sbistore) → opened ≡ life → IsSavePacked life s store → opened.selected ≡ s.from

@@ -1,22 +1,11 @@
 -- Which row of a table of lines a keyword names, and what the words of a line say by their first.
 use Rattle.std.proofs.Common.{◌≡◌, ◌∙◌, ℕ, Bor, ◌-◌, ◌<◌, ◌≤◌, Bool, true, false, List, [], ◌∷◌, length, map, get_or, take, drop, Option, Some, None, Result, Err, if◌then◌else◌, suc, refl, sym, ap, subst, arith}
-use Rattle.std.specs.Option.{IfSome}
-use Rattle.std.specs.Result.{IfOk}
-use Rattle.std.specs.Str.{bytes_eq}
-use Rattle.std.proofs.lemmas.List.{take_all}
-use Rattle.board_model.specs.Shapes.{Size}
-use Rattle.board_model.specs.declared.console_command.ConsoleCommand.{ConsoleCommand}
-use Rattle.board_model.specs.declared.refusal.Refusal.TheVariants.{BadScript}
-use Rattle.script_lang.specs.declared.armings.Arming.{Arming}
-use Rattle.script_lang.specs.declared.line.Line.{Line}
-use Rattle.script_lang.specs.declared.line.Line.TheVariants.{Format, Command, Show, Arm, Inspect, Wake}
-use Rattle.script_lang.specs.declared.looks.Look.{Look}
-use Rattle.script_lang.specs.Armings.{arming_said, cutat_of, cutlane_of, failat_of, faillane_of}
-use Rattle.script_lang.specs.Commands.{command_said}
-use Rattle.script_lang.specs.Lines.{other_said, line_of, payload_of, on_of, turn_of, call_line_of, cut_of, poke_of}
-use Rattle.script_lang.specs.Looks.{look_said}
-use Rattle.script_lang.specs.Scripts.{board_of, size_of_words}
-use Rattle.script_lang.specs.Words.{alone, or_else, three_of}
+use Rattle.std.{specs.{Option.IfSome, Result.IfOk, Str.bytes_eq}, proofs.lemmas.List.take_all}
+use Rattle.board_model.specs.{Shapes.Size, declared.{console_command.ConsoleCommand.ConsoleCommand, refusal.Refusal.TheVariants.BadScript}}
+use Rattle.script_lang.specs.declared.{armings.Arming.Arming, line.Line.{Line, TheVariants.{Format, Command, Show, Arm, Inspect, Wake}}}
+use Rattle.script_lang.specs.{declared.looks.Look.Look, Armings.{arming_said, cutat_of, cutlane_of, failat_of, faillane_of}}
+use Rattle.script_lang.specs.{Commands.command_said, Lines.{other_said, line_of, payload_of, on_of, turn_of, call_line_of, cut_of, poke_of}}
+use Rattle.script_lang.specs.{Looks.look_said, Scripts.{board_of, size_of_words}, Words.{alone, or_else, three_of}}
 use lib.Chars.{codes}
 
 -- what a comparison with a word found

@@ -1,10 +1,8 @@
 -- The first 65,537 lines of a script are enough: line 65,537 is a fault, so nothing after it is read.
 use Rattle.std.proofs.Common.{◌≡◌, ℕ, ◌+◌, ◌-◌, ◌≤◌, ◌<◌, Bool, true, false, List, [], ◌∷◌, length, take, Ok, if◌then◌else◌, zero, suc, inl, inr, ⊎_elim, refl, ap, sym, ◌∙◌, arith}
-use Rattle.std.proofs.lemmas.List.{take-take, take_all, length-take-le}
-use Rattle.std.proofs.lemmas.Bool.{cases_lt}
+use Rattle.std.proofs.lemmas.{List.{take-take, take_all, length-take-le}, Bool.cases_lt}
 use Rattle.board_model.specs.Shapes.{Size}
-use Rattle.script_lang.specs.Words.{words_of}
-use Rattle.script_lang.specs.Scripts.{◌>>>◌, whole_lines, rest_of, board_of, from_board, lines_from}
+use Rattle.script_lang.specs.{Words.words_of, Scripts.{◌>>>◌, whole_lines, rest_of, board_of, from_board, lines_from}}
 
 rest_of-first : (size : Size) (n m : ℕ) (lines : List (List ℕ)) → n ≤ 65537 → n + m ≡ 65538 → rest_of size n (take m lines) ≡ rest_of size n lines
 unfolding rest_of

@@ -1,22 +1,12 @@
 -- The words of a spelling: none holds a space, and each reads as what it was written for.
 use Rattle.std.proofs.Common.{nat_lt, ◌≡◌, ℕ, zero, suc, ◌+◌, ◌*◌, ◌/◌, ◌%◌, ◌^◌, ◌<◌, ◌≤◌, ◌&&◌, ◌==◌, Bool, true, false, List, [], ◌∷◌, length, take, Option, Some, None, All, ap, ◌∙◌, refl, arith, slice_index, inl, inr, if◌then◌else◌, lit<}
-use Rattle.std.proofs.lemmas.Fmt.{decimal_is_IsNumeral, length-decimal-le}
-use Rattle.std.proofs.lemmas.Str.Parse.{digit_from_value}
-use Rattle.std.proofs.lemmas.Bool.Decides.{nat_tests}
-use Rattle.std.proofs.lemmas.Bool.{and_parts, cases_lt, eqb-true}
-use Rattle.std.proofs.lemmas.List.Elements.{All-cons, All-nil}
-use Rattle.std.proofs.lemmas.List.Splits.{slice_split_none, slice_split_at}
-use Rattle.std.specs.Fmt.{decimal}
-use Rattle.std.specs.Char.{digit_value}
-use Rattle.std.specs.List.{join_with_byte, slice_split}
-use Rattle.std.specs.Str.{bytes_eq}
+use Rattle.std.proofs.lemmas.{Fmt.{decimal_is_IsNumeral, length-decimal-le}, Str.Parse.digit_from_value, Bool.Decides.nat_tests}
+use Rattle.std.{proofs.lemmas.{Bool.{and_parts, cases_lt, eqb-true}, List.Elements.{All-cons, All-nil}}, specs.{Fmt.decimal, Str.bytes_eq}}
+use Rattle.std.{proofs.lemmas.List.Splits.{slice_split_none, slice_split_at}, specs.{Char.digit_value, List.{join_with_byte, slice_split}}}
 use Rattle.std.specs.Str.Parse.{AllDigits, digits_value_after}
-use Rattle.hex.specs.Hex.{encode_lower, encode_with, lower_digits, IsBytes}
-use Rattle.hex.proofs.HexLemmas.{decode_of-encode_lower, length-encode_with}
-use Rattle.script_lang.specs.Words.{words_of, digits_after, number_of, ranged, hex_of, fill_of}
-use Rattle.script_lang.specs.Words.{fill_text, FitsFill}
-use Rattle.simdisk.specs.declared.fill.Fill.{Fill}
-use Rattle.simdisk.specs.declared.fill.Fill.TheVariants.{Old, New, Byte, Alternating}
+use Rattle.hex.{specs.Hex.{encode_lower, encode_with, lower_digits, IsBytes}, proofs.HexLemmas.{decode_of-encode_lower, length-encode_with}}
+use Rattle.script_lang.specs.Words.{words_of, digits_after, number_of, ranged, hex_of, fill_of, fill_text, FitsFill}
+use Rattle.simdisk.specs.declared.fill.Fill.{Fill, TheVariants.{Old, New, Byte, Alternating}}
 use lib.Chars.{codes}
 
 -- each byte of the word is a digit's code or a later one, so it is no space, no line feed and no `#`; a test

@@ -1,9 +1,7 @@
 -- Lines are read in their order.
 use Rattle.std.proofs.Common.{◌≡◌, ℕ, ◌+◌, List, [], ◌∷◌, ◌++◌, length, Result, Ok, Err, append_assoc, refl, ap, sym, arith, add-zero}
-use Rattle.board_model.specs.declared.refusal.Refusal.{Refusal}
-use Rattle.board_model.specs.Shapes.{Size}
-use Rattle.script_lang.specs.declared.line.Line.{Line}
-use Rattle.script_lang.specs.Scripts.{◌>>>◌, said_of, rest_of}
+use Rattle.board_model.specs.{declared.refusal.Refusal.Refusal, Shapes.Size}
+use Rattle.script_lang.specs.{declared.line.Line.Line, Scripts.{◌>>>◌, said_of, rest_of}}
 
 -- what two lists of lines say, one after the other
 abbrev both : Result (List Line) Refusal → Result (List Line) Refusal → Result (List Line) Refusal

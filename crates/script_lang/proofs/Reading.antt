@@ -1,17 +1,9 @@
 -- One line of a script is read, and kept or refused.
 use Rattle.std.proofs.Common.{◌≡◌, ◌∙◌, ℕ, ◌+◌, ◌≤◌, Bool, true, false, List, [], ◌∷◌, ◌++◌, length, Result, Ok, Err, if◌then◌else◌, inl, inr, sym, ap, subst, arith}
-use Rattle.std.specs.List.{All}
-use Rattle.std.specs.Result.{OnOk, IsErr, IsErrAnd}
-use Rattle.std.proofs.lemmas.Bool.{and_parts, leb-true}
-use Rattle.std.proofs.lemmas.List.{append-nil, length_push}
-use Rattle.std.proofs.lemmas.List.Elements.{All-push}
-use Rattle.std.proofs.lemmas.Result.{IfOk-from_err, err_from_is_err_and}
-use Rattle.board_model.specs.Shapes.{Size}
-use Rattle.board_model.specs.declared.refusal.Refusal.{Refusal}
-use Rattle.board_model.specs.declared.refusal.Refusal.TheVariants.{BadScript}
-use Rattle.script_lang.specs.declared.line.Line.{Line}
-use Rattle.script_lang.specs.Lines.{line_of}
-use Rattle.script_lang.specs.Scripts.{◌>>>◌, Fails, Gives, is_passed, is_sound, or_fault, said_of}
+use Rattle.std.{specs.{List.All, Result.{OnOk, IsErr, IsErrAnd}}, proofs.lemmas.{Bool.{and_parts, leb-true}, List.Elements.All-push}}
+use Rattle.std.proofs.lemmas.{List.{append-nil, length_push}, Result.{IfOk-from_err, err_from_is_err_and}}
+use Rattle.board_model.specs.{Shapes.Size, declared.refusal.Refusal.{Refusal, TheVariants.BadScript}}
+use Rattle.script_lang.specs.{declared.line.Line.Line, Lines.line_of, Scripts.{◌>>>◌, Fails, Gives, is_passed, is_sound, or_fault, said_of}}
 use Rattle.script_lang.specs.Words.{words_of}
 
 -- what the exit of a `?` gives

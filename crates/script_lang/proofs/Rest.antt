@@ -1,14 +1,9 @@
 -- One more line read, in the words of the loop over the lines.
 use Rattle.std.proofs.Common.{◌≡◌, ◌∙◌, ℕ, ◌+◌, ◌-◌, ◌<◌, ◌≤◌, Bool, true, false, Bor, List, [], ◌∷◌, ◌++◌, length, length-drop, get_or, take, drop, Result, Ok, Err, if◌then◌else◌, append_assoc, inl, inr, refl, sym, ap, subst, arith}
-use Rattle.std.specs.List.{All}
-use Rattle.std.proofs.lemmas.List.{append-nil, drop_more, drop_all, take_all}
-use Rattle.std.proofs.lemmas.List.Elements.{All-nil}
-use Rattle.board_model.specs.declared.refusal.Refusal.{Refusal}
-use Rattle.board_model.specs.declared.refusal.Refusal.TheVariants.{BadScript}
-use Rattle.board_model.specs.Shapes.{Size}
-use Rattle.script_lang.specs.declared.line.Line.{Line}
+use Rattle.std.{specs.List.All, proofs.lemmas.List.{append-nil, drop_more, drop_all, take_all, Elements.All-nil}}
+use Rattle.board_model.specs.{declared.refusal.Refusal.{Refusal, TheVariants.BadScript}, Shapes.Size}
+use Rattle.script_lang.{specs.declared.line.Line.Line, proofs.Classes.seen}
 use Rattle.script_lang.specs.Scripts.{◌>>>◌, Fails, Script, from_board, is_passed, is_sound, lines_from, said_of, rest_of, with_front}
-use Rattle.script_lang.proofs.Classes.{seen}
 
 front-step : (said others : Result (List Line) Refusal) (old new : List Line) → (said >>> (λ s. Ok (old ++ s))) ≡ Ok new → with_front new others ≡ with_front old (said >>> (λ s. others >>> (λ o. Ok (s ++ o))))
 front-step (Err e) others old new h = cc

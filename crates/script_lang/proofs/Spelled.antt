@@ -1,23 +1,15 @@
 -- Each line in its ranges is read from its spelling.
 use Rattle.std.proofs.Common.{◌≡◌, ℕ, ◌+◌, ◌^◌, ◌<◌, ◌==◌, true, false, nat_le, List, [], ◌∷◌, length, Some, ◌∙◌, refl, arith}
-use Rattle.std.proofs.lemmas.Bool.Decides.{nat_tests}
-use Rattle.std.proofs.lemmas.Fmt.{decimal_is_IsNumeral}
-use Rattle.std.proofs.lemmas.Str.Parse.{digit_from_value}
-use Rattle.std.specs.Fmt.{decimal}
-use Rattle.std.specs.Str.{bytes_eq}
-use Rattle.std.specs.Str.Parse.{AllDigits}
-use Rattle.hex.specs.Hex.{lower_digits}
-use Rattle.hex.proofs.HexLemmas.{length-encode_with}
+use Rattle.std.{proofs.lemmas.{Bool.Decides.nat_tests, Fmt.decimal_is_IsNumeral, Str.Parse.digit_from_value}, specs.Fmt.decimal}
+use Rattle.std.specs.Str.{bytes_eq, Parse.AllDigits}
+use Rattle.hex.{specs.Hex.lower_digits, proofs.HexLemmas.length-encode_with}
 use Rattle.board_model.specs.Shapes.{Size, IsSize, sectors_of}
 use Rattle.board_model.specs.declared.boot_mode.BootMode.TheVariants as modes
-use Rattle.script_lang.specs.Words.{words_of, number_of}
-use Rattle.script_lang.specs.Lines.{line_of, extension_of, spelling_of, text_of, FitsLine, IsLineInRange}
-use Rattle.script_lang.specs.declared.line.Line.{Line}
+use Rattle.script_lang.specs.{Words.{words_of, number_of}, Lines.{line_of, extension_of, spelling_of, text_of, FitsLine, IsLineInRange}}
+use Rattle.script_lang.{specs.declared.line.Line.Line, proofs.Spells.{SpellsLine, short, fill_short, join_back}}
 use Rattle.script_lang.specs.declared.line.Line.TheVariants.{Payload, Format, On, Command, Turn, Call, Show, Arm, Cut, Poke, Inspect, Wake}
 use Rattle.script_lang.proofs.Numerals.{IsWord-decimal, IsWord-encode, IsWord-fill, number_of-decimal, ranged-decimal, hex_of-encode, fill_of-text}
-use Rattle.script_lang.proofs.Spells.{SpellsLine, short, fill_short, join_back}
-use Rattle.script_lang.proofs.SpelledCommands.{line_of-command, SpellsLine-command}
-use Rattle.script_lang.proofs.SpelledLooks.{line_of-look, SpellsLine-look}
+use Rattle.script_lang.proofs.{SpelledCommands.{line_of-command, SpellsLine-command}, SpelledLooks.{line_of-look, SpellsLine-look}}
 use Rattle.script_lang.proofs.SpelledArmings.{line_of-arming, SpellsLine-arming}
 use lib.Chars.{codes}
 

@@ -1,13 +1,11 @@
 -- Each line that arms a fault is read from its spelling.
 use Rattle.std.proofs.Common.{◌≡◌, Some, refl, arith}
 use Rattle.board_model.specs.Shapes.{Size, IsSize}
-use Rattle.script_lang.specs.Lines.{line_of}
-use Rattle.script_lang.specs.declared.line.Line.TheVariants as lines
-use Rattle.script_lang.proofs.Numerals.{IsWord-decimal, IsWord-fill, ranged-decimal, fill_of-text}
-use Rattle.script_lang.proofs.Spells.{SpellsLine, short, fill_short}
-use Rattle.script_lang.specs.declared.armings.Arming.{Arming}
+use Rattle.script_lang.{specs.Lines.line_of, proofs.Numerals.{IsWord-decimal, IsWord-fill, ranged-decimal, fill_of-text}}
+use Rattle.script_lang.{proofs.Spells.{SpellsLine, short, fill_short}, specs.declared.armings.Arming.Arming}
 use Rattle.script_lang.specs.declared.armings.Arming.TheVariants.{CutAt, CutLane, FailAt, FailLane}
 use Rattle.script_lang.specs.Armings.{arming_spelling, IsArmingInRange, FitsArming}
+use Rattle.script_lang.specs.declared.line.Line.TheVariants as lines
 
 -- a line is read from the words of its spelling
 pub line_of-arming : (size : Size) (arming : Arming) → IsSize size → IsArmingInRange size arming → FitsArming arming → line_of size (arming_spelling arming) ≡ Some (lines.Arm arming)

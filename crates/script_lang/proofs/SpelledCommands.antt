@@ -1,13 +1,10 @@
 -- Each command of the console is read from its spelling.
 use Rattle.std.proofs.Common.{◌≡◌, ◌^◌, Some, refl, arith}
-use Rattle.board_model.specs.Shapes.{Size, IsSize}
-use Rattle.script_lang.specs.Lines.{line_of}
-use Rattle.script_lang.specs.declared.line.Line.TheVariants as lines
-use Rattle.script_lang.proofs.Numerals.{IsWord-decimal, ranged-decimal}
-use Rattle.script_lang.proofs.Spells.{SpellsLine, short}
-use Rattle.board_model.specs.declared.console_command.ConsoleCommand.{ConsoleCommand}
+use Rattle.board_model.specs.{Shapes.{Size, IsSize}, declared.console_command.ConsoleCommand.ConsoleCommand}
 use Rattle.board_model.specs.declared.console_command.ConsoleCommand.TheVariants.{Slot, Discard, Tries, Good}
+use Rattle.script_lang.{specs.Lines.line_of, proofs.{Numerals.{IsWord-decimal, ranged-decimal}, Spells.{SpellsLine, short}}}
 use Rattle.script_lang.specs.Commands.{command_spelling, IsCommandInRange}
+use Rattle.script_lang.specs.declared.line.Line.TheVariants as lines
 
 -- a line is read from the words of its spelling
 pub line_of-command : (size : Size) (command : ConsoleCommand) → IsSize size → IsCommandInRange command → Unit {0} → line_of size (command_spelling command) ≡ Some (lines.Command command)

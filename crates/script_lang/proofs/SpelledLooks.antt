@@ -1,14 +1,10 @@
 -- Each line that shows memory or harts is read from its spelling.
-use Rattle.std.proofs.Common.{◌≡◌, ℕ, ◌+◌, ◌^◌, ◌<◌, true, nat_le, ◌&&◌, Some, refl, arith}
-use Rattle.std.proofs.lemmas.Bool.Decides.{nat_tests}
+use Rattle.std.proofs.{Common.{◌≡◌, ℕ, ◌+◌, ◌^◌, ◌<◌, true, nat_le, ◌&&◌, Some, refl, arith}, lemmas.Bool.Decides.nat_tests}
 use Rattle.board_model.specs.Shapes.{Size, IsSize, ram_bytes_of}
-use Rattle.script_lang.specs.Lines.{line_of}
-use Rattle.script_lang.specs.declared.line.Line.TheVariants as lines
-use Rattle.script_lang.proofs.Numerals.{IsWord-decimal, number_of-decimal, ranged-decimal}
-use Rattle.script_lang.proofs.Spells.{SpellsLine, short}
-use Rattle.script_lang.specs.declared.looks.Look.{Look}
-use Rattle.script_lang.specs.declared.looks.Look.TheVariants.{Reg, Pc, Csr, Pending, Mem}
+use Rattle.script_lang.{specs.Lines.line_of, proofs.Numerals.{IsWord-decimal, number_of-decimal, ranged-decimal}}
+use Rattle.script_lang.{proofs.Spells.{SpellsLine, short}, specs.declared.looks.Look.{Look, TheVariants.{Reg, Pc, Csr, Pending, Mem}}}
 use Rattle.script_lang.specs.Looks.{look_spelling, is_csr, IsCsr, IsLookInRange}
+use Rattle.script_lang.specs.declared.line.Line.TheVariants as lines
 
 csr_test : (n : ℕ) → IsCsr n → is_csr n ≡ true
 csr_test n h = grind (arith, nat_tests, h)

@@ -1,16 +1,9 @@
 -- What is asked of the words of a line that is written out, and what follows for its text.
 use Rattle.std.proofs.Common.{◌≡◌, ℕ, ◌+◌, ◌^◌, ◌<◌, ◌≤◌, ◌==◌, false, List, [], ◌∷◌, ◌++◌, length, arith, length-append}
-use Rattle.std.proofs.lemmas.Bool.Decides.{nat_tests}
-use Rattle.std.proofs.lemmas.Fmt.{length-decimal-le}
-use Rattle.std.specs.Fmt.{decimal}
-use Rattle.std.specs.List.{join_with_byte}
-use Rattle.hex.specs.Hex.{lower_digits}
-use Rattle.hex.proofs.HexLemmas.{length-encode_with}
-use Rattle.script_lang.specs.Scripts.{is_passed}
-use Rattle.script_lang.specs.Words.{words_of, fill_text}
-use Rattle.simdisk.specs.declared.fill.Fill.{Fill}
-use Rattle.simdisk.specs.declared.fill.Fill.TheVariants.{Old, New, Byte, Alternating}
-use Rattle.script_lang.proofs.Numerals.{AreWords, words_of-join}
+use Rattle.std.{proofs.lemmas.{Bool.Decides.nat_tests, Fmt.length-decimal-le}, specs.{Fmt.decimal, List.join_with_byte}}
+use Rattle.hex.{specs.Hex.lower_digits, proofs.HexLemmas.length-encode_with}
+use Rattle.script_lang.{specs.{Scripts.is_passed, Words.{words_of, fill_text}}, proofs.Numerals.{AreWords, words_of-join}}
+use Rattle.simdisk.specs.declared.fill.Fill.{Fill, TheVariants.{Old, New, Byte, Alternating}}
 
 -- how long a text is at most
 abbrev pub long : List (List ℕ) → ℕ

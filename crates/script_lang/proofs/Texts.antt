@@ -1,12 +1,8 @@
 -- A script as its lines are written.
 use Rattle.std.proofs.Common.{◌≡◌, ◌∙◌, ℕ, List, [], ◌∷◌, ◌++◌, map, Option, refl, sym, ap, subst, append_assoc}
-use Rattle.std.specs.Io.KnownBytes.{Appends}
-use Rattle.std.specs.List.{join_with_byte}
-use Rattle.board_model.specs.Shapes.{Size}
-use Rattle.board_model.proofs.Written.{appended}
-use Rattle.script_lang.specs.Lines.{text_of}
-use Rattle.script_lang.specs.Spellings.{board_text, lines_text, script_text}
-use Rattle.script_lang.specs.declared.line.Line.{Line}
+use Rattle.std.specs.{Io.KnownBytes.Appends, List.join_with_byte}
+use Rattle.board_model.{specs.Shapes.Size, proofs.Written.appended}
+use Rattle.script_lang.specs.{Lines.text_of, Spellings.{board_text, lines_text, script_text}, declared.line.Line.Line}
 
 -- parts that are joined, with a line feed after the last
 joined : (first : List ℕ) (those : List Line) → join_with_byte 10 (first ∷ map text_of those) ++ 10 ∷ [] ≡ first ++ 10 ∷ lines_text those

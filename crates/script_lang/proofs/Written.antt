@@ -1,18 +1,13 @@
 -- A script is read from its text.
 use Rattle.std.proofs.Common.{◌≡◌, ℕ, ◌+◌, ◌-◌, ◌<◌, ◌≤◌, ◌==◌, true, false, List, [], ◌∷◌, ◌++◌, length, map, slice_index_or, Ok, All, ap, ◌∙◌, refl, arith, lit<}
-use Rattle.std.proofs.lemmas.Bool.Decides.{nat_tests}
-use Rattle.std.proofs.lemmas.List.Elements.{All-cons, All-head, All-nil, All-tail}
-use Rattle.std.specs.Fmt.{decimal}
+use Rattle.std.{proofs.lemmas.{Bool.Decides.nat_tests, List.Elements.{All-cons, All-head, All-nil, All-tail}}, specs.Fmt.decimal}
 use Rattle.std.specs.List.{join_with_byte}
 use Rattle.board_model.specs.Shapes.{Size, IsSize}
-use Rattle.script_lang.specs.Words.{words_of}
-use Rattle.script_lang.specs.Lines.{spelling_of, text_of, FitsLine, IsLineInRange}
+use Rattle.script_lang.specs.{Words.words_of, Lines.{spelling_of, text_of, FitsLine, IsLineInRange}, declared.line.Line.Line}
 use Rattle.script_lang.specs.Scripts.{Script, is_sound, is_passed, is_size, whole_lines, lines_of, board_of, said_of, rest_of, lines_from, script_of}
-use Rattle.script_lang.specs.Spellings.{board_text, script_text, IsWritable}
-use Rattle.script_lang.specs.declared.line.Line.{Line}
+use Rattle.script_lang.{specs.Spellings.{board_text, script_text, IsWritable}, proofs.Spelled.{SpellsLine-spelling, line_of-text}}
 use Rattle.script_lang.proofs.Numerals.{AreWords, AreFree, IsWord-free, slice_split-join, words_of-join, IsWord-decimal, number_of-decimal}
 use Rattle.script_lang.proofs.Spells.{short, text_short, text_not_passed, text_filled}
-use Rattle.script_lang.proofs.Spelled.{SpellsLine-spelling, line_of-text}
 use lib.Chars.{codes}
 
 abbrev IsNoFeed : ℕ → Type 0

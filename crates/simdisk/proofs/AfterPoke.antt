@@ -1,15 +1,11 @@
 -- What a crash leaves of a disk that was poked.
 use Rattle.std.proofs.Common.{◌≡◌, ◌∙◌, ◌↔◌, inl, inr, refl, ℕ, ◌+◌, ◌-◌, ◌<◌, ◌≤◌, List, [], ◌∷◌, ◌++◌, length, take, drop, map, replicate, sym, ap, subst, arith, length-drop}
-use Rattle.std.proofs.lemmas.List.{map-append, ext_get_or, length-replicate, take-replicate, drop-replicate}
-use Rattle.std.proofs.lemmas.Bool.{cases_eq}
+use Rattle.std.proofs.lemmas.{List.{map-append, ext_get_or, length-replicate, take-replicate, drop-replicate}, Bool.cases_eq}
 use Rattle.std.specs.List.{flat_map}
-use Rattle.disk.specs.Facts.{Content, sector}
-use Rattle.simdisk.specs.declared.fill.Fill.{Fill}
-use Rattle.simdisk.specs.declared.fill.Fill.TheVariants.{Byte, Alternating, Old, New}
-use Rattle.simdisk.specs.Views.{alternating, left_by_fill}
+use Rattle.disk.{specs.Facts.{Content, sector}, proofs.Pieces.ranges_filled}
 use Rattle.disk.specs.WriteLog.{Piece, WriteLog, laid_over, replay, synced, filled, ranges, Untouched, AgreesOutside, AreWithin}
+use Rattle.simdisk.specs.{declared.fill.Fill.{Fill, TheVariants.{Byte, Alternating, Old, New}}, Views.{alternating, left_by_fill}}
 use Rattle.simdisk.specs.Pokes.{part_before, part_behind, parted, poked_log}
-use Rattle.disk.proofs.Pieces.{ranges_filled}
 use Rattle.simdisk.proofs.Parted.{Outside, parted_out, parted_in, parted_by, long_before, untouched_by, parts_untouched, own_untouched}
 use Rattle.simdisk.proofs.PartedLaid.{long_poked, at_own, at_other, replay_parted}
 

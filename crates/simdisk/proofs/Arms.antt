@@ -1,10 +1,6 @@
 -- What is armed.
-use Rattle.std.proofs.Common.{◌≡◌, false, Option, None, Some, refl}
-use Rattle.std.specs.Prelude.{◌↔◌}
-use Rattle.std.specs.Option.{is_some}
-use Rattle.disk.specs.FaultState.{Unarmed}
-use Rattle.disk.specs.declared.device.ArmedFault.{ArmedFault}
-use Rattle.disk.specs.declared.device.ArmedFault.TheVariants.{FailAt, CutAt, FailLane, CutLane}
+use Rattle.std.{proofs.Common.{◌≡◌, false, Option, None, Some, refl}, specs.{Prelude.{◌↔◌}, Option.is_some}}
+use Rattle.disk.specs.{FaultState.Unarmed, declared.device.ArmedFault.{ArmedFault, TheVariants.{FailAt, CutAt, FailLane, CutLane}}}
 use Rattle.simdisk.specs.Armings.{arming}
 
 pub none_armed : (armed : Option ArmedFault) → (is_some armed ≡ false) ↔ (arming armed ≡ Unarmed)

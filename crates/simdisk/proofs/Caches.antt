@@ -1,19 +1,13 @@
 -- A cache over its device.
 use Rattle.std.proofs.Common.{◌≡◌, ◌⊎◌, ◌∙◌, inl, inr, ⊎_elim, refl, sym, ap, subst, zero, suc, ℕ, ◌+◌, ◌-◌, ◌<◌, ◌≤◌, List, [], ◌∷◌, ◌++◌, length, get_or, set, take, arith, Ok, Err}
-use Rattle.std.proofs.lemmas.Grind.{get_or-set_at}
-use Rattle.std.proofs.lemmas.List.{get_or-set_other, length-set, map-append, ext_get_or, take_more}
+use Rattle.std.proofs.lemmas.{Grind.get_or-set_at, List.{get_or-set_other, length-set, map-append, ext_get_or, take_more}}
 use Rattle.std.proofs.lemmas.Bool.{cases_lt, cases_eq}
-use Rattle.disk.specs.FaultState.{FaultState, Cause}
-use Rattle.disk.specs.Calls.{MakesCalls}
-use Rattle.disk.specs.Moments.{passes_then}
+use Rattle.disk.specs.{FaultState.{FaultState, Cause}, Calls.MakesCalls, Moments.passes_then}
 use Rattle.disk.specs.Facts.{Content, Facts, Passes, Torn, Written, AreSectorsAt, sector}
 use Rattle.disk.specs.WriteLog.{Piece, WriteLog, AreWithin, Untouched, laid_over, more_written, ranges, replay}
 use Rattle.disk.proofs.Pieces.{put_low, put_mid, put_high, replay_push, length_replay, replay_outside_same, fits_push, fits_here, fits_rest}
-use Rattle.simdisk.specs.Kept.{IsKept}
-use Rattle.simdisk.proofs.Kept.{agrees_then, kept_on, kept_more, untouched_more, written_laid}
-use Rattle.simdisk.specs.declared.waiting.Waiting.{Waiting}
-use Rattle.simdisk.specs.CacheLaws.{covered}
-use Rattle.simdisk.specs.Cached.{piece_of, pieces_of, shown, Waits, ButIn, IsCached, HandsOn, HandedOn}
+use Rattle.simdisk.{specs.{Kept.IsKept, CacheLaws.covered}, proofs.Kept.{agrees_then, kept_on, kept_more, untouched_more, written_laid}}
+use Rattle.simdisk.specs.{declared.waiting.Waiting.Waiting, Cached.{piece_of, pieces_of, shown, Waits, ButIn, IsCached, HandsOn, HandedOn}}
 
 waits_push : (ws : List Waiting) (w : Waiting) (k : ℕ) → Waits (ws ++ w ∷ []) k → Waits ws k ⊎ (w.number ≡ k)
 waits_push [] w k (inl here) = inr here

@@ -1,16 +1,12 @@
 -- What a call of the disk does, by the calls of its device.
 use Rattle.std.proofs.Common.{◌≡◌, ◌∙◌, refl, sym, ap, subst, ℕ, ◌+◌, ◌<◌, ◌≤◌, true, false, List, [], ◌∷◌, ◌++◌, length, get_or, arith, Result, Ok, Err, OnOk, OnErr}
-use Rattle.std.proofs.lemmas.Bool.Decides.{nat_tests}
-use Rattle.disk.specs.FaultState.{FaultState, Caused}
-use Rattle.std.specs.Prelude.{◌==◌}
-use Rattle.disk.specs.Calls.{MakesCalls}
+use Rattle.std.{proofs.lemmas.Bool.Decides.nat_tests, specs.Prelude.{◌==◌}}
+use Rattle.disk.specs.{FaultState.{FaultState, Caused}, Calls.MakesCalls}
 use Rattle.disk.specs.Facts.{Content, Facts, LaneFacts, Lent, Counts, IsFresh, Joined, Only, Passes, Stays, Torn, Written, counted, nothing, lent_sectors}
 use Rattle.disk.specs.WriteLog.{Piece, WriteLog, AgreesOutside, AreWithin, laid_over, lent_piece, more_written, more_synced, new_log, ranges, synced}
 use Rattle.simdisk.proofs.Kept.{agrees_none, counts_one, fresh_over, kept_on, laid_written, stays_over, sync_durable, sync_kept, sync_passes, tears_over, torn_more, torn_same}
-use Rattle.simdisk.proofs.Lanes.{join_kept, none_back, split_kept, split_passes}
-use Rattle.simdisk.specs.declared.waiting.Waiting.{Waiting}
-use Rattle.simdisk.specs.Cached.{piece_of, pieces_of, shown, facts_of, ButIn, IsCached, HandsOn}
-use Rattle.simdisk.specs.CacheLaws.{length_shown}
+use Rattle.simdisk.{proofs.Lanes.{join_kept, none_back, split_kept, split_passes}, specs.declared.waiting.Waiting.Waiting}
+use Rattle.simdisk.specs.{Cached.{piece_of, pieces_of, shown, facts_of, ButIn, IsCached, HandsOn}, CacheLaws.length_shown}
 use Rattle.simdisk.proofs.Caches.{but_covered, cached_on, cached_none, cached_more, cached_waits, shown_same, shown_push}
 
 pub length_nil : (ws : List Waiting) → length ws ≡ 0 → ws ≡ []

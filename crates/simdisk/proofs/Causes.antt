@@ -1,10 +1,7 @@
 -- Why a call of the disk failed, by what was armed.
 use Rattle.std.proofs.Common.{◌≡◌, ◌≤◌, ⊎_elim, inl, inr, refl, ℕ, List, Bool, true, false, ap, arith}
-use Rattle.disk.specs.declared.device.ArmedFault.{ArmedFault}
-use Rattle.disk.specs.Facts.{counted}
-use Rattle.disk.specs.FaultState.{Cause}
-use Rattle.simdisk.specs.declared.faults.Faults.{Faults}
-use Rattle.simdisk.specs.Armings.{Strikes, Waits, fault_state_by}
+use Rattle.disk.specs.{declared.device.ArmedFault.ArmedFault, Facts.counted, FaultState.Cause}
+use Rattle.simdisk.specs.{declared.faults.Faults.Faults, Armings.{Strikes, Waits, fault_state_by}}
 
 -- what was armed struck
 pub strikes_cause : (old new : Faults) (own : ℕ) (arms : List ArmedFault) → Strikes old new → Cause (fault_state_by old own arms) (fault_state_by new own arms)

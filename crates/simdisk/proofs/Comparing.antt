@@ -1,14 +1,8 @@
 -- Disks on which nothing was written since their last syncs, and which stand alike.
-use Rattle.std.proofs.Common.{◌≡◌, inl, inr, ℕ, List, [], ◌∷◌, All, length, arith}
-use Rattle.std.proofs.lemmas.List.Elements.{All-head, All-tail}
+use Rattle.std.proofs.{Common.{◌≡◌, inl, inr, ℕ, List, [], ◌∷◌, All, length, arith}, lemmas.List.Elements.{All-head, All-tail}}
 use Rattle.std.proofs.lemmas.Bool.{cases_lt}
-use Rattle.disk.specs.Facts.{Content}
-use Rattle.disk.specs.WriteLog.{ranges, Untouched, AgreesOutside, AreWithin}
-use Rattle.disk.proofs.Ranges.{agrees_all}
-use Rattle.simdisk.specs.Views.{left_by_fill, pieces}
-use Rattle.simdisk.specs.declared.fill.Fill.{Fill}
-use Rattle.simdisk.specs.declared.patch.Patch.{Patch}
-use Rattle.simdisk.proofs.Notes.{left_agrees}
+use Rattle.disk.{specs.{Facts.Content, WriteLog.{ranges, Untouched, AgreesOutside, AreWithin}}, proofs.Ranges.agrees_all}
+use Rattle.simdisk.{specs.{Views.{left_by_fill, pieces}, declared.{fill.Fill.Fill, patch.Patch.Patch}}, proofs.Notes.left_agrees}
 
 abbrev is_empty : Patch → Type 0
 is_empty p = p.count ≡ 0

@@ -1,9 +1,7 @@
 -- What a disk of the same content and the same log has.
 use Rattle.std.proofs.Common.{◌≡◌, ℕ, ◌∙◌, Bool, if◌then◌else◌, refl, sym, ap, subst}
-use Rattle.disk.specs.Facts.{Content, Facts, Lent, Unchanged}
-use Rattle.disk.specs.WriteLog.{WriteLog, sim_facts, synced}
-use Rattle.simdisk.specs.declared.latest.Latest.{Latest}
-use Rattle.simdisk.specs.Latest.{latest_of}
+use Rattle.disk.specs.{Facts.{Content, Facts, Lent, Unchanged}, WriteLog.{WriteLog, sim_facts, synced}}
+use Rattle.simdisk.specs.{declared.latest.Latest.Latest, Latest.latest_of}
 
 is_unchanged : (f : Facts) → Unchanged f f
 is_unchanged f = record {

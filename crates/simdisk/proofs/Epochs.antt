@@ -1,13 +1,7 @@
 -- What was written since the last sync, beside what stood at it.
 use Rattle.std.proofs.Common.{◌≡◌, ◌∙◌, ℕ, Bool, false, if◌then◌else◌, List, length, ap, sym, subst}
-use Rattle.disk.specs.Facts.{Content}
-use Rattle.simdisk.specs.declared.history.History.{History}
-use Rattle.simdisk.specs.declared.patch.Patch.{Patch}
-use Rattle.simdisk.specs.History.{log_of, Stands}
-use Rattle.simdisk.specs.Latest.{HasPlace}
-use Rattle.disk.specs.WriteLog.{synced, newest, ranges, replay, AreWithin}
-use Rattle.simdisk.specs.Views.{pieces}
-use Rattle.disk.proofs.Pieces.{length_replay}
+use Rattle.disk.{specs.{Facts.Content, WriteLog.{synced, newest, ranges, replay, AreWithin}}, proofs.Pieces.length_replay}
+use Rattle.simdisk.specs.{declared.{history.History.History, patch.Patch.Patch}, History.{log_of, Stands}, Latest.HasPlace, Views.pieces}
 
 -- it fits what stood then
 pub fits_synced : (h : History) → AreWithin (length (synced (log_of h))) (ranges (pieces h.written.items))

@@ -1,15 +1,11 @@
 -- A device, a log of it, and the facts of the disk over both.
 use Rattle.std.proofs.Common.{◌≡◌, ◌⊎◌, ◌∙◌, inl, inr, ⊎_elim, refl, sym, ap, subst, zero, suc, ℕ, ◌+◌, ◌-◌, ◌*◌, ◌<◌, ◌≤◌, List, [], ◌∷◌, ◌++◌, length, drop, map, arith, length-drop, Result, Ok, Err}
-use Rattle.std.proofs.Math.Nat.{zero-mul}
-use Rattle.std.proofs.lemmas.List.{map-append, ext_get_or, length-take-le}
-use Rattle.std.proofs.lemmas.Bool.{cases_lt}
-use Rattle.disk.specs.FaultState.{FaultState}
-use Rattle.disk.specs.Calls.{CountsCalls, MakesCalls}
+use Rattle.std.proofs.{Math.Nat.zero-mul, lemmas.{List.{map-append, ext_get_or, length-take-le}, Bool.cases_lt}}
+use Rattle.disk.{specs.{FaultState.FaultState, Calls.{CountsCalls, MakesCalls}}, proofs.Stretches.{passes_range, passes_sync}}
 use Rattle.disk.specs.Facts.{Content, Facts, Lent, IsFresh, LeavesAfter, Only, Passes, Stays, Torn, Written, counted, sector, lent_sectors}
 use Rattle.disk.specs.WriteLog.{Piece, WriteLog, AgreesOutside, AreWithin, Untouched, laid_over, lent_piece, more_written, more_synced, new_log, piece_in, range, ranges, sim_facts, synced}
 use Rattle.disk.proofs.Pieces.{length-put, put_low, put_mid, put_high, synced_push, replay_copied, fits_push}
 use Rattle.disk.proofs.Ranges.{agrees_all, agrees_push, durable, untouched_push}
-use Rattle.disk.proofs.Stretches.{passes_range, passes_sync}
 use Rattle.simdisk.specs.Kept.{IsKept, facts_over}
 
 -- ---- contents

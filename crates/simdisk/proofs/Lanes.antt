@@ -1,12 +1,9 @@
 -- What a split and a join do to a device, to its log, and to the facts of the disk over both.
 use Rattle.std.proofs.Common.{◌≡◌, ◌⊎◌, ◌∙◌, inl, inr, ⊎_elim, sym, ap, subst, ℕ, ◌+◌, ◌*◌, ◌<◌, ◌≤◌, List, [], length, arith}
-use Rattle.std.proofs.Math.Nat.{zero-mul}
-use Rattle.std.proofs.lemmas.List.{ext_get_or}
-use Rattle.std.proofs.lemmas.Bool.{cases_lt}
+use Rattle.std.proofs.{Math.Nat.zero-mul, lemmas.{List.ext_get_or, Bool.cases_lt}}
 use Rattle.disk.specs.Facts.{Content, Facts, LaneFacts, Lent, Joined, Passes, Stays, Torn, nothing, sector, lent_sectors}
 use Rattle.disk.specs.WriteLog.{WriteLog, AgreesOutside, AreWithin, Untouched, lent_piece, more_written, ranges, synced}
-use Rattle.simdisk.specs.Kept.{IsKept, facts_over}
-use Rattle.simdisk.proofs.Kept.{kept_more, untouched_more, range_lent, tears_over}
+use Rattle.simdisk.{specs.Kept.{IsKept, facts_over}, proofs.Kept.{kept_more, untouched_more, range_lent, tears_over}}
 
 -- what was lent counts as written
 module _ (log log' : WriteLog) (a b : Facts) (l : Lent) (kept : IsKept log a) (lent : b.lent ≡ l) (within : l.first + lent_sectors l ≤ length a.content) (same : b.content ≡ a.content) (more : log' ≡ more_written (lent_piece b.lent b.content) log) where

@@ -1,18 +1,13 @@
 -- What a piece more in the write log leaves of what a disk in memory keeps.
 use Rattle.std.proofs.Common.{◌≡◌, ◌⊎◌, inl, inr, ⊎_elim, refl, ◌∙◌, ℕ, take, drop, subst, length-drop, ◌+◌, ◌*◌, ◌<◌, ◌≤◌, List, [], ◌∷◌, ◌++◌, length, get_or, map, replicate, set, sym, ap, arith, length-append}
-use Rattle.std.proofs.Math.ListN.{get_or-map}
-use Rattle.std.proofs.Math.Nat.{zero-mul}
+use Rattle.std.proofs.{Math.{ListN.get_or-map, Nat.zero-mul}, lemmas.Bool.cases_lt}
 use Rattle.std.proofs.lemmas.List.{map-append, map-set, set-get_or, get_or_append_left, get_or_push, length-take-le}
-use Rattle.std.proofs.lemmas.Bool.{cases_lt}
 use Rattle.disk.specs.Facts.{Content, Lent, Torn, Apart, IsFresh, nothing, sector}
-use Rattle.simdisk.specs.declared.patch.Patch.{Patch}
 use Rattle.disk.specs.WriteLog.{Piece, WriteLog, laid_over, newest, synced, range, ranges, more_written, more_synced, lent_piece, new_log, replay, filled, sim_facts, Untouched, AgreesOutside, AreWithin}
-use Rattle.simdisk.specs.Views.{piece, pieces, alternating, left_by_fill, Noted, IsLatest}
-use Rattle.simdisk.specs.declared.fill.Fill.{Fill}
-use Rattle.simdisk.specs.declared.fill.Fill.TheVariants.{Byte, Alternating, Old, New}
 use Rattle.disk.proofs.Pieces.{agrees_replay, ranges_filled, replay_push, put_same}
 use Rattle.disk.proofs.Ranges.{durable, agrees_all, untouched_at, agrees_torn}
-use Rattle.simdisk.proofs.Walks.{read_piece}
+use Rattle.simdisk.specs.{declared.{patch.Patch.Patch, fill.Fill.Fill}, Views.{piece, pieces, alternating, left_by_fill, Noted, IsLatest}}
+use Rattle.simdisk.{specs.declared.fill.Fill.TheVariants.{Byte, Alternating, Old, New}, proofs.Walks.read_piece}
 
 pub ranges_written : (r r' : WriteLog) (p : Piece) → r' ≡ more_written p r → ranges r'.written ≡ ranges r.written ++ range p ∷ []
 ranges_written r r' p more = ap (λ (q : WriteLog). ranges q.written) more ∙ map-append range r.written (p ∷ [])

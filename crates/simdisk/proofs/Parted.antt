@@ -1,15 +1,10 @@
 -- Pieces without a sector.
 use Rattle.std.proofs.Common.{◌≡◌, ◌⊎◌, ◌∙◌, ◌||◌, inl, inr, zero, suc, ℕ, ◌+◌, ◌-◌, ◌<◌, ◌≤◌, Bool, nat_lt, nat_le, List, [], ◌∷◌, ◌++◌, length, take, drop, get_or, sym, ap, subst, arith, length-drop}
-use Rattle.std.proofs.Math.Bool.{true-or, false-or, or-true}
-use Rattle.std.proofs.lemmas.List.{length-take-le, length-map, take_more, flat_map_more}
-use Rattle.std.proofs.lemmas.Bool.{cases_lt, cond-true, cond-false, lt-ltb, le-ltb, le-leb, lt-leb}
-use Rattle.std.specs.List.{flat_map}
-use Rattle.simdisk.specs.declared.patch.Patch.{Patch}
-use Rattle.simdisk.specs.Views.{piece, pieces}
-use Rattle.disk.specs.WriteLog.{Piece, ranges, Untouched, AreWithin}
-use Rattle.simdisk.specs.Pokes.{misses, part_before, part_behind, parted}
-use Rattle.disk.proofs.Pieces.{fits_here, fits_rest}
+use Rattle.std.proofs.{Math.Bool.{true-or, false-or, or-true}, lemmas.List.{length-take-le, length-map, take_more, flat_map_more}}
+use Rattle.std.{proofs.lemmas.Bool.{cases_lt, cond-true, cond-false, lt-ltb, le-ltb, le-leb, lt-leb}, specs.List.flat_map}
+use Rattle.simdisk.specs.{declared.patch.Patch.Patch, Views.{piece, pieces}, Pokes.{misses, part_before, part_behind, parted}}
 use Rattle.simdisk.proofs.Walks.{read_piece}
+use Rattle.disk.{specs.WriteLog.{Piece, ranges, Untouched, AreWithin}, proofs.Pieces.{fits_here, fits_rest}}
 
 -- the sector is not in the piece
 abbrev pub Outside : ℕ → Piece → Type 0

@@ -1,12 +1,9 @@
 -- Pieces without a sector, laid over a content with that sector put.
 use Rattle.std.proofs.Common.{◌≡◌, ◌∙◌, inl, inr, refl, ℕ, ◌+◌, ◌-◌, ◌<◌, ◌≤◌, List, [], ◌∷◌, ◌++◌, length, take, drop, sym, ap, subst, arith}
-use Rattle.std.proofs.lemmas.List.{ext_get_or, get_or-take, get_or-drop}
-use Rattle.std.proofs.lemmas.Bool.{cases_lt, cases_eq}
-use Rattle.std.specs.List.{flat_map}
-use Rattle.disk.specs.Facts.{Content, sector}
-use Rattle.disk.specs.WriteLog.{Piece, laid_over, replay, ranges, AreWithin}
-use Rattle.simdisk.specs.Pokes.{part_before, part_behind, parted}
+use Rattle.std.{proofs.lemmas.{List.{ext_get_or, get_or-take, get_or-drop}, Bool.{cases_lt, cases_eq}}, specs.List.flat_map}
+use Rattle.disk.specs.{Facts.{Content, sector}, WriteLog.{Piece, laid_over, replay, ranges, AreWithin}}
 use Rattle.disk.proofs.Pieces.{length-put, put_low, put_mid, put_high, fits_here, fits_rest}
+use Rattle.simdisk.specs.Pokes.{part_before, part_behind, parted}
 use Rattle.simdisk.proofs.Parted.{Outside, where_is, parted_by, long_before, long_behind, out_before, out_behind, own_before, own_behind}
 
 put_out : (p : Piece) (c : Content) (j : ℕ) → p.0 + length p.1 ≤ length c → Outside j p → sector (laid_over p c) j ≡ sector c j

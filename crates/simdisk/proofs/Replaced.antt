@@ -1,13 +1,10 @@
 -- A piece of the write log with other bytes.
 use Rattle.std.proofs.Common.{◌≡◌, ◌⊎◌, ◌∙◌, inl, inr, ⊎_elim, zero, suc, ℕ, ◌+◌, ◌-◌, ◌<◌, ◌≤◌, List, [], ◌∷◌, length, get_or, set, take, drop, sym, ap, subst, arith, rules, length-drop}
-use Rattle.std.proofs.lemmas.Bool.{cases_lt}
-use Rattle.std.proofs.lemmas.List.{places, map-set, set-get_or, length-map, length-take-le, ext_get_or}
+use Rattle.std.proofs.lemmas.{Bool.cases_lt, List.{places, map-set, set-get_or, length-map, length-take-le, ext_get_or}}
 use Rattle.disk.specs.Facts.{Content, Torn, sector}
 use Rattle.disk.specs.WriteLog.{Piece, laid_over, replay, piece_in, range, ranges, Untouched, AreWithin, range_at}
-use Rattle.simdisk.specs.Views.{IsLatest, piece, pieces}
-use Rattle.simdisk.specs.declared.patch.Patch.{Patch}
-use Rattle.simdisk.proofs.Walks.{range_read}
 use Rattle.disk.proofs.Pieces.{length-put, put_low, put_mid, put_high, fits_here, fits_rest, length_replay, length-copied, replay_outside, replay_outside_same}
+use Rattle.simdisk.{specs.{Views.{IsLatest, piece, pieces}, declared.patch.Patch.Patch}, proofs.Walks.range_read}
 
 replay_same : (ps : List Piece) (c d : Content) (k : ℕ) → length d ≡ length c → AreWithin (length c) (ranges ps) → sector d k ≡ sector c k → sector (replay ps d) k ≡ sector (replay ps c) k
 replay_same ps c d k long fits same = replay_outside_same ps c d k long fits (λ u. same)

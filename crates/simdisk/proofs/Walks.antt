@@ -1,11 +1,8 @@
 -- Loops over patches, as functions of the pieces that they are.
 use Rattle.std.proofs.Common.{◌≡◌, ◌∙◌, ℕ, ◌+◌, ◌<◌, ◌≤◌, zero, suc, List, [], ◌∷◌, length, get_or, drop, map, sym, ap, subst, arith}
-use Rattle.std.proofs.Math.ListN.{get_or-map}
-use Rattle.std.proofs.lemmas.List.{drop_more, length-map}
-use Rattle.disk.specs.Facts.{Content}
-use Rattle.simdisk.specs.declared.patch.Patch.{Patch}
-use Rattle.disk.specs.WriteLog.{Piece, laid_over, replay, range, ranges, range_at, AreWithin}
-use Rattle.simdisk.specs.Views.{piece, pieces}
+use Rattle.std.proofs.{Math.ListN.get_or-map, lemmas.List.{drop_more, length-map}}
+use Rattle.disk.specs.{Facts.Content, WriteLog.{Piece, laid_over, replay, range, ranges, range_at, AreWithin}}
+use Rattle.simdisk.specs.{declared.patch.Patch.Patch, Views.{piece, pieces}}
 
 -- what was read at that place, as a piece
 pub read_piece : (patches : List Patch) (i : ℕ) (x : Patch) → i < length patches → x ≡ get_or patches i x → (d : Piece) → get_or (pieces patches) i d ≡ piece x

@@ -1,9 +1,8 @@
 -- A set that is closed within a number of switches speaks of each state that events within it lead to.
 use Rattle.std.proofs.Common.{◌≡◌, ⊎_elim, inl, inr, ℕ, zero, suc, ◌+◌, ◌-◌, ◌<◌, ◌≤◌, List, [], ◌∷◌, ◌++◌, Option, Some, None, length, refl, sym, ap, ◌∙◌, subst, arith, length-append}
 use Rattle.std.proofs.lemmas.Bool.{cases_eq}
-use Rattle.state_space.specs.Orders.{Leads, Only, Chain, Reduction, CanEnd}
+use Rattle.state_space.{specs.Orders.{Leads, Only, Chain, Reduction, CanEnd}, proofs.AllOrders.{leads_by, leads_on}}
 use Rattle.state_space.specs.Bounded.{Budget, Turns, Waits, IsFree, Pays, Within, Richer, Switching, IsClosedWithin, MeetsWithin}
-use Rattle.state_space.proofs.AllOrders.{leads_by, leads_on}
 
 -- One step more: a turn of the process that made the last one, or an event that is paid.
 pub data Step (Event : Type 0) : Type 0 where

@@ -1,20 +1,12 @@
 -- What was found by a system beside the one that is searched is carried over, and entered.
 use Rattle.std.proofs.Common.{◌≡◌, ⊎_elim, ℕ, ◌+◌, ◌<◌, Bool, true, false, if◌then◌else◌, List, [], ◌∷◌, ◌++◌, length, get_or, refl, sym, ap, subst, ◌∙◌, arith, length-append}
-use Rattle.std.specs.Prelude.{All, ◌↔◌, ◌≢◌, slice_index, slice_set}
-use Rattle.std.proofs.lemmas.Bool.{cases_lt}
+use Rattle.std.{specs.Prelude.{All, ◌↔◌, ◌≢◌, slice_index, slice_set}, proofs.lemmas.Bool.cases_lt}
 use Rattle.std.proofs.lemmas.List.Elements.{All-push, All-same, All-set}
-use Rattle.state_space.specs.declared.found.Successors.{Successors}
-use Rattle.state_space.specs.declared.graph.Graph.{Graph}
-use Rattle.state_space.specs.declared.workers.Made.{Made}
-use Rattle.state_space.specs.declared.workers.Worker.{Worker}
-use Rattle.state_space.specs.Carried.{AreMade, AreTargets, IsCarried, IsLater, IsMade, IsPushed, IsTarget, NOWHERE}
-use Rattle.state_space.specs.Graphs.{count_of, expanded_of, row_at, IsAdded, IsSearched, IsWhole}
-use Rattle.state_space.specs.Numbered.{row_width}
-use Rattle.state_space.specs.Successors.{found_count, found_event, found_row, found_width}
-use Rattle.state_space.specs.Systems.{Rules, Moves, IsExpanded, Stay}
-use Rattle.state_space.proofs.Growth.{earlier_one, last_one}
-use Rattle.state_space.proofs.Grown.{expanded_moved, searched_grown}
-use Rattle.state_space.proofs.Priced.{stays_on}
+use Rattle.state_space.specs.declared.{found.Successors.Successors, graph.Graph.Graph, workers.{Made.Made, Worker.Worker}}
+use Rattle.state_space.specs.{Carried.{AreMade, AreTargets, IsCarried, IsLater, IsMade, IsPushed, IsTarget, NOWHERE}, Numbered.row_width}
+use Rattle.state_space.{specs.Graphs.{count_of, expanded_of, row_at, IsAdded, IsSearched, IsWhole}, proofs.Growth.{earlier_one, last_one}}
+use Rattle.state_space.specs.{Successors.{found_count, found_event, found_row, found_width}, Systems.{Rules, Moves, IsExpanded, Stay}}
+use Rattle.state_space.proofs.{Grown.{expanded_moved, searched_grown}, Priced.stays_on}
 
 pub stays_same : {State : Type 0} (a : List ℕ → State → Type 0) → Stay a a
 stays_same a r b c has = (λ x. x, λ x. x)

@@ -1,14 +1,10 @@
 -- Rows that reach a goal, and rows that reach none.
 use Rattle.std.proofs.Common.{◌≡◌, ⊎_elim, ℕ, ◌+◌, ◌<◌, ◌≤◌, Bool, true, false, ◌||◌, List, [], ◌∷◌, ◌++◌, length, get_or, refl, sym, ap, subst, ◌∙◌, arith, length-append}
-use Rattle.std.proofs.Math.ListN.{set, replicate, length-replicate}
-use Rattle.std.proofs.lemmas.Bool.{cases_eq, cases_lt, cases_Bool, true≢false}
+use Rattle.std.proofs.{Math.ListN.{set, replicate, length-replicate}, lemmas.Bool.{cases_eq, cases_lt, cases_Bool, true≢false}}
 use Rattle.std.proofs.lemmas.List.{get_or-set_other, get_or-replicate, get_or_past}
-use Rattle.state_space.specs.declared.graph.Graph.{Graph}
-use Rattle.state_space.specs.Orders.{Runs, Only}
+use Rattle.state_space.specs.{declared.graph.Graph.Graph, Orders.{Runs, Only}, Deads.{IsMarked, Reaches, AreReaching, IsStuck, AreStuck}}
 use Rattle.state_space.specs.Graphs.{count_of, expanded_of, first_step, end_step, target_of, event_of, StepOf, IsWhole}
-use Rattle.state_space.specs.Deads.{IsMarked, Reaches, AreReaching, IsStuck, AreStuck}
-use Rattle.state_space.proofs.AllOrders.{leads_by}
-use Rattle.state_space.proofs.Growth.{earlier_one, last_one}
+use Rattle.state_space.proofs.{AllOrders.leads_by, Growth.{earlier_one, last_one}}
 
 pub reaches_goal : (goes : ℕ → Type 0) (graph : Graph) (goals : List Bool) (row : ℕ) → get_or goals row false ≡ true → Reaches goes graph goals row
 reaches_goal goes graph goals row goal = (row, ([], refl), goal)

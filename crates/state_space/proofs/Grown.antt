@@ -1,12 +1,8 @@
 -- What a search found, with one row more that is expanded.
 use Rattle.std.proofs.Common.{◌≡◌, ⊎_elim, ℕ, ◌+◌, ◌-◌, ◌<◌, ◌≤◌, Bool, true, false, List, length, get_or, refl, sym, ap, subst, ◌∙◌, arith}
-use Rattle.std.proofs.lemmas.Bool.{cases_lt, false≢true}
-use Rattle.std.specs.Prelude.{◌↔◌}
-use Rattle.state_space.specs.declared.found.Successors.{Successors}
-use Rattle.state_space.specs.declared.graph.Graph.{Graph}
-use Rattle.state_space.specs.declared.systems.Expansion.{Expansion}
-use Rattle.state_space.specs.declared.systems.Expansion.TheVariants.{Goes, Ends}
-use Rattle.state_space.specs.Successors.{found_count, found_event, found_row}
+use Rattle.std.{proofs.lemmas.Bool.{cases_lt, false≢true}, specs.Prelude.{◌↔◌}}
+use Rattle.state_space.specs.declared.{found.Successors.Successors, graph.Graph.Graph, systems.Expansion.Expansion}
+use Rattle.state_space.specs.{declared.systems.Expansion.TheVariants.{Goes, Ends}, Successors.{found_count, found_event, found_row}}
 use Rattle.state_space.specs.Systems.{Rules, Moves, IsExpanded, Says, Stay, UnlessHalts}
 use Rattle.state_space.specs.Graphs.{count_of, expanded_of, row_at, first_step, end_step, target_of, event_of, StepOf, IsEnd, IsWhole, IsAdded, IsSearched}
 

@@ -1,14 +1,9 @@
 -- A graph that grows by one step after another.
 use Rattle.std.proofs.Common.{◌≡◌, ⊎_elim, ℕ, ◌+◌, ◌-◌, ◌<◌, ◌≤◌, Bool, false, List, [], ◌∷◌, ◌++◌, length, get_or, refl, sym, ap, subst, ◌∙◌, arith, length-append, add-one}
-use Rattle.std.proofs.lemmas.Bool.{cases_lt}
-use Rattle.std.proofs.lemmas.List.{get_or_append_left, get_or-append_right}
-use Rattle.state_space.specs.declared.found.Successors.{Successors}
-use Rattle.state_space.specs.declared.graph.Graph.{Graph}
-use Rattle.state_space.specs.Begins.{begin_of}
-use Rattle.state_space.specs.Numbered.{row_count, row_of, row_width}
-use Rattle.state_space.specs.Successors.{found_count, found_event, found_row}
+use Rattle.std.proofs.lemmas.{Bool.cases_lt, List.{get_or_append_left, get_or-append_right}}
+use Rattle.state_space.specs.{declared.{found.Successors.Successors, graph.Graph.Graph}, Begins.begin_of, Growing.{IsStepAdded, IsGrowing}}
+use Rattle.state_space.specs.{Numbered.{row_count, row_of, row_width}, Successors.{found_count, found_event, found_row}}
 use Rattle.state_space.specs.Graphs.{count_of, expanded_of, row_at, first_step, end_step, target_of, event_of, IsWhole, IsAdded}
-use Rattle.state_space.specs.Growing.{IsStepAdded, IsGrowing}
 use Rattle.state_space.proofs.Parts.{begin_stays}
 
 -- an element of a list with one more at the end

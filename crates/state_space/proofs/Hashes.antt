@@ -1,7 +1,6 @@
 -- A hash is made word by word.
 use Rattle.std.proofs.Common.{◌≡◌, ℕ, ◌+◌, ◌<◌, ◌≤◌, List, ◌∷◌, length, drop, get_or, refl, sym, ap, add-one, drop-cons}
-use Rattle.std.proofs.lemmas.List.{drop_all}
-use Rattle.std.specs.Prelude.{bit_xor}
+use Rattle.std.{proofs.lemmas.List.drop_all, specs.Prelude.bit_xor}
 use Rattle.state_space.specs.Hash.{mixed, hash_from}
 
 pub hash_more : (words : List ℕ) (i hash : ℕ) → i < length words → hash_from (mixed (bit_xor hash (get_or words i 0))) (drop (i + 1) words) ≡ hash_from hash (drop i words)

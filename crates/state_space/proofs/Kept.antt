@@ -1,9 +1,6 @@
 -- Entries that are pairwise distinct stay so.
-use Rattle.std.proofs.Common.{◌≡◌, ⊎_elim, ℕ, ◌+◌, ◌<◌, List, sym, ap, subst, ◌∙◌, arith}
-use Rattle.std.proofs.Math.ListN.{set}
-use Rattle.std.proofs.lemmas.Bool.{cases_lt}
-use Rattle.state_space.specs.Tables.{EMPTY, number_at, IsHeld, IsFree}
-use Rattle.state_space.specs.Pools.{AreDistinct, AreKept, Stay}
+use Rattle.std.proofs.{Common.{◌≡◌, ⊎_elim, ℕ, ◌+◌, ◌<◌, List, sym, ap, subst, ◌∙◌, arith}, Math.ListN.set, lemmas.Bool.cases_lt}
+use Rattle.state_space.specs.{Tables.{EMPTY, number_at, IsHeld, IsFree}, Pools.{AreDistinct, AreKept, Stay}}
 use Rattle.state_space.proofs.Slots.{table_grown, table_same}
 
 module _ {T : Type 0} (old new : ℕ → List T) (count : ℕ) (stay : Stay old count new) where

@@ -1,8 +1,6 @@
 -- Successors that can be paid, one by one.
-use Rattle.std.proofs.Common.{◌≡◌, ⊎_elim, ℕ, ◌+◌, ◌<◌, ◌≤◌, List, sym, subst, ◌∙◌, arith}
-use Rattle.std.proofs.lemmas.Bool.{cases_lt}
-use Rattle.state_space.specs.Listed.{ListsOne, ListsAll, ListsNext}
-use Rattle.state_space.specs.Successors.{found_count, found_event, found_row}
+use Rattle.std.proofs.{Common.{◌≡◌, ⊎_elim, ℕ, ◌+◌, ◌<◌, ◌≤◌, List, sym, subst, ◌∙◌, arith}, lemmas.Bool.cases_lt}
+use Rattle.state_space.specs.{Listed.{ListsOne, ListsAll, ListsNext}, Successors.{found_count, found_event, found_row}}
 use Rattle.state_space.specs.declared.found.Successors.{Successors}
 
 module _ {Left : Type 0} (priced : ℕ → Left → Type 0) (with_left : Left → List ℕ → List ℕ) (inner : Successors) where

@@ -1,8 +1,6 @@
 -- Parts of a list, end to end.
 use Rattle.std.proofs.Common.{◌≡◌, ℕ, zero, suc, ◌+◌, ◌-◌, ◌*◌, ◌<◌, ◌≤◌, List, [], ◌∷◌, ◌++◌, length, take, drop, get_or, refl, sym, ap, ◌∙◌, arith, length-drop}
-use Rattle.std.proofs.lemmas.List.{take-append-le, drop-append-le, take_all, drop_at, get_or_append_left}
-use Rattle.std.proofs.lemmas.Nat.{mul-le}
-use Rattle.std.proofs.Math.Nat.{suc-mul}
+use Rattle.std.proofs.{lemmas.{List.{take-append-le, drop-append-le, take_all, drop_at, get_or_append_left}, Nat.mul-le}, Math.Nat.suc-mul}
 use Rattle.std.specs.List.{slice_range}
 use Rattle.state_space.specs.Begins.{begin_of}
 

@@ -1,15 +1,10 @@
 -- What a successor costs, and rows with what is left.
 use Rattle.std.proofs.Common.{◌≡◌, ◌⊎◌, ⊎_elim, inl, inr, ℕ, ◌+◌, ◌≤◌, Bool, true, false, List, Option, Some, None, refl, sym, ap, ◌∙◌, subst, arith}
-use Rattle.std.specs.Prelude.{◌-◌, drop, take, length}
-use Rattle.std.proofs.lemmas.List.{take_all}
-use Rattle.std.proofs.lemmas.Bool.{cases_eq}
-use Rattle.state_space.specs.Bounded.{Budget, IsFreeBy, PaysBy, Richer}
-use Rattle.state_space.specs.Successors.{found_count, found_event, found_row}
+use Rattle.std.{specs.Prelude.{◌-◌, drop, take, length}, proofs.lemmas.{List.take_all, Bool.cases_eq}}
+use Rattle.state_space.specs.{Bounded.{Budget, IsFreeBy, PaysBy, Richer}, Successors.{found_count, found_event, found_row}}
 use Rattle.state_space.specs.Switched.{within_rules, last_number, row_within, StandsWithin, IsPriced, IsSaid, AreListed}
-use Rattle.state_space.specs.Systems.{Rules, IsExpanded, Stay, UnlessHalts}
-use Rattle.state_space.specs.declared.systems.Expansion.{Expansion}
-use Rattle.state_space.specs.declared.systems.Expansion.TheVariants.{Goes, Ends, Halts}
-use Rattle.state_space.specs.declared.found.Successors.{Successors}
+use Rattle.state_space.specs.{Systems.{Rules, IsExpanded, Stay, UnlessHalts}, declared.systems.Expansion.Expansion}
+use Rattle.state_space.specs.declared.{systems.Expansion.TheVariants.{Goes, Ends, Halts}, found.Successors.Successors}
 
 -- ---- one number stands for one process
 last_one : (a b : Option ℕ) → last_number a ≡ last_number b → a ≡ b

@@ -1,10 +1,7 @@
 -- What a write to a free slot leaves of a table, and what a search of it shows.
 use Rattle.std.proofs.Common.{◌≡◌, ◌⊎◌, ⊎_elim, ℕ, zero, suc, ◌+◌, ◌-◌, ◌<◌, ◌≤◌, List, length, get_or, refl, sym, ap, subst, ◌∙◌, arith, add-one}
-use Rattle.std.proofs.Math.ListN.{set, length-set, replicate, length-replicate}
-use Rattle.std.proofs.lemmas.List.{get_or-set_same, get_or-set_other, get_or-replicate}
-use Rattle.std.proofs.lemmas.Nat.{and_le_r}
-use Rattle.std.proofs.lemmas.Bool.{cases_eq, cases_lt, cases_order}
-use Rattle.std.specs.Prelude.{bit_and}
+use Rattle.std.{proofs.{Math.ListN.{set, length-set, replicate, length-replicate}, lemmas.Nat.and_le_r}, specs.Prelude.bit_and}
+use Rattle.std.proofs.lemmas.{List.{get_or-set_same, get_or-set_other, get_or-replicate}, Bool.{cases_eq, cases_lt, cases_order}}
 use Rattle.state_space.specs.Tables.{EMPTY, slot_at, number_at, AreTaken, IsHeld, IsFree, AreBelow, IsTable}
 
 pub slot_within : (mask hash n : ℕ) → slot_at mask hash n ≤ mask

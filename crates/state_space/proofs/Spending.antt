@@ -1,12 +1,9 @@
 -- Rows with how many events are left, and every order within such a number.
 use Rattle.std.proofs.Common.{◌≡◌, ⊎_elim, inl, inr, ℕ, zero, suc, ◌-◌, ◌≤◌, Bool, true, false, List, [], ◌∷◌, refl, sym, ap, ◌∙◌, subst, arith}
-use Rattle.std.specs.Prelude.{drop, take, length}
-use Rattle.std.proofs.lemmas.List.{take_all}
+use Rattle.std.{specs.Prelude.{drop, take, length}, proofs.lemmas.List.take_all}
 use Rattle.state_space.specs.Counted.{Counted, DoesCounted, LocalCounted, Spends, AreCounted, StandsCounted, counted_rules, how_many, one_more_if, row_counted}
-use Rattle.state_space.specs.Orders.{Runs, Chain, Reduction}
-use Rattle.state_space.specs.Successors.{found_count, found_event, found_row}
-use Rattle.state_space.specs.Systems.{Rules, IsExpanded, Stay}
-use Rattle.state_space.specs.declared.found.Successors.{Successors}
+use Rattle.state_space.specs.{Orders.{Runs, Chain, Reduction}, Successors.{found_count, found_event, found_row}}
+use Rattle.state_space.specs.{Systems.{Rules, IsExpanded, Stay}, declared.found.Successors.Successors}
 
 -- ---- what is left
 pub one_left : (counts : Bool) (left u v : ℕ) → Spends counts left u → Spends counts left v → v ≡ u

@@ -1,13 +1,9 @@
 -- What a graph that is all expanded tells of the states.
 use Rattle.std.proofs.Common.{◌≡◌, ⊎_elim, ℕ, zero, suc, ◌+◌, ◌-◌, ◌<◌, List, [], ◌∷◌, map, refl, sym, ap, subst, ◌∙◌, arith}
 use Rattle.std.proofs.lemmas.Bool.{cases_lt}
-use Rattle.state_space.specs.declared.graph.Graph.{Graph}
-use Rattle.state_space.specs.Orders.{Runs, Leads, Only, Chain, IsClosed, CanEnd}
-use Rattle.state_space.specs.Systems.{Rules, Moves}
+use Rattle.state_space.specs.{declared.graph.Graph.Graph, Orders.{Runs, Leads, Only, Chain, IsClosed, CanEnd}, Systems.{Rules, Moves}}
 use Rattle.state_space.specs.Graphs.{count_of, expanded_of, row_at, first_step, end_step, target_of, event_of, StepOf, IsEnd, IsSearched, IsFound, IsCovered, IsEndless}
-use Rattle.state_space.specs.Deads.{ReachesEnd}
-use Rattle.state_space.specs.Ways.{IsWay}
-use Rattle.state_space.proofs.AllOrders.{leads_on, leads_by}
+use Rattle.state_space.{specs.{Deads.ReachesEnd, Ways.IsWay}, proofs.AllOrders.{leads_on, leads_by}}
 
 module _ {State : Type 0} (rules : Rules State) (stands : List ℕ → State → Type 0) (graph : Graph) (searched : IsSearched rules stands graph) where
   -- a step of the graph is a move of the state

@@ -1,13 +1,8 @@
 -- A way is walked back, step by step.
 use Rattle.std.proofs.Common.{◌≡◌, ⊎_elim, ℕ, ◌+◌, ◌-◌, ◌<◌, ◌≤◌, List, [], ◌∷◌, ◌++◌, length, get_or, map, reverse, refl, sym, ap, subst, ◌∙◌, arith, length-append}
-use Rattle.std.proofs.lemmas.Bool.{cases_lt}
-use Rattle.std.proofs.lemmas.List.{reverse-append}
-use Rattle.state_space.specs.declared.graph.Graph.{Graph}
-use Rattle.state_space.specs.declared.ways.Finding.{Finding}
-use Rattle.state_space.specs.Orders.{Runs}
-use Rattle.state_space.specs.Graphs.{StepOf, event_of}
-use Rattle.state_space.specs.Ways.{IsFinding, AreFindings}
-use Rattle.state_space.proofs.Growth.{earlier_one, last_one}
+use Rattle.std.proofs.lemmas.{Bool.cases_lt, List.reverse-append}
+use Rattle.state_space.specs.{declared.{graph.Graph.Graph, ways.Finding.Finding}, Orders.Runs, Graphs.{StepOf, event_of}}
+use Rattle.state_space.{specs.Ways.{IsFinding, AreFindings}, proofs.Growth.{earlier_one, last_one}}
 
 pub findings_more : (graph : Graph) (findings : List Finding) (finding : Finding) → AreFindings graph findings → IsFinding graph (length findings) finding → AreFindings graph (findings ++ finding ∷ [])
 findings_more graph findings finding each last k d lt =

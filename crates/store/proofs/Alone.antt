@@ -1,21 +1,12 @@
 -- Calls that read a disk alone, one after another, up to an inspection.
-use Rattle.std.proofs.Common.{◌≡◌, ◌∙◌, ◌≤◌, ◌<◌, ◌+◌, ◌*◌, ℕ, Result, Ok, Err, IfErr, ap, subst, arith}
-use Rattle.std.specs.Prelude.{IfOk}
-use Rattle.board_model.specs.Shapes.{Size}
-use Rattle.board_model.specs.declared.refusal.Refusal.{Refusal}
-use Rattle.board_model.specs.declared.refusal.Refusal.TheVariants.{NotFormatted, BadShape, Device, Memory}
-use Rattle.disk.specs.Calls.{MakesCalls}
-use Rattle.disk.specs.Facts.{Content, Facts, Lent, Stays, Failed, counted, most}
-use Rattle.disk.specs.FaultState.{FaultState}
+use Rattle.std.{proofs.Common.{◌≡◌, ◌∙◌, ◌≤◌, ◌<◌, ◌+◌, ◌*◌, ℕ, Result, Ok, Err, IfErr, ap, subst, arith}, specs.Prelude.IfOk}
+use Rattle.board_model.specs.{Shapes.Size, declared.refusal.Refusal.{Refusal, TheVariants.{NotFormatted, BadShape, Device, Memory}}}
+use Rattle.disk.specs.{Calls.MakesCalls, Facts.{Content, Facts, Lent, Stays, Failed, counted, most}, FaultState.FaultState}
 use Rattle.disk.specs.Moments.{passes_stays}
 use Rattle.layout.specs.declared.saved.Saved.{Saved}
-use Rattle.store.specs.Leaves.{ReadsAlone}
-use Rattle.store.specs.Opens.{IsBoard, ReadsAs, CausedRefusal, FailsForCause}
-use Rattle.store.specs.Inspects.{KeepsImage, IsInspected, InspectRefused, SeenCalls, ExaminedCalls, FailedCalls}
-use Rattle.store.specs.declared.inspects.ImageSeen.{ImageSeen}
-use Rattle.store.specs.declared.inspects.Inspection.{Inspection}
-use Rattle.store.proofs.Called.{counts_up}
-use Rattle.store.proofs.Loading.{read_alone}
+use Rattle.store.specs.{Leaves.ReadsAlone, Opens.{IsBoard, ReadsAs, CausedRefusal, FailsForCause}, declared.inspects.ImageSeen.ImageSeen}
+use Rattle.store.{specs.Inspects.{KeepsImage, IsInspected, InspectRefused, SeenCalls, ExaminedCalls, FailedCalls}, proofs.Called.counts_up}
+use Rattle.store.{specs.declared.inspects.Inspection.Inspection, proofs.Loading.read_alone}
 
 pub called_alone : {T E : Type 0} (n : ℕ) (a b : Facts) (m x : FaultState) (r : Result T E) → ((c : Content) → a.since a.moment c → a.may_leave c) → a.failures ≤ most → a.lent.lanes ≡ 0
     → MakesCalls {T = T} {E = E} n Stays a b m x r → ReadsAlone a b

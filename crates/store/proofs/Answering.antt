@@ -1,28 +1,17 @@
 -- What a command does, put together from its steps.
 use Rattle.std.proofs.Common.{◌≡◌, ◌∙◌, inl, inr, ⊎_elim, Option, Some, option_map, ℕ, ◌+◌, ◌-◌, ◌<◌, arith, length, Result, Ok, Err, None, OnOk, IfErr, IsErrOf, ◌⊎◌, refl, sym, ap, subst, false}
-use Rattle.std.specs.Result.{MatchResult}
-use Rattle.std.proofs.lemmas.Result.{IfErr-weaker}
-use Rattle.board_model.specs.Durable.{DurableState, Change, after, refusal_of}
-use Rattle.board_model.specs.Shapes.{Size}
-use Rattle.board_model.specs.declared.refusal.Refusal.{Refusal}
+use Rattle.std.{specs.Result.MatchResult, proofs.lemmas.Result.IfErr-weaker}
+use Rattle.board_model.specs.{Durable.{DurableState, Change, after, refusal_of}, Shapes.Size, declared.refusal.Refusal.Refusal}
 use Rattle.board_model.specs.declared.refusal.Refusal.TheVariants.{Device, Down, Memory}
-use Rattle.disk.specs.Facts.{Content, Facts, sector, LeavesSince}
-use Rattle.disk.specs.FaultState.{FaultState}
+use Rattle.disk.specs.{Facts.{Content, Facts, sector, LeavesSince}, FaultState.FaultState}
 use Rattle.disk.specs.Moments.{leaves_none, leaves_then, leaves_weaker}
 use Rattle.image.specs.Refusals.{WriteRefused}
-use Rattle.layout.specs.Records.{version_number, record_of, IsInRange}
-use Rattle.layout.specs.declared.records.Record.{Record}
-use Rattle.layout.specs.declared.records.Version.TheVariants.{Two}
+use Rattle.layout.specs.{Records.{version_number, record_of, IsInRange}, declared.records.{Record.Record, Version.TheVariants.Two}}
 use Rattle.layout.proofs.SpelledRecords.{version_in}
-use Rattle.store.specs.Commits.{IsUp}
-use Rattle.store.specs.declared.doubts.Doubt.{Doubt}
-use Rattle.store.specs.Leaves.{LeavesOnly, LeavesEither, StandsForEither, WroteACommand}
-use Rattle.store.specs.Lives.{Life, now_of, Reaches, Applied, Suspended, IsReseen}
-use Rattle.store.specs.Opens.{CausedRefusal}
-use Rattle.store.specs.Standing.{selected, live_sector, version_at, state_of, StandsFor}
-use Rattle.store.specs.Answers.{StoreView, GoesTo, CountedRefusal, Answered}
-use Rattle.store.proofs.States.{stands_for, up_leaves}
-use Rattle.store.proofs.Suspending.{told_so, applied_found, now_still}
+use Rattle.store.specs.{Commits.IsUp, declared.doubts.Doubt.Doubt, Leaves.{LeavesOnly, LeavesEither, StandsForEither, WroteACommand}}
+use Rattle.store.specs.{Lives.{Life, now_of, Reaches, Applied, Suspended, IsReseen}, Opens.CausedRefusal}
+use Rattle.store.{specs.Standing.{selected, live_sector, version_at, state_of, StandsFor}, proofs.States.{stands_for, up_leaves}}
+use Rattle.store.{specs.Answers.{StoreView, GoesTo, CountedRefusal, Answered}, proofs.Suspending.{told_so, applied_found, now_still}}
 
 pub wrote : (old new : Facts) (size : Size) (side : ℕ) (next : Record) → side < 2 → selected old.content ≡ side → IsInRange size next → next.version ≡ Two
     → ((c : Content) → new.may_leave c → (selected c ≡ 1 - side) × (sector c (2 + (1 - side)) ≡ record_of next) × (sector c (2 + side) ≡ sector old.content (2 + side)))

@@ -1,24 +1,15 @@
 -- What a command makes of a store.
 use Rattle.std.proofs.Common.{◌≡◌, ◌∙◌, inl, inr, ⊎_elim, ℕ, ◌-◌, ◌<◌, List, [], ◌∷◌, ◌++◌, map, Option, None, option_map, Bool, true, refl, sym, ap, subst}
 use Rattle.std.proofs.lemmas.Bool.{and_parts, and_from}
-use Rattle.board_model.specs.Durable.{DurableState, Change, refusal_of, after, fold}
-use Rattle.board_model.specs.Shapes.{Size}
-use Rattle.board_model.specs.Views.{change_in}
-use Rattle.disk.specs.Facts.{Facts, LeavesSince}
-use Rattle.disk.specs.Moments.{leaves_weaker}
-use Rattle.layout.specs.Records.{IsInRange}
-use Rattle.layout.specs.declared.records.Record.{Record}
-use Rattle.store.specs.Entries.{is_plain, are_plain}
-use Rattle.store.specs.Taken.{are_taken}
-use Rattle.store.specs.Standing.{state_of, memory_in, StandsFor}
-use Rattle.store.specs.Leaves.{LeavesOnly, LeavesEither, StandsForEither}
-use Rattle.store.specs.Commits.{SameAreas, SelectsAs, SelectsEither, IsUp, IsInDoubt}
-use Rattle.store.specs.Follows.{Follows}
-use Rattle.store.specs.Lives.{Life}
+use Rattle.board_model.specs.{Durable.{DurableState, Change, refusal_of, after, fold}, Shapes.Size, Views.change_in}
 use Rattle.board_model.specs.declared.durable.Entry.{Entry}
-use Rattle.board_model.specs.declared.durable.Entry.TheVariants as entries
-use Rattle.store.proofs.Taken.{taken_more}
+use Rattle.disk.specs.{Facts.{Facts, LeavesSince}, Moments.leaves_weaker}
+use Rattle.layout.specs.{Records.IsInRange, declared.records.Record.Record}
+use Rattle.store.specs.{Entries.{is_plain, are_plain}, Taken.are_taken, Standing.{state_of, memory_in, StandsFor}, Follows.Follows}
+use Rattle.store.specs.{Leaves.{LeavesOnly, LeavesEither, StandsForEither}, Commits.{SameAreas, SelectsAs, SelectsEither, IsUp, IsInDoubt}}
+use Rattle.store.{specs.Lives.Life, proofs.Taken.taken_more}
 use Rattle.store.proofs.States.{state_same, memory_same, of_areas, up_leaves, doubt_leaves, stands_for, either_stands}
+use Rattle.board_model.specs.declared.durable.Entry.TheVariants as entries
 
 -- the journal, where the image's memory is this one
 abbrev pub told : List ℕ → List Entry → List Change

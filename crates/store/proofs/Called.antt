@@ -1,11 +1,7 @@
 -- Calls of a disk under other answers, and of which less is told.
 use Rattle.std.proofs.Common.{◌+◌, ◌≤◌, ℕ, Result, Ok, Err, arith}
-use Rattle.disk.specs.Calls.{MakesCalls}
-use Rattle.disk.specs.Facts.{Content, Facts, Torn, Counts, most}
-use Rattle.disk.specs.FaultState.{FaultState}
-use Rattle.disk.specs.Moments.{passes_weaker}
-use Rattle.store.specs.Commits.{SameAreas}
-use Rattle.store.proofs.Contents.{torn_areas}
+use Rattle.disk.specs.{Calls.MakesCalls, Facts.{Content, Facts, Torn, Counts, most}, FaultState.FaultState, Moments.passes_weaker}
+use Rattle.store.{specs.Commits.SameAreas, proofs.Contents.torn_areas}
 
 -- no failure is forgotten
 pub counts_up : {T E : Type 0} (r : Result T E) (before now : ℕ) → before ≤ most → Counts before now r → before ≤ now

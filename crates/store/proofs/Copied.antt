@@ -1,15 +1,9 @@
 -- A store over a disk of the same content, with the same journal.
 use Rattle.std.proofs.Common.{◌≡◌, Bool, List, Option, None, Some, is_some, map, true, false, option_map, refl, subst, sym}
-use Rattle.board_model.specs.Durable.{after, fold, refusal_of}
-use Rattle.board_model.specs.Shapes.{Size}
-use Rattle.board_model.specs.Views.{change_in}
-use Rattle.board_model.specs.declared.durable.Entry.{Entry}
+use Rattle.board_model.specs.{Durable.{after, fold, refusal_of}, Shapes.Size, Views.change_in, declared.durable.Entry.Entry}
 use Rattle.disk.specs.Facts.{Content}
 use Rattle.layout.specs.declared.records.Record.{Record}
-use Rattle.store.specs.Lives.{Life}
-use Rattle.store.specs.Standing.{state_of, memory_in}
-use Rattle.store.specs.Taken.{are_taken}
-use Rattle.store.specs.declared.doubts.Doubt.{Doubt}
+use Rattle.store.specs.{Lives.Life, Standing.{state_of, memory_in}, Taken.are_taken, declared.doubts.Doubt.Doubt}
 
 -- the life that these make
 abbrev pub life_from : Size → Record → Record → Option Doubt → Bool → Content → List Entry → Life

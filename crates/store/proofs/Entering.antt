@@ -1,12 +1,8 @@
 -- An entry is added to a journal.
-use Rattle.std.proofs.Common.{◌≡◌, ◌∙◌, ◌++◌, ◌+◌, length, List, [], ◌∷◌, Option, Some, None, true, refl, ap}
-use Rattle.std.proofs.lemmas.List.{length-append}
+use Rattle.std.proofs.{Common.{◌≡◌, ◌∙◌, ◌++◌, ◌+◌, length, List, [], ◌∷◌, Option, Some, None, true, refl, ap}, lemmas.List.length-append}
 use Rattle.board_model.specs.declared.durable.Entry.{Entry}
 use Rattle.board_model.specs.declared.durable.Entry.TheVariants as entries
-use Rattle.store.specs.Entries.{are_plain}
-use Rattle.store.specs.Journals.{command_in, entries_in}
-use Rattle.store.specs.declared.journals.Kept.{Kept}
-use Rattle.store.specs.declared.saving.Resumption.{Resumption}
+use Rattle.store.specs.{Entries.are_plain, Journals.{command_in, entries_in}, declared.{journals.Kept.Kept, saving.Resumption.Resumption}}
 
 -- where no suspension stands
 pub command_more : (ks : List Kept) (k : Kept) (at : Option Resumption) → are_plain (entries_in ks at) ≡ true → entries_in (ks ++ k ∷ []) at ≡ entries_in ks at ++ entries.Command (command_in k) ∷ []

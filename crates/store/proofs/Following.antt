@@ -1,27 +1,15 @@
 -- The record that a command makes stands for the state after the command.
 use Rattle.std.proofs.Common.{◌≡◌, ◌∙◌, ℕ, ◌≤◌, ◌<◌, ◌^◌, Option, Some, None, is_some, if◌then◌else◌, refl, sym, ap, subst, arith}
-use Rattle.board_model.specs.Durable.{DurableState, HasValidNumbers, refusal_of, after}
-use Rattle.board_model.proofs.Steps.{ByCommand, Drops, Keeps, by_command}
-use Rattle.board_model.proofs.Table.{stays_valid}
 use Rattle.std.specs.Prelude.{IfSome}
-use Rattle.store.specs.Entries.{is_change}
+use Rattle.board_model.{specs.{Durable.{DurableState, HasValidNumbers, refusal_of, after}, Shapes.Size}, proofs.Table.stays_valid}
+use Rattle.board_model.{proofs.Steps.{ByCommand, Drops, Keeps, by_command}, specs.declared.durable.{ImageHead.ImageHead, Command.Command}}
+use Rattle.board_model.specs.{Views.{change_of, durable_of, head_of, reason_number}, declared.durable.{Durable.Durable, Trial.Trial}}
+use Rattle.board_model.specs.declared.durable.Reason.{Reason, TheVariants.{NoReason, SystemFailure}}
+use Rattle.store.{specs.{Entries.is_change, Standing.{image_of, state_of}, Follows.{next_of, Follows}}, proofs.Renewing.trial_in_two}
 use Rattle.board_model.specs.declared.durable.Entry.TheVariants as entries
-use Rattle.board_model.specs.declared.durable.ImageHead.{ImageHead}
-use Rattle.board_model.specs.Shapes.{Size}
-use Rattle.board_model.specs.Views.{change_of, durable_of, head_of, reason_number}
-use Rattle.board_model.specs.declared.durable.Command.{Command}
-use Rattle.board_model.specs.declared.durable.Durable.{Durable}
-use Rattle.board_model.specs.declared.durable.Trial.{Trial}
-use Rattle.board_model.specs.declared.durable.Reason.{Reason}
-use Rattle.board_model.specs.declared.durable.Reason.TheVariants.{NoReason, SystemFailure}
 use Rattle.disk.specs.Facts.{Content}
-use Rattle.layout.specs.Records.{durable_in, head_in, IsInRange, IsTrialIn}
-use Rattle.layout.specs.declared.saved.Saved.{Saved}
-use Rattle.layout.specs.declared.records.Record.{Record}
+use Rattle.layout.specs.{Records.{durable_in, head_in, IsInRange, IsTrialIn}, declared.{saved.Saved.Saved, records.Record.Record}}
 use Rattle.layout.specs.declared.records.Version.TheVariants.{Two}
-use Rattle.store.specs.Standing.{image_of, state_of}
-use Rattle.store.specs.Follows.{next_of, Follows}
-use Rattle.store.proofs.Renewing.{trial_in_two}
 
 -- the record's durable state is that of its state
 head_same : (size : Size) (image : Option Saved) (content : Content) → head_of (image_of size image content) ≡ head_in image

@@ -1,28 +1,16 @@
 -- The area that the live image does not use may hold anything: the state stays, also while it is written.
 use Rattle.std.proofs.Common.{◌≡◌, ◌∙◌, ◌⊎◌, ◌||◌, zero, suc, inl, inr, ⊎_elim, ℕ, ◌+◌, ◌*◌, ◌≤◌, ◌<◌, List, [], ◌∷◌, Option, Some, true, false, refl, sym, ap, subst, arith}
 use Rattle.std.proofs.lemmas.Bool.{cases_Bool}
-use Rattle.board_model.specs.Durable.{Image, DurableState, ImageStep, after, fold}
-use Rattle.board_model.specs.Shapes.{Size, area_sectors_of}
-use Rattle.board_model.specs.Views.{change_of, durable_of}
-use Rattle.board_model.proofs.Steps.{ByCommand, Drops, Keeps, by_command}
-use Rattle.board_model.specs.declared.durable.Command.{Command}
-use Rattle.disk.specs.Facts.{Content, Facts, sector, Torn, Passes, LeavesSince}
-use Rattle.disk.specs.Moments.{leaves_none, leaves_more}
-use Rattle.layout.specs.Superblocks.{IsSuperblock}
-use Rattle.layout.specs.Records.{selected_by, IsRecord}
-use Rattle.layout.specs.Sizes.{area_start}
-use Rattle.layout.specs.declared.saved.Saved.{Saved}
+use Rattle.board_model.specs.{Durable.{Image, DurableState, ImageStep, after, fold}, Shapes.{Size, area_sectors_of}}
+use Rattle.board_model.{specs.Views.{change_of, durable_of}, proofs.Steps.{ByCommand, Drops, Keeps, by_command}}
+use Rattle.board_model.specs.declared.durable.{Command.Command, Entry.Entry}
+use Rattle.disk.specs.{Facts.{Content, Facts, sector, Torn, Passes, LeavesSince}, Moments.{leaves_none, leaves_more}}
+use Rattle.layout.specs.{Superblocks.IsSuperblock, Records.{selected_by, IsRecord}, Sizes.area_start, declared.saved.Saved.Saved}
 use Rattle.layout.specs.declared.records.Record.{Record}
-use Rattle.store.specs.Entries.{is_change, drop_image}
-use Rattle.store.specs.Taken.{are_taken}
-use Rattle.store.specs.Standing.{image_of, state_of, memory_in, selected, live_sector, Selects, StandsFor}
-use Rattle.store.specs.Commits.{SameImage, IsUp}
-use Rattle.board_model.specs.declared.durable.Entry.{Entry}
+use Rattle.store.{specs.{Entries.{is_change, drop_image}, Taken.are_taken, Commits.{SameImage, IsUp}}, proofs.Applies.{told, now_by}}
+use Rattle.store.{specs.Standing.{image_of, state_of, memory_in, selected, live_sector, Selects, StandsFor}, proofs.Following.durable_same}
+use Rattle.store.proofs.{Taken.taken_so, States.{image_then, state_same, memory_same, stands_for}}
 use Rattle.board_model.specs.declared.durable.Entry.TheVariants as entries
-use Rattle.store.proofs.Applies.{told, now_by}
-use Rattle.store.proofs.Following.{durable_same}
-use Rattle.store.proofs.Taken.{taken_so}
-use Rattle.store.proofs.States.{image_then, state_same, memory_same, stands_for}
 
 -- the two areas have no sector in common
 apart : (i j n k : ℕ) → i < 2 → j < 2 → (i ≡ 0 → j ≡ 0 → ⊥) → (i ≡ 1 → j ≡ 1 → ⊥) → 8 + j * n ≤ k → k < 8 + j * n + n → (k < 8 + i * n) ⊎ (8 + i * n + n ≤ k)

@@ -1,15 +1,10 @@
 -- A life that goes on has no suspension in its journal; and where no command of it dropped the image, that is
 -- still the one which the open found.
 use Rattle.std.proofs.Common.{◌≡◌, ◌∙◌, ◌||◌, List, [], ◌∷◌, ◌++◌, Bool, true, false, refl, ap}
-use Rattle.board_model.specs.Durable.{ends_life}
-use Rattle.board_model.specs.Shapes.{Size}
+use Rattle.board_model.specs.{Durable.ends_life, Shapes.Size, Views.change_in, declared.durable.Entry.Entry}
 use Rattle.layout.specs.declared.records.Record.{Record}
-use Rattle.store.specs.Entries.{is_plain, are_plain, drops_image, drop_image}
-use Rattle.board_model.specs.Views.{change_in}
-use Rattle.store.specs.Follows.{Follows}
-use Rattle.board_model.specs.declared.durable.Entry.{Entry}
+use Rattle.store.{specs.{Entries.{is_plain, are_plain, drops_image, drop_image}, Follows.Follows}, proofs.Applies.plain_more}
 use Rattle.board_model.specs.declared.durable.Entry.TheVariants as entries
-use Rattle.store.proofs.Applies.{plain_more}
 
 plain_on : (e : Entry) → ends_life (change_in e []) ≡ false → is_plain e ≡ true
 plain_on (entries.Command c) goes = refl

@@ -1,21 +1,13 @@
 -- Whether a sector is a record, by what the parser answers; and that a content is inspected in one way.
 use Rattle.std.proofs.Common.{◌≡◌, ◌∙◌, ◌↔◌, ⊎_elim, ℕ, ◌<◌, List, length, Bool, true, false, IsTrue, Some, Result, Ok, Err, refl, sym, ap, subst, arith}
 use Rattle.std.specs.Prelude.{◌≤◌, ◌+◌, ◌*◌, IfOk, IfErr, is_ok}
-use Rattle.board_model.specs.declared.refusal.Refusal.{Refusal}
-use Rattle.board_model.specs.declared.refusal.Refusal.TheVariants.{NotFormatted, BadShape, Memory}
-use Rattle.board_model.specs.Shapes.{Size}
-use Rattle.layout.specs.Records.{IsRecord}
-use Rattle.layout.specs.declared.records.Record.{Record}
-use Rattle.layout.specs.declared.saved.Saved.{Saved}
+use Rattle.board_model.specs.{declared.refusal.Refusal.{Refusal, TheVariants.{NotFormatted, BadShape, Memory}}, Shapes.Size}
+use Rattle.layout.{specs.{Records.IsRecord, declared.{records.Record.Record, saved.Saved.Saved}}, proofs.OneSpelling.bytes_determine_record}
 use Rattle.layout.proofs.Spellings.{one_size, superblock_has_magic}
-use Rattle.layout.proofs.OneSpelling.{bytes_determine_record}
 use Rattle.disk.specs.Facts.{Content, Facts, sector, counted}
-use Rattle.store.specs.Opens.{IsBoard}
-use Rattle.store.specs.Standing.{live_sector, saved_memory}
+use Rattle.store.specs.{Opens.IsBoard, Standing.{live_sector, saved_memory}, declared.inspects.{ImageSeen.ImageSeen, Inspection.Inspection}}
 use Rattle.store.specs.Inspects.{HasRecord, KeepsImage, IsImageSeen, IsInspected, InspectRefused, SeenCalls, ExaminedCalls, FailedCalls, InspectCalls}
-use Rattle.store.specs.declared.inspects.ImageSeen.{ImageSeen}
 use Rattle.store.specs.declared.inspects.ImageSeen.TheVariants.{Absent, Whole, Bad}
-use Rattle.store.specs.declared.inspects.Inspection.{Inspection}
 
 pub parses : {E : Type 0} (size : Size) (bytes there : List ℕ) (result : Result Record E) (told : Bool) → bytes ≡ there → told ≡ is_ok result → IfOk result (λ r. IsRecord size r bytes)
     → ((r : Record) → IsRecord size r bytes → result ≡ Ok r) → IsTrue told ↔ HasRecord size there

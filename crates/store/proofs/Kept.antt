@@ -1,15 +1,10 @@
 -- What an open store keeps, in durable states.
 use Rattle.std.proofs.Common.{◌≡◌, ◌∙◌, ℕ, ◌<◌, None, sym, ap, subst}
-use Rattle.board_model.specs.Durable.{DurableState, Change, refusal_of, after}
-use Rattle.board_model.specs.Shapes.{Size}
-use Rattle.board_model.specs.Views.{change_in}
+use Rattle.board_model.specs.{Durable.{DurableState, Change, refusal_of, after}, Shapes.Size, Views.change_in}
 use Rattle.disk.specs.Facts.{Facts}
 use Rattle.layout.specs.declared.records.Record.{Record}
-use Rattle.store.specs.Standing.{state_of, memory_in}
-use Rattle.store.specs.Leaves.{LeavesOnly, LeavesEither}
-use Rattle.store.specs.Commits.{IsUp, IsInDoubt}
-use Rattle.store.specs.declared.doubts.Doubt.{Doubt}
-use Rattle.store.proofs.States.{up_leaves, doubt_leaves}
+use Rattle.store.specs.{Standing.{state_of, memory_in}, Leaves.{LeavesOnly, LeavesEither}, Commits.{IsUp, IsInDoubt}}
+use Rattle.store.{specs.declared.doubts.Doubt.Doubt, proofs.States.{up_leaves, doubt_leaves}}
 
 module _ (disk : Facts) (size : Size) (side : ℕ) (current : Record) (now s : DurableState) (folded : now ≡ state_of size current disk.content) (s_is : s ≡ now) where
   pub kept_up : IsUp disk size side current → LeavesOnly disk size s

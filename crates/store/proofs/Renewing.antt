@@ -1,22 +1,13 @@
 -- A commit of the same state leaves it, at each moment; and what an open leaves.
 use Rattle.std.proofs.Common.{◌≡◌, ◌∙◌, ◌⊎◌, inl, inr, ℕ, ◌+◌, ◌≤◌, ◌==◌, Option, length, refl, sym, ap, subst, ⊎_elim, Bool, true, false, if◌then◌else◌, arith}
-use Rattle.board_model.specs.Durable.{DurableState}
-use Rattle.board_model.specs.Shapes.{Size, sectors_of}
-use Rattle.board_model.specs.declared.durable.Trial.{Trial}
-use Rattle.board_model.specs.declared.refusal.Refusal.{Refusal}
+use Rattle.board_model.specs.{Durable.DurableState, Shapes.{Size, sectors_of}, declared.{durable.Trial.Trial, refusal.Refusal.Refusal}}
 use Rattle.board_model.specs.declared.refusal.Refusal.TheVariants.{NotFormatted, BadShape, BadRecord, Device, Memory}
-use Rattle.disk.specs.Facts.{Content, Facts, sector, counted, Failed, LeavesSince}
-use Rattle.disk.specs.Moments.{leaves_none, leaves_then, leaves_weaker}
-use Rattle.layout.specs.Records.{version_number, IsTrialIn, IsInRange}
-use Rattle.layout.specs.declared.records.Record.{Record}
-use Rattle.layout.specs.declared.records.Version.{Version}
-use Rattle.layout.specs.declared.records.Version.TheVariants.{One, Two}
-use Rattle.layout.proofs.SpelledRecords.{version_in}
-use Rattle.store.specs.Commits.{SelectsEither, IsUp}
+use Rattle.disk.specs.{Facts.{Content, Facts, sector, counted, Failed, LeavesSince}, Moments.{leaves_none, leaves_then, leaves_weaker}}
+use Rattle.layout.specs.{Records.{version_number, IsTrialIn, IsInRange}, declared.records.{Record.Record, Version.Version}}
+use Rattle.layout.{specs.declared.records.Version.TheVariants.{One, Two}, proofs.SpelledRecords.version_in}
+use Rattle.store.{specs.{Commits.{SelectsEither, IsUp}, Opens.{open_calls, OpenRefused, FindCalls, OpenCalls}}, proofs.Found.stands_here}
 use Rattle.store.specs.Leaves.{SameLength, ReadsAlone, IsRenewed, LeftAsBefore, IsSettled, LeavesVersionTwo}
-use Rattle.store.specs.Opens.{open_calls, OpenRefused, FindCalls, OpenCalls}
 use Rattle.store.specs.Standing.{live_sector, version_at, state_of, Selects, StandsFor}
-use Rattle.store.proofs.Found.{stands_here}
 use Rattle.store.proofs.States.{content_determines_state, either_stands}
 
 module _ (size : Size) (side : ℕ) (r next : Record) (same : (c : Content) → state_of size next c ≡ state_of size r c) where

@@ -1,7 +1,6 @@
 -- A suspension, as its commit tells it.
 use Rattle.std.proofs.Common.{◌≡◌, ◌∙◌, inl, ℕ, Result, Ok, Err, ⊎_elim, sym, ap, subst}
-use Rattle.board_model.specs.Durable.{DurableState, Change}
-use Rattle.board_model.specs.declared.refusal.Refusal.{Refusal}
+use Rattle.board_model.specs.{Durable.{DurableState, Change}, declared.refusal.Refusal.Refusal}
 use Rattle.store.specs.Lives.{Life, now_of, Applied, SuspendApplied, IsReseen}
 
 pub applied_found : (old : Life) (c : Change) (r : Result ℕ Refusal) (new : Life) → Applied old c r new → new.found ≡ old.found

@@ -1,8 +1,7 @@
 -- The table of commands refuses none of a journal.
 use Rattle.std.proofs.Common.{◌≡◌, ◌∙◌, ℕ, ◌&&◌, Bool, true, List, [], ◌∷◌, ◌++◌, Option, None, is_none, refl, ap}
 use Rattle.std.proofs.lemmas.Bool.{and_parts, and_from}
-use Rattle.board_model.specs.Durable.{DurableState, Change, refusal_of, after, fold}
-use Rattle.board_model.specs.Views.{durable_of}
+use Rattle.board_model.specs.{Durable.{DurableState, Change, refusal_of, after, fold}, Views.durable_of}
 use Rattle.board_model.proofs.Table.{same_refusal, same_after}
 use Rattle.store.specs.Taken.{are_taken}
 

@@ -1,25 +1,13 @@
 -- What a system suspend comes to, put together from its steps.
 use Rattle.std.proofs.Common.{◌≡◌, ◌↔◌, ◌∙◌, ℕ, Bool, true, false, true≢false, IsTrue, List, Some, Result, Ok, Err, refl, sym, subst, inl, inr}
 use Rattle.board_model.specs.declared.refusal.Refusal.{Refusal}
-use Rattle.disk.specs.declared.device.Disk.{Ghosts}
-use Rattle.disk.specs.declared.device.Lane.{Ghosts as Lanes}
-use Rattle.hsm.specs.Calls.{KeepsOthers, ActsAlone}
-use Rattle.hsm.specs.Words.{HartSeatView, HartView}
-use Rattle.hsm.specs.declared.view.Action.TheVariants.{Quieted, Unquieted}
-use Rattle.hsm.specs.declared.view.Stage.TheVariants.{Running}
-use Rattle.hsm.specs.Rule.{HasNoted}
-use Rattle.hsm.specs.States.{HartState, Shows}
-use Rattle.hsm.specs.Outcomes.{after_quiet}
-use Rattle.sbi_abi.specs.declared.ret.SbiError.TheVariants.{Denied, Failed}
-use Rattle.store.specs.Views.{size_of_store}
-use Rattle.store.specs.declared.stores.Store.{Store}
-use Rattle.susp.specs.Checks.{IsChecked}
-use Rattle.susp.specs.Dozes.{dozing}
+use Rattle.disk.specs.{declared.{device.{Disk.Ghosts, Lane.{Ghosts as Lanes}}}}
+use Rattle.hsm.specs.{Calls.{KeepsOthers, ActsAlone}, Words.{HartSeatView, HartView}, declared.view.Action.TheVariants.{Quieted, Unquieted}}
+use Rattle.hsm.specs.{declared.view.Stage.TheVariants.Running, Rule.HasNoted, States.{HartState, Shows}, Outcomes.after_quiet}
+use Rattle.sbi_abi.specs.declared.ret.SbiError.{TheVariants.{Denied, Failed}, SbiError}
+use Rattle.store.specs.{Views.size_of_store, declared.stores.Store.Store}
+use Rattle.susp.specs.{Checks.IsChecked, Dozes.dozing, declared.{sleeps.Sleep.{TheVariants.{ToRam, ToDisk}, Sleep}, buses.Bus.Bus}}
 use Rattle.susp.specs.Sleeps.{AreUnclaimed, AreStopped, AsksToSleep, FallsAsleep, FallsAsleepBy, Sleeps, SleepsAlone}
-use Rattle.susp.specs.declared.sleeps.Sleep.TheVariants.{ToRam, ToDisk}
-use Rattle.susp.specs.declared.sleeps.Sleep.{Sleep}
-use Rattle.susp.specs.declared.buses.Bus.{Bus}
-use Rattle.sbi_abi.specs.declared.ret.SbiError.{SbiError}
 
 -- what the look of quiet told
 abbrev pub Looked : ℕ → ℕ → Bool → List HartView → List HartView → Type 0

@@ -1,24 +1,14 @@
 -- An image was loaded, and then its consumption asked: together, from the state before the load.
 use Rattle.std.proofs.Common.{◌≡◌, ◌⊎◌, ◌-◌, ℕ, List, Ok, Err, Result, OnOk, Option, Some, None, refl, sym, ap, ◌∙◌, subst, inl, inr, arith}
-use Rattle.std.specs.Result.{MatchResult}
-use Rattle.std.proofs.lemmas.Result.{IfErr-weaker}
-use Rattle.board_model.specs.Durable.{DurableState, Change, Image, Consume, after, refusal_of}
-use Rattle.board_model.specs.Shapes.{Size}
-use Rattle.board_model.specs.declared.refusal.Refusal.{Refusal}
-use Rattle.board_model.specs.declared.refusal.Refusal.TheVariants.{Device, Down, Over, JournalFull, BadShape, NoImage, BadImage}
-use Rattle.disk.specs.declared.device.Disk.{Ghosts}
-use Rattle.disk.specs.declared.device.Lane.{Ghosts as Lanes}
-use Rattle.disk.specs.Facts.{Content, Facts, LeavesSince, Failed}
-use Rattle.disk.specs.FaultState.{FaultState}
-use Rattle.disk.specs.Moments.{leaves_then, leaves_weaker}
+use Rattle.std.{specs.Result.MatchResult, proofs.lemmas.Result.IfErr-weaker}
+use Rattle.board_model.specs.{Durable.{DurableState, Change, Image, Consume, after, refusal_of}, Shapes.Size}
+use Rattle.board_model.specs.declared.refusal.Refusal.{Refusal, TheVariants.{Device, Down, Over, JournalFull, BadShape, NoImage, BadImage}}
+use Rattle.disk.specs.{declared.{device.{Disk.Ghosts, Lane.{Ghosts as Lanes}}}, Facts.{Content, Facts, LeavesSince, Failed}}
+use Rattle.disk.specs.{FaultState.FaultState, Moments.{leaves_then, leaves_weaker}}
 use Rattle.image.specs.Refusals.{StopsWithin}
-use Rattle.store.specs.Leaves.{Leaves, IsKept, LeavesOnly, StandsForEither, WroteACommand}
-use Rattle.store.specs.Lives.{Life, now_of, Applied, Reaches, Refused, LoadRefused}
-use Rattle.store.specs.Opens.{CausedRefusal}
-use Rattle.store.specs.Standing.{selected, live_sector, StandsFor}
-use Rattle.store.specs.Answers.{StoreView, GoesTo, CountedRefusal, Answered}
-use Rattle.store.specs.Asked.{Asked}
-use Rattle.store.specs.Views.{life_of, now_state, doubt_of}
+use Rattle.store.specs.{Leaves.{Leaves, IsKept, LeavesOnly, StandsForEither, WroteACommand}, Opens.CausedRefusal, Asked.Asked}
+use Rattle.store.specs.{Lives.{Life, now_of, Applied, Reaches, Refused, LoadRefused}, Standing.{selected, live_sector, StandsFor}}
+use Rattle.store.specs.{Answers.{StoreView, GoesTo, CountedRefusal, Answered}, Views.{life_of, now_state, doubt_of}}
 use Rattle.store.specs.declared.stores.Store.{Store}
 use Rattle.susp.specs.Wakes.{WakeStops}
 

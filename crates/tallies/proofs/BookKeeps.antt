@@ -5,13 +5,9 @@ use mathlib.Core.Logic.{dite}
 use mathlib.Core.Option.{some, some-ne-none, some-injective}
 use native.Mathlib.Decide.{ℕ_discrete, dec_le}
 use lib.ListN.{get_elem?}
-use Rattle.atomic_table.specs.Table.{State, Step, Me, keeps, Allows, Splits, Joins, opening}
-use Rattle.atomic_table.proofs.Lists.{at_set, at_snoc, set_again}
-use Rattle.tallies.specs.Sums.{total}
-use Rattle.tallies.specs.Logs.{Log}
-use Rattle.tallies.proofs.Totals.{two_at_most_total, at_most_total, total_alone, total_split, total_join}
-use Rattle.tallies.specs.declared.book_views.PartView.{PartView}
-use Rattle.tallies.specs.declared.book_views.BookView.{BookView}
+use Rattle.atomic_table.{specs.Table.{State, Step, Me, keeps, Allows, Splits, Joins, opening}, proofs.Lists.{at_set, at_snoc, set_again}}
+use Rattle.tallies.{specs.{Sums.total, Logs.Log}, proofs.Totals.{two_at_most_total, at_most_total, total_alone, total_split, total_join}}
+use Rattle.tallies.specs.declared.book_views.{PartView.PartView, BookView.BookView}
 use Rattle.tallies.specs.Books.{Each, held_by, part_view, keeper_view, part_seat, nobody, fresh_from, opening_view, first_of, told_after, other_parts, one_part, with_part, with_entry, is_of, seats, keeps_of, IsPart, IsKept, Learns}
 
 off : false ≡ true → ⊥

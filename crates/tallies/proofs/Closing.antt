@@ -3,14 +3,10 @@ use Rattle.std.proofs.Common.{◌≡◌, ℕ, zero, suc, ◌+◌, ◌<◌, List,
 use Rattle.std.specs.Prelude.{slice_get}
 use mathlib.Core.Logic.{dite}
 use native.Mathlib.Decide.{ℕ_discrete}
-use Rattle.tallies.specs.Sums.{total}
-use Rattle.tallies.specs.Logs.{Log}
-use Rattle.tallies.proofs.Seatings.{some_or}
-use Rattle.board_model.specs.declared.durable.Entry.{Entry}
-use Rattle.tallies.specs.declared.book_views.PartView.{PartView}
-use Rattle.tallies.specs.Books.{Each, entries_of, told_by, is_of, IsPart}
-use Rattle.tallies.proofs.BookKeeps.{is_of_other, is_of_same}
+use Rattle.tallies.{specs.{Sums.total, Logs.Log, declared.book_views.PartView.PartView}, proofs.Seatings.some_or}
+use Rattle.tallies.{specs.Books.{Each, entries_of, told_by, is_of, IsPart}, proofs.BookKeeps.{is_of_other, is_of_same}}
 use Rattle.tallies.specs.Closed.{StandsIn, AreStanding, AreReceiptsOf, told_in}
+use Rattle.board_model.specs.declared.durable.Entry.{Entry}
 
 pub length_journal : (l : Log Entry) → length (entries_of l) ≡ length l
 length_journal [] = refl

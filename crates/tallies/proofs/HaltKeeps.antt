@@ -5,8 +5,7 @@ use mathlib.Core.Option.{some, some-ne-none, some-injective}
 use lib.ListN.{get_elem?}
 use Rattle.atomic_table.specs.Table.{State, Step, Me, Act, keeps, Valid, stepped, carried_after, Allows, Enters as Entering, Splits, Joins, opening}
 use Rattle.atomic_table.proofs.Lists.{at_set, at_snoc, set_again}
-use Rattle.tallies.specs.Sums.{total}
-use Rattle.tallies.proofs.Totals.{total-append, total-set, total_split, total_join, at_most_total}
+use Rattle.tallies.{specs.Sums.total, proofs.Totals.{total-append, total-set, total_split, total_join, at_most_total}}
 use Rattle.tallies.specs.declared.halt_views.HaltView.{HaltView}
 use Rattle.tallies.specs.Halts.{halt_view, no_looks, first_view, unset_of, sets_of, setters, same_view, what_is_known, with_known, IsKept, Enters, Looks, Sets, Learns}
 

@@ -5,17 +5,11 @@ use mathlib.Core.Logic.{dite}
 use mathlib.Core.Option.{some, some-injective, some-ne-none}
 use native.Mathlib.Decide.{ℕ_discrete}
 use lib.ListN.{get_elem?}
-use Rattle.atomic_table.specs.Table.{State}
-use Rattle.atomic_table.proofs.Lists.{set_else}
-use Rattle.tallies.specs.Logs.{Log, Reading, actions_in, log_places, placed, earlier, IsAmong, IsTrueLog, word_after}
-use Rattle.tallies.specs.Notes.{hart_notes, seat_notes, seats, noted}
-use Rattle.tallies.specs.Rules.{IsLogged, StepsAreTrue, EarlierStepsStand, ChangesAreNoted}
-use Rattle.tallies.specs.declared.view.HartNotes.{HartNotes}
-use Rattle.tallies.specs.declared.view.SeatNotes.{SeatNotes}
-use Rattle.tallies.proofs.Logs.{Same, More, one_log, newest, true_of}
-use Rattle.tallies.proofs.Places.{placed_in, one_found}
-use Rattle.tallies.proofs.Noted.{spot, Holder, holder}
-use Rattle.tallies.proofs.Rules.{under}
+use Rattle.atomic_table.{specs.Table.State, proofs.Lists.set_else}
+use Rattle.tallies.{specs.Logs.{Log, Reading, actions_in, log_places, placed, earlier, IsAmong, IsTrueLog, word_after}, proofs.Rules.under}
+use Rattle.tallies.specs.{Notes.{hart_notes, seat_notes, seats, noted}, Rules.{IsLogged, StepsAreTrue, EarlierStepsStand, ChangesAreNoted}}
+use Rattle.tallies.{specs.declared.view.{HartNotes.HartNotes, SeatNotes.SeatNotes}, proofs.Logs.{Same, More, one_log, newest, true_of}}
+use Rattle.tallies.proofs.{Places.{placed_in, one_found}, Noted.{spot, Holder, holder}}
 
 -- an entry that was written is there
 put_at : {A : Type 0} (l : List A) (i : ℕ) (a b : A) → get_elem? l i ≡ some a → get_elem? (set l i b) i ≡ some b

@@ -4,13 +4,8 @@ use mathlib.Core.Logic.{dite}
 use mathlib.Core.Option.{some, some-ne-none, some-injective}
 use native.Mathlib.Decide.{ℕ_discrete}
 use lib.ListN.{get_elem?}
-use Rattle.tallies.specs.Sums.{total}
-use Rattle.tallies.specs.Notes.{hart_notes, numbers, is_of, noted, HasNoted, opening_from}
-use Rattle.tallies.specs.Seats.{numbers_from}
-use Rattle.tallies.specs.declared.view.HartNotes.{HartNotes}
-use Rattle.tallies.specs.declared.view.SeatNotes.{SeatNotes}
-use Rattle.tallies.proofs.Seatings.{head_or}
-use Rattle.tallies.proofs.Logs.{found_at}
+use Rattle.tallies.specs.{Sums.total, Notes.{hart_notes, numbers, is_of, noted, HasNoted, opening_from}, Seats.numbers_from}
+use Rattle.tallies.{specs.declared.view.{HartNotes.HartNotes, SeatNotes.SeatNotes}, proofs.{Seatings.head_or, Logs.found_at}}
 
 module _ {S D : Type 0} where
   pub is_of_same : (h : ℕ) (v : HartNotes S D) → v.hart ≡ h → is_of h v ≡ 1

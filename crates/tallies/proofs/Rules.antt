@@ -4,17 +4,11 @@ use Rattle.std.specs.Prelude.{slice_index, slice_set}
 use mathlib.Core.Option.{some, some-injective, some-ne-none}
 use native.Mathlib.Decide.{dec_le}
 use lib.ListN.{get_elem?}
-use Rattle.atomic_table.specs.Table.{State, keeps, stepped, opening}
-use Rattle.atomic_table.proofs.Lists.{at_set, at_snoc}
-use Rattle.tallies.specs.Sums.{total}
-use Rattle.tallies.specs.Logs.{Log, Reading, IsOfLog, word_after}
+use Rattle.atomic_table.{specs.Table.{State, keeps, stepped, opening}, proofs.Lists.{at_set, at_snoc}}
+use Rattle.tallies.specs.{Sums.total, Logs.{Log, Reading, IsOfLog, word_after}, Books.Each, Rules.{AreSeated, Everywhere, HasLog, IsLogged}}
 use Rattle.tallies.specs.Notes.{hart_notes, seat_notes, is_of, seats, noted, opening_from, first_hart, other_harts, together, nobody}
-use Rattle.tallies.specs.Books.{Each}
-use Rattle.tallies.specs.Rules.{AreSeated, Everywhere, HasLog, IsLogged}
-use Rattle.tallies.specs.declared.view.HartNotes.{HartNotes}
-use Rattle.tallies.specs.declared.view.SeatNotes.{SeatNotes}
+use Rattle.tallies.{specs.declared.view.{HartNotes.HartNotes, SeatNotes.SeatNotes}, proofs.Logs.{log_mine, log_other, left_then}}
 use Rattle.tallies.proofs.Totals.{total-append, total-set, at_most_total, two_at_most_total, total_split, total_join}
-use Rattle.tallies.proofs.Logs.{log_mine, log_other, left_then}
 use Rattle.tallies.proofs.Noted.{is_of_same, none_left, seats_noted, Spot, spot, parted, in_first, in_rest, in_append, opens_seated, opens_none, opens_each}
 
 -- ---- what holds of each hart of each seat

@@ -1,9 +1,7 @@
 -- A life in which no reset and no suspension was asked for, and a bus on which no board dozes.
 use Rattle.std.proofs.Common.{◌≡◌, List, [], None, sym, subst}
 use Rattle.board_model.specs.Durable.{Change}
-use Rattle.hart_threads.specs.Bused.{begun_bus}
-use Rattle.hart_threads.specs.LifeEnds.{AllEndAs, IsEndedAs}
-use Rattle.hart_threads.proofs.LifeEnding.{none_end}
+use Rattle.hart_threads.{specs.{Bused.begun_bus, LifeEnds.{AllEndAs, IsEndedAs}}, proofs.LifeEnding.none_end}
 use Rattle.store.specs.Lives.{Life}
 use Rattle.susp.specs.declared.buses.Bus.{Bus}
 

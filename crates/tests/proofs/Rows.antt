@@ -1,11 +1,8 @@
 -- The harts of a seat that is parted and joined.
 use Rattle.std.proofs.Common.{◌≡◌, ℕ, ◌+◌, List, [], ◌∷◌, ◌++◌, length, refl, sym, ap, ◌∙◌, take, drop, arith, eq-eqb}
 use Rattle.std.proofs.lemmas.List.{map-append, take-append-drop}
-use Rattle.tallies.specs.Sums.{total}
-use Rattle.tallies.proofs.Totals.{total-append}
-use Rattle.ipi.specs.Ledger.{PendingView, PendingSeatView}
-use Rattle.tallies.specs.Notes.{numbers, is_of, seats, first_hart, other_harts, together}
-use Rattle.ipi.specs.Pairs.{SameHarts}
+use Rattle.tallies.{specs.{Sums.total, Notes.{numbers, is_of, seats, first_hart, other_harts, together}}, proofs.Totals.total-append}
+use Rattle.ipi.specs.{Ledger.{PendingView, PendingSeatView}, Pairs.SameHarts}
 use Rattle.tests.specs.Crowd.{AreFrom}
 
 -- a seat of the first hart alone has it

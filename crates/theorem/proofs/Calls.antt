@@ -1,9 +1,7 @@
 -- What the store says of its calls, as events.
 use Rattle.std.proofs.Common.{◌≡◌, ◌∙◌, ◌⊎◌, inl, inr, ℕ, List, [], ◌∷◌, ◌++◌, Some, None, Result, Ok, Err, Bool, true, false, refl, sym, ap, subst}
-use Rattle.board_model.specs.Durable.{DurableState, Image, Change, Consume, refusal_of, after, ends_life}
-use Rattle.board_model.proofs.Table.{of_table}
-use Rattle.board_model.specs.declared.refusal.Refusal.{Refusal}
-use Rattle.board_model.specs.declared.refusal.Refusal.TheVariants.{BadShape, Device, Down, Over, JournalFull, Memory}
+use Rattle.board_model.{specs.Durable.{DurableState, Image, Change, Consume, refusal_of, after, ends_life}, proofs.Table.of_table}
+use Rattle.board_model.specs.declared.refusal.Refusal.{Refusal, TheVariants.{BadShape, Device, Down, Over, JournalFull, Memory}}
 use Rattle.hart.specs.State.{ArchState as HartState}
 use Rattle.susp.specs.Wakes.{IsWoken}
 use Rattle.store.specs.Lives.{Life, now_of, begun, Reaches, Refused, Applied, SuspendRefused, SuspendApplied, Suspended}

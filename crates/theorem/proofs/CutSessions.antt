@@ -1,21 +1,15 @@
 -- What a crash left while a session ran.
 use Rattle.std.proofs.Common.{◌≡◌, ◌∙◌, ◌⊎◌, ◌≤◌, ◌<◌, ◌+◌, ◌-◌, ℕ, suc, List, [], ◌∷◌, ◌++◌, false, inl, inr, sym, ap, subst, length, take, slice_index, arith}
-use Rattle.std.proofs.lemmas.List.{append_assoc, length-append, take-append-le}
-use Rattle.std.proofs.Math.Logic.{∥∥₁_elim, ∥∥₁_map, ∥∥₁_prop}
+use Rattle.std.proofs.{lemmas.List.{append_assoc, length-append, take-append-le}, Math.Logic.{∥∥₁_elim, ∥∥₁_map, ∥∥₁_prop}}
 use Rattle.std.specs.Option.{option_to_list}
-use Rattle.board_model.specs.Durable.{DurableState, Change, after, fold}
-use Rattle.board_model.specs.Shapes.{Size}
+use Rattle.board_model.specs.{Durable.{DurableState, Change, after, fold}, Shapes.Size}
 use Rattle.disk.specs.Facts.{Content, Facts}
-use Rattle.store.specs.Leaves.{LeavesOnly, LeftAsBefore}
-use Rattle.store.specs.Standing.{StandsFor}
-use Rattle.board.specs.Moments.{IsAlong, MayLeave}
-use Rattle.board.proofs.Issued.{stands_alone}
-use Rattle.hart_threads.specs.Heard.{Hearing}
-use Rattle.hart_threads.specs.Since.{IsOfFirst, sent}
+use Rattle.store.specs.{Leaves.{LeavesOnly, LeftAsBefore}, Standing.StandsFor}
+use Rattle.board.{specs.Moments.{IsAlong, MayLeave}, proofs.Issued.stands_alone}
+use Rattle.hart_threads.specs.{Heard.Hearing, Since.{IsOfFirst, sent}}
 use Rattle.board_session.specs.Sessions.{LeftBefore}
 use Rattle.board_files.specs.Files.{FileKnown, Unknown, Known, IfKnown, AllowedSince, LeavesNoMore}
-use Rattle.theorem.specs.Sessions.{IsCutAnywhere, KeepsJournal, KeepsSession}
-use Rattle.theorem.proofs.PowerLost.{OneStanding}
+use Rattle.theorem.{specs.Sessions.{IsCutAnywhere, KeepsJournal, KeepsSession}, proofs.PowerLost.OneStanding}
 
 -- some first of these commands make it
 along : (cs : List Change) (s t : DurableState) → IsAlong cs s t → (k : ℕ) × (k ≤ length cs) × (t ≡ fold s (take k cs))

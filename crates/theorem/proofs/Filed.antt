@@ -1,19 +1,10 @@
 -- Commands over a disk that is kept in a file.
-use Rattle.std.proofs.Common.{◌≡◌, ◌⊎◌, ◌∙◌, ◌≤◌, ◌+◌, ℕ, List, Option, inl, inr, sym, ap, subst, arith}
-use Rattle.std.proofs.Math.Logic.{∥∥₁_map}
-use Rattle.board_model.specs.Durable.{DurableState}
-use Rattle.board_model.specs.Shapes.{Size}
-use Rattle.board_model.specs.declared.durable.Command.{Command}
-use Rattle.board_model.specs.declared.refusal.Refusal.{Refusal}
+use Rattle.std.proofs.{Common.{◌≡◌, ◌⊎◌, ◌∙◌, ◌≤◌, ◌+◌, ℕ, List, Option, inl, inr, sym, ap, subst, arith}, Math.Logic.∥∥₁_map}
+use Rattle.board_model.specs.{Durable.DurableState, Shapes.Size, declared.{durable.Command.Command, refusal.Refusal.Refusal}}
 use Rattle.disk.specs.Facts.{Content, Facts, IsFresh, Unchanged}
 use Rattle.board_files.specs.Files.{FileKnown, Unknown, Known, IfKnown, LeavesNoMore, EverAllowed}
-use Rattle.store.specs.Answers.{StoreView, Opened}
-use Rattle.store.specs.Leaves.{IsSettled, LeftAsBefore}
-use Rattle.store.specs.Lives.{now_of}
-use Rattle.store.specs.Standing.{StandsFor}
-use Rattle.theorem.specs.Files.{KeepsCommands}
-use Rattle.theorem.specs.Prefixes.{IsAfterFirst, in_doubt}
-use Rattle.theorem.proofs.PowerLost.{OneStanding}
+use Rattle.store.specs.{Answers.{StoreView, Opened}, Leaves.{IsSettled, LeftAsBefore}, Lives.now_of, Standing.StandsFor}
+use Rattle.theorem.{specs.{Files.KeepsCommands, Prefixes.{IsAfterFirst, in_doubt}}, proofs.PowerLost.OneStanding}
 
 module _ (one : OneStanding) (memory made : Facts) (size : Size) (s : DurableState) (fresh : IsFresh memory.content memory) (same : Unchanged memory made) (stands : StandsFor memory.content size s) where
   -- a crash of a disk that was just made leaves what stands for s

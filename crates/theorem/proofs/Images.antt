@@ -1,22 +1,15 @@
 -- Each image is a suspension's, and goes on once: the images that an open may find are of the suspensions that may stand.
 use Rattle.std.proofs.Common.{◌≡◌, ◌⊎◌, ◌∙◌, ℕ, true, false, List, [], ◌∷◌, Some, None, inl, inr, refl, sym, ap, subst}
-use Rattle.board_model.proofs.Attempts.{attempt_image}
+use Rattle.board_model.{proofs.Attempts.attempt_image, specs.{Shapes.Size, Views.change_of, declared.durable.Command.Command}}
 use Rattle.board_model.specs.Durable.{DurableState, Image, Change, Suspend, Consume, Discard, Attempt, after}
-use Rattle.board_model.specs.Shapes.{Size}
-use Rattle.board_model.specs.Views.{change_of}
-use Rattle.board_model.specs.declared.durable.Command.{Command}
+use Rattle.board_model.specs.declared.refusal.Refusal.{Refusal, TheVariants.{Device, Down, NoImage, Memory}}
 use Rattle.board_model.specs.declared.durable.Command.TheVariants as commands
-use Rattle.board_model.specs.declared.refusal.Refusal.{Refusal}
-use Rattle.board_model.specs.declared.refusal.Refusal.TheVariants.{Device, Down, NoImage, Memory}
 use Rattle.disk.specs.FaultState.{FaultState}
 use Rattle.hart.specs.State.{ArchState, started}
 use Rattle.theorem.specs.Story.{Now, begin, settled, acknowledged, Fails, May, Opens, Decides, Stops, Commands, Loads, Resumes, Step, Tells}
-use Rattle.theorem.specs.Images.{standing, IsOf, IsOfOne, MayShow, ShowsSuspended}
-use Rattle.theorem.specs.declared.asks.Asked.{Asked}
+use Rattle.theorem.specs.{Images.{standing, IsOf, IsOfOne, MayShow, ShowsSuspended}, declared.asks.{Asked.Asked, Seen.Seen}}
+use Rattle.theorem.{specs.declared.asks.Seen.TheVariants.{Opened, Acked, Read, Woke, Denied, NotOpen, Done}, proofs.Stays.no_doubt}
 use Rattle.theorem.specs.declared.asks.Asked.TheVariants as asked
-use Rattle.theorem.specs.declared.asks.Seen.{Seen}
-use Rattle.theorem.specs.declared.asks.Seen.TheVariants.{Opened, Acked, Read, Woke, Denied, NotOpen, Done}
-use Rattle.theorem.proofs.Stays.{no_doubt}
 
 -- the image is that suspension's
 abbrev IsImage : Change → Image → Type 0

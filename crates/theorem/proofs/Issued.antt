@@ -1,20 +1,13 @@
 -- What is seen of a command and of a suspension that found no other in doubt.
 use Rattle.std.proofs.Common.{◌≡◌, ◌∙◌, ◌+◌, ◌<◌, ℕ, List, Some, None, Result, Ok, Err, MatchResult, inl, inr, refl, sym, ap, subst, length, true, false}
-use Rattle.board_model.specs.Durable.{DurableState, Change, Suspend, refusal_of}
-use Rattle.board_model.specs.Shapes.{Size}
-use Rattle.board_model.specs.Views.{number_of_refusal}
-use Rattle.board_model.proofs.Table.{of_table}
-use Rattle.board_model.specs.declared.refusal.Refusal.{Refusal}
+use Rattle.board_model.specs.{Durable.{DurableState, Change, Suspend, refusal_of}, Shapes.Size, Views.number_of_refusal}
+use Rattle.board_model.{proofs.Table.of_table, specs.declared.refusal.Refusal.Refusal}
 use Rattle.board_model.specs.declared.refusal.Refusal.TheVariants.{NotFormatted, AlreadyFormatted, BadShape, BadRecord, Device, Down, Over, NoImage, BadSlot, JournalFull, Memory, SerialsSpent, BadImage, BadScript, ImageThere, Output, NotPlain, NotDozing, BadTries, NoTrial}
 use Rattle.disk.specs.FaultState.{FaultState}
-use Rattle.store.specs.Answers.{StoreView}
-use Rattle.store.specs.Follows.{FitsBoard}
-use Rattle.store.specs.Lives.{now_of, Refused, Applied, SuspendRefused, SuspendApplied, Suspended}
+use Rattle.store.specs.{Answers.StoreView, Follows.FitsBoard, Lives.{now_of, Refused, Applied, SuspendRefused, SuspendApplied, Suspended}}
 use Rattle.store.specs.Opens.{CausedRefusal}
-use Rattle.theorem.specs.Story.{Now, acknowledged, Takes, Fits, Checks, Commands}
-use Rattle.theorem.specs.Told.{IsOn, seen_of}
-use Rattle.theorem.specs.declared.asks.Seen.TheVariants.{Denied}
-use Rattle.theorem.proofs.Stays.{moved, still, takes, goes, made, doubted, reseen}
+use Rattle.theorem.specs.{Story.{Now, acknowledged, Takes, Fits, Checks, Commands}, Told.{IsOn, seen_of}}
+use Rattle.theorem.{specs.declared.asks.Seen.TheVariants.Denied, proofs.Stays.{moved, still, takes, goes, made, doubted, reseen}}
 
 -- what the table refuses has no cause on the disk
 table_calm : (s : DurableState) (c : Change) (e : Refusal) (m n : FaultState) → refusal_of s c ≡ Some (number_of_refusal e) → CausedRefusal m e n → n ≡ m

@@ -1,10 +1,7 @@
 -- A story goes on by one step.
-use Rattle.std.proofs.Common.{◌≡◌, ◌+◌, ◌<◌, ℕ, List, [], ◌∷◌, ◌++◌, refl, sym, subst, length, get_or, take}
-use Rattle.std.proofs.lemmas.List.{take_more}
+use Rattle.std.proofs.{Common.{◌≡◌, ◌+◌, ◌<◌, ℕ, List, [], ◌∷◌, ◌++◌, refl, sym, subst, length, get_or, take}, lemmas.List.take_more}
 use Rattle.board_model.specs.Shapes.{Size}
-use Rattle.theorem.specs.Story.{Now, Step, Tells}
-use Rattle.theorem.specs.declared.asks.Asked.{Asked}
-use Rattle.theorem.specs.declared.asks.Seen.{Seen}
+use Rattle.theorem.specs.{Story.{Now, Step, Tells}, declared.asks.{Asked.Asked, Seen.Seen}}
 
 one_more : (size : Size) (w u v : Now) (asks : List Asked) (answers : List Seen) (ask : Asked) (answer : Seen) → Tells size w asks answers u → Step size u ask answer v → Tells size w (asks ++ ask ∷ []) (answers ++ answer ∷ []) v
 one_more size w u v [] [] ask answer told step = (v, subst (λ (x : Now). Step size x ask answer v) told step, refl)

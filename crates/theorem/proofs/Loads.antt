@@ -1,19 +1,13 @@
 -- What is seen of a load and of a resume.
 use Rattle.std.proofs.Common.{◌≡◌, ◌⊎◌, ◌∙◌, ℕ, List, Option, Some, None, Ok, Err, inl, inr, refl, sym, ap, subst}
-use Rattle.board_model.specs.Durable.{DurableState, Image, Consume, IsWhole}
-use Rattle.board_model.specs.Shapes.{Size}
-use Rattle.board_model.specs.declared.refusal.Refusal.{Refusal}
+use Rattle.board_model.specs.{Durable.{DurableState, Image, Consume, IsWhole}, Shapes.Size, declared.refusal.Refusal.Refusal}
 use Rattle.board_model.specs.declared.refusal.Refusal.TheVariants.{Device, NoImage}
 use Rattle.disk.specs.FaultState.{FaultState, Cause}
 use Rattle.hart.specs.State.{ArchState}
-use Rattle.store.specs.Answers.{StoreView, Answered}
-use Rattle.store.specs.Lives.{now_of, Applied, IsLoaded, LoadRefused}
+use Rattle.store.specs.{Answers.{StoreView, Answered}, Lives.{now_of, Applied, IsLoaded, LoadRefused}}
 use Rattle.susp.specs.Wakes.{IsWoken}
-use Rattle.theorem.specs.Story.{Now, Loads, Resumes}
-use Rattle.theorem.specs.Told.{IsOn}
-use Rattle.theorem.specs.declared.asks.Seen.TheVariants.{Read, Woke, Denied}
-use Rattle.theorem.proofs.Stays.{moved, still}
-use Rattle.theorem.proofs.Issued.{issued}
+use Rattle.theorem.specs.{Story.{Now, Loads, Resumes}, Told.IsOn, declared.asks.Seen.TheVariants.{Read, Woke, Denied}}
+use Rattle.theorem.proofs.{Stays.{moved, still}, Issued.issued}
 
 module _ (size : Size) (w : Now) (old new : StoreView) (on : IsOn size w old) (board : new.size ≡ old.size) where
   pub whole_now : IsWhole old.size (now_of old.life)

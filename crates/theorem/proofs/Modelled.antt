@@ -1,71 +1,37 @@
 -- What the store answers a hart of a board, as the model board has it.
 use Rattle.std.proofs.Common.{◌≡◌, ◌∙◌, ◌⊎◌, ⊎_elim, inl, inr, ℕ, zero, suc, Bool, true, false, not, List, Option, None, Some, Result, Ok, Err, refl, sym, ap, subst, ◌<◌, length, [], ◌∷◌, ◌++◌, arith}
-use Rattle.std.specs.Prelude.{IfOk, slice_set, is_some}
-use Rattle.std.proofs.lemmas.Bool.{cases_eq}
-use Rattle.std.proofs.lemmas.List.{get_or-set_other, set-get_or, length-set}
-use Rattle.board.specs.Begins.{IsBegun, IsResumed}
-use Rattle.board.specs.Boots.{booted, life_after, payload_at}
-use Rattle.board.specs.Moments.{attempts_of}
-use Rattle.board.specs.PowersOn.{IsOn}
+use Rattle.std.{specs.Prelude.{IfOk, slice_set, is_some}, proofs.lemmas.{Bool.cases_eq, List.{get_or-set_other, set-get_or, length-set}}}
+use Rattle.board.specs.{Begins.{IsBegun, IsResumed}, Boots.{booted, life_after, payload_at}, Moments.attempts_of, PowersOn.IsOn}
+use Rattle.board.specs.Turns.{TurnsHeld, Comes as ComesOf}
 use Rattle.board_model.specs.Durable.{DurableState, Image, Change, Reset, Suspend, after, attempted, booted_by, fold, refusal_of}
-use Rattle.board_model.specs.Views.{number_of_refusal, reason_number}
-use Rattle.board_model.specs.declared.boot_mode.BootMode.{BootMode}
-use Rattle.board_model.specs.declared.boot_mode.BootMode.TheVariants as modes
-use Rattle.board_model.specs.declared.durable.Trial.{Trial}
-use Rattle.board_model.specs.Shapes.{Size, IsValidAddress}
-use Rattle.board_model.specs.declared.durable.Reason.{Reason}
-use Rattle.board_model.specs.declared.refusal.Refusal.{Refusal}
+use Rattle.board_model.specs.{Views.{number_of_refusal, reason_number}, declared.{boot_mode.BootMode.BootMode, durable.Trial.Trial}}
+use Rattle.board_model.specs.{Shapes.{Size, IsValidAddress}, declared.{durable.Reason.Reason, refusal.Refusal.Refusal}}
 use Rattle.board_model.specs.declared.refusal.Refusal.TheVariants.{BadShape, Device, Down, JournalFull, Memory, Over as OverRefusal}
-use Rattle.disk.specs.declared.device.Disk.{Ghosts}
-use Rattle.disk.specs.declared.device.Lane.{Ghosts as Lanes}
+use Rattle.board_model.proofs.Table.{of_table}
+use Rattle.board_model.specs.declared.boot_mode.BootMode.TheVariants as modes
+use Rattle.disk.specs.{declared.{device.{Disk.Ghosts, Lane.{Ghosts as Lanes}}}, Facts.{Content, Facts, LeavesSince}}
 use Rattle.hart.specs.State.{ArchState, never_started, answered, started as fresh}
-use Rattle.hsm.specs.States.{HartState}
-use Rattle.hsm.specs.Views.{listed}
-use Rattle.sbi_abi.specs.Answers.{error_of}
-use Rattle.sbi_abi.specs.Calls.{call_of}
-use Rattle.sbi_abi.specs.declared.call.Call.{Call}
-use Rattle.sbi_abi.specs.declared.call.Call.TheVariants as calls
-use Rattle.sbi_abi.specs.declared.ret.SbiError.{SbiError}
+use Rattle.hsm.specs.{States.HartState, Views.listed}
+use Rattle.sbi_abi.specs.{Answers.error_of, Calls.call_of, declared.{call.Call.Call, ret.SbiError.SbiError}}
 use Rattle.sbi_abi.specs.declared.ret.SbiError.TheVariants.{Failed, NotSupported, Denied}
-use Rattle.sbi_calls.specs.Both.{TableState}
-use Rattle.sbi_calls.specs.declared.words.Did.TheVariants.{Next}
-use Rattle.sbi_calls.specs.declared.words.Turned.{Turned}
-use Rattle.sbi_calls.specs.declared.words.Turned.TheVariants.{Made, Durable}
-use Rattle.sbi.specs.Helds.{HeldIn, MakesReset, EndsReset, EndsSleep, Refuses}
-use Rattle.sbi.specs.Resets.{reset_of}
-use Rattle.sbi.specs.declared.resets.ResetType.{ResetType}
-use Rattle.sbi.specs.declared.resets.ResetType.TheVariants.{Shutdown, ColdReboot}
-use Rattle.sbi.specs.declared.words.Word.{Word}
-use Rattle.sbi.specs.declared.words.Word.TheVariants.{Goes}
-use Rattle.store.specs.Answers.{StoreView}
-use Rattle.store.specs.Asked.{Asked}
-use Rattle.store.specs.Follows.{FitsBoard}
-use Rattle.store.specs.Lives.{Life, now_of, Refused as CommandRefused, Applied, Suspended}
-use Rattle.store.specs.Views.{disk_of, size_of_store, life_of, doubt_of}
-use Rattle.store.specs.declared.stores.Store.{Store}
-use Rattle.susp.specs.Checks.{IsChecked, to_disk}
-use Rattle.susp.specs.Dozes.{dozing, doze_of}
+use Rattle.sbi_abi.specs.declared.call.Call.TheVariants as calls
+use Rattle.sbi_calls.specs.{Both.TableState, declared.words.{Did.TheVariants.Next, Turned.{Turned, TheVariants.{Made, Durable}}}}
+use Rattle.sbi.specs.{Helds.{HeldIn, MakesReset, EndsReset, EndsSleep, Refuses}, Resets.reset_of, declared.resets.ResetType.ResetType}
+use Rattle.sbi.specs.declared.{resets.ResetType.TheVariants.{Shutdown, ColdReboot}, words.Word.{Word, TheVariants.Goes}}
+use Rattle.store.specs.{Answers.StoreView, Asked.Asked, Follows.FitsBoard, Views.{disk_of, size_of_store, life_of, doubt_of}}
+use Rattle.store.specs.{Lives.{Life, now_of, Refused as CommandRefused, Applied, Suspended}, declared.stores.Store.Store}
+use Rattle.store.specs.Leaves.{IsKept, Leaves, LeavesOnly, StandsForEither}
+use Rattle.susp.specs.{Checks.{IsChecked, to_disk}, Dozes.{dozing, doze_of}, declared.{buses.{Bus.Bus, Doze.Doze}, sleeps.Sleep.Sleep}}
 use Rattle.susp.specs.Sleeps.{Answers, AsksToSleep, Dozes, FallsAsleepBy, SleepsAlone, SleepsBy}
-use Rattle.susp.specs.declared.buses.Bus.{Bus}
-use Rattle.susp.specs.declared.buses.Doze.{Doze}
-use Rattle.susp.specs.declared.sleeps.Sleep.{Sleep}
 use Rattle.susp.specs.declared.sleeps.Sleep.TheVariants.{ToRam, ToDisk}
 use Rattle.turns.specs.Turns.{Moment}
-use Rattle.machine.specs.Durables.{bus_at, MakesCall}
-use Rattle.machine.proofs.Opening.{long, stopped_numbered}
+use Rattle.machine.{specs.{Durables.{bus_at, MakesCall}, Held.AreNumbered}, proofs.{Opening.{long, stopped_numbered}, Asking.IsOneNumber}}
 use Rattle.machine.specs.Machine.{Machine, hart_at, machine_begun, stopped_harts, woken}
 use Rattle.machine.specs.Turns.{moment_of, with_moment, DozeTurn, MakesTurn, TurnBy}
 use Rattle.model_board.specs.Boards as models
 use Rattle.model_board.specs.Boards.{Standing, Board, On, Off, image_of, powered, powered_by, standing_of}
 use Rattle.model_board.specs.Held.{HeldBy, AsksStore, IsAlone, Sleeps, after_reset, reset_by, refused, slept_by, with_hart}
-use Rattle.machine.proofs.Asking.{IsOneNumber}
-use Rattle.machine.specs.Held.{AreNumbered}
-use Rattle.board.specs.Turns.{TurnsHeld, Comes as ComesOf}
-use Rattle.model_board.proofs.Kept.{numbered_with, turn_kept}
-use Rattle.model_board.specs.Events.{Event, Turn, Refused, Cut, Does, TurnOn}
-use Rattle.disk.specs.Facts.{Content, Facts, LeavesSince}
-use Rattle.store.specs.Leaves.{IsKept, Leaves, LeavesOnly, StandsForEither}
-use Rattle.board_model.proofs.Table.{of_table}
+use Rattle.model_board.{proofs.Kept.{numbered_with, turn_kept}, specs.Events.{Event, Turn, Refused, Cut, Does, TurnOn}}
 use Rattle.theorem.specs.Models.{image_kept, kept_of, shown_on, shown_after, IsTurnOf, IsOfBoard, IsLeftBy, rule_by}
 
 fold_more : (s : DurableState) (cs : List Change) (c : Change) → fold s (cs ++ c ∷ []) ≡ after (fold s cs) c

@@ -1,25 +1,14 @@
 -- A disk in a story without a store: it is opened, left by a store, armed or cut.
 use Rattle.std.proofs.Common.{◌≡◌, ◌⊎◌, ◌∙◌, Option, Some, None, inl, inr, refl, sym, ap, subst, length, true, false}
-use Rattle.board_model.specs.Durable.{DurableState, Change, formatted, after, IsWhole}
-use Rattle.board_model.specs.Shapes.{Size}
-use Rattle.board_model.specs.Views.{durable_of}
-use Rattle.board_model.specs.declared.durable.Durable.{Durable}
-use Rattle.board_model.specs.declared.refusal.Refusal.{Refusal}
-use Rattle.board_model.specs.declared.refusal.Refusal.TheVariants.{Device, Memory}
-use Rattle.disk.specs.Facts.{Content, Facts, Unchanged, IsLeft}
-use Rattle.disk.specs.FaultState.{FaultState, fault_state_left, fault_state_armed}
+use Rattle.board_model.specs.{Durable.{DurableState, Change, formatted, after, IsWhole}, Shapes.Size, Views.durable_of}
+use Rattle.board_model.specs.declared.{durable.Durable.Durable, refusal.Refusal.{Refusal, TheVariants.{Device, Memory}}}
+use Rattle.disk.specs.{Facts.{Content, Facts, Unchanged, IsLeft}, FaultState.{FaultState, fault_state_left, fault_state_armed}}
 use Rattle.disk.specs.declared.device.ArmedFault.{ArmedFault}
 use Rattle.store.specs.Answers as answers
-use Rattle.store.specs.Answers.{StoreView}
-use Rattle.store.specs.Leaves.{IsKept, Leaves, LeavesOnly, LeavesEither, NoMore}
-use Rattle.store.specs.Lives.{Life, now_of}
-use Rattle.store.specs.Opens.{CausedRefusal}
-use Rattle.store.specs.Standing.{StandsFor}
-use Rattle.theorem.specs.Story.{Now, begin, settled, May, Opens}
-use Rattle.theorem.specs.Told.{IsOn, IsOff, Rests, unpowered, arming, cut_off}
-use Rattle.theorem.specs.declared.asks.Seen.{Seen}
-use Rattle.theorem.specs.declared.asks.Seen.TheVariants.{Opened, Denied}
-use Rattle.theorem.proofs.Stays.{no_doubt}
+use Rattle.store.specs.{Answers.StoreView, Leaves.{IsKept, Leaves, LeavesOnly, LeavesEither, NoMore}, Lives.{Life, now_of}}
+use Rattle.store.specs.{Opens.CausedRefusal, Standing.StandsFor}
+use Rattle.theorem.specs.{Story.{Now, begin, settled, May, Opens}, Told.{IsOn, IsOff, Rests, unpowered, arming, cut_off}}
+use Rattle.theorem.{specs.declared.asks.Seen.{Seen, TheVariants.{Opened, Denied}}, proofs.Stays.no_doubt}
 
 -- of a disk of which a crash leaves no more
 fewer_kept : (old new : Facts) (size : Size) → ((c : Content) → new.may_leave c → old.may_leave c) → IsKept old size → IsKept new size

@@ -1,25 +1,15 @@
 -- What a session promises over a disk that stands for one state, and what an open then finds.
 use Rattle.std.proofs.Common.{◌≡◌, ◌⊎◌, ◌∙◌, ℕ, List, Bool, false, Option, Some, None, inl, inr, refl, sym, subst}
-use Rattle.board_model.specs.Durable.{DurableState, Change, after, fold, refusal_of}
-use Rattle.board_model.specs.Shapes.{Size}
-use Rattle.board_model.specs.declared.boot_mode.BootMode.{BootMode}
+use Rattle.board_model.specs.{Durable.{DurableState, Change, after, fold, refusal_of}, Shapes.Size, declared.boot_mode.BootMode.BootMode}
 use Rattle.board_model.specs.declared.durable.Entry.{Entry}
 use Rattle.disk.specs.Facts.{Facts, IsLeft, Failed}
-use Rattle.store.specs.Leaves.{Leaves}
-use Rattle.store.specs.Standing.{StandsFor}
-use Rattle.board.specs.Begins.{IsBegun}
-use Rattle.board.specs.Moments.{commands_by}
+use Rattle.store.specs.{Leaves.Leaves, Standing.StandsFor}
+use Rattle.board.specs.{Begins.IsBegun, Moments.commands_by, Unbooted.LeavesLife}
 use Rattle.machine.specs.Machine.{Machine}
-use Rattle.board.specs.Unbooted.{LeavesLife}
-use Rattle.hart_threads.specs.Doubts.{IsDoubtOf}
-use Rattle.hart_threads.specs.Heard.{Hearing}
-use Rattle.board_session.specs.Commands.{party}
-use Rattle.board_session.specs.Dialogues.{DialogueEnds, Written, dialogue_ends}
-use Rattle.board_session.specs.declared.talks.Left.{Left}
+use Rattle.hart_threads.specs.{Doubts.IsDoubtOf, Heard.Hearing, declared.ends.HartEnd.HartEnd}
+use Rattle.board_session.specs.{Commands.party, Dialogues.{DialogueEnds, Written, dialogue_ends}, declared.talks.Left.Left}
 use Rattle.board_session.specs.Sessions.{Begins, IsOfLife, TalksIf, LeftBefore, RanOver, said_since}
-use Rattle.hart_threads.specs.declared.ends.HartEnd.{HartEnd}
-use Rattle.theorem.specs.Sessions.{FindsSession, KeepsJournal}
-use Rattle.theorem.proofs.PowerLost.{OneStanding}
+use Rattle.theorem.{specs.Sessions.{FindsSession, KeepsJournal}, proofs.PowerLost.OneStanding}
 
 -- of a life that began in s, with that board: its disk, and what was read and answered
 abbrev pub IsSession : Size → DurableState → BootMode → List (List ℕ) → Facts → Facts → List ℕ → Option Left → DialogueEnds → Option (List ℕ) → Written → Hearing → Type 0

@@ -2,8 +2,7 @@
 use Rattle.std.proofs.Common.{◌≡◌, ◌∙◌, ℕ, List, Result, Ok, sym, ap, subst}
 use Rattle.board_model.specs.declared.refusal.Refusal.{Refusal}
 use Rattle.disk.specs.Facts.{Facts}
-use Rattle.script_lang.specs.Scripts.{script_of, Script as Said}
-use Rattle.script_lang.specs.Spellings.{script_text}
+use Rattle.script_lang.specs.{Scripts.{script_of, Script as Said}, Spellings.script_text}
 use Rattle.report_lines.specs.declared.printed.Answer.{Answer}
 use Rattle.bench_report.specs.Laws.{KeepsLaws}
 

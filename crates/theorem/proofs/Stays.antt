@@ -2,12 +2,9 @@
 use Rattle.std.proofs.Common.{◌≡◌, ◌∙◌, ◌+◌, ◌<◌, ◌++◌, ◌∷◌, ℕ, List, [], Option, Some, None, inl, inr, refl, sym, ap, subst, length, false}
 use Rattle.std.proofs.lemmas.List.{length_push}
 use Rattle.board_model.specs.Durable.{DurableState, Change, Suspend, refusal_of, after, fold, ends_life, IsWhole, CarriesWhole}
-use Rattle.board_model.specs.Shapes.{Size}
-use Rattle.board_model.proofs.Steps.{whole_after}
-use Rattle.store.specs.Answers.{StoreView}
-use Rattle.store.specs.Lives.{Life, now_of, Reaches, IsReseen}
-use Rattle.theorem.specs.Story.{Now, acknowledged, May, Takes, Fits, Decides}
-use Rattle.theorem.specs.Told.{IsOn}
+use Rattle.board_model.{specs.Shapes.Size, proofs.Steps.whole_after}
+use Rattle.store.specs.{Answers.StoreView, Lives.{Life, now_of, Reaches, IsReseen}}
+use Rattle.theorem.specs.{Story.{Now, acknowledged, May, Takes, Fits, Decides}, Told.IsOn}
 
 pub no_doubt : (o : Option Change) (d : Change) → o ≡ None → o ≡ Some d → ⊥
 no_doubt o d none some = let no : None ≡ Some d = sym none ∙ some in cc

@@ -1,12 +1,8 @@
 -- A call of a store is a step.
 use Rattle.std.proofs.Common.{◌≡◌, true, false, refl}
 use Rattle.board_model.specs.Shapes.{Size}
-use Rattle.theorem.specs.Story.{Now, Step}
-use Rattle.theorem.specs.Told.{IsCall, Answers}
-use Rattle.theorem.specs.declared.asks.Asked.{Asked}
+use Rattle.theorem.specs.{Story.{Now, Step}, Told.{IsCall, Answers}, declared.asks.{Asked.Asked, Seen.{Seen, TheVariants.NotOpen}}}
 use Rattle.theorem.specs.declared.asks.Asked.TheVariants as asked
-use Rattle.theorem.specs.declared.asks.Seen.{Seen}
-use Rattle.theorem.specs.declared.asks.Seen.TheVariants.{NotOpen}
 
 -- of an open one
 pub as_step : (size : Size) (w v : Now) (a : Asked) (seen : Seen) → IsCall a → w.on ≡ true → Answers size w a seen v → Step size w a seen v

@@ -1,22 +1,12 @@
 -- What is seen of the calls of an open store.
 use Rattle.std.proofs.Common.{◌≡◌, ◌∙◌, ℕ, List, Option, Some, None, Result, Err, inl, refl, sym, subst}
-use Rattle.board_model.specs.Durable.{Change, Suspend}
-use Rattle.board_model.specs.Shapes.{Size}
-use Rattle.board_model.specs.Views.{change_of}
-use Rattle.board_model.specs.declared.durable.Command.{Command}
+use Rattle.board_model.specs.{Durable.{Change, Suspend}, Shapes.Size, Views.change_of, declared.durable.Command.Command}
+use Rattle.board_model.specs.declared.refusal.Refusal.{Refusal, TheVariants.Down}
 use Rattle.board_model.specs.declared.durable.Command.TheVariants as commands
-use Rattle.board_model.specs.declared.refusal.Refusal.{Refusal}
-use Rattle.board_model.specs.declared.refusal.Refusal.TheVariants.{Down}
-use Rattle.disk.specs.declared.device.Disk.{Ghosts}
-use Rattle.disk.specs.declared.device.Lane.{Ghosts as Lanes}
-use Rattle.store.specs.Asked.{Asked}
-use Rattle.store.specs.Follows.{FitsBoard}
-use Rattle.store.specs.Lives.{Applied, Suspended}
-use Rattle.store.specs.Views.{view_of, size_of_store, doubt_of}
+use Rattle.disk.specs.{declared.{device.{Disk.Ghosts, Lane.{Ghosts as Lanes}}}}
+use Rattle.store.specs.{Asked.Asked, Follows.FitsBoard, Lives.{Applied, Suspended}, Views.{view_of, size_of_store, doubt_of}}
 use Rattle.store.specs.declared.stores.Store.{Store}
-use Rattle.theorem.specs.Story.{Now, Fits, Commands}
-use Rattle.theorem.specs.Told.{IsOn, seen_of}
-use Rattle.theorem.proofs.Issued.{issued, suspended}
+use Rattle.theorem.{specs.{Story.{Now, Fits, Commands}, Told.{IsOn, seen_of}}, proofs.Issued.{issued, suspended}}
 
 pub fits_command : (size : Size) (c : Command) → Fits size (change_of c)
 fits_command size (commands.Slot n) = tt

@@ -1,8 +1,7 @@
 -- What holds of a world, from event to event.
 use Rattle.std.proofs.Common.{◌≡◌, ◌∙◌, ⊎_elim, ℕ, ◌+◌, ◌<◌, ◌≤◌, List, [], ◌∷◌, ◌++◌, Option, Some, None, true, refl, sym, ap, subst, arith}
 use Rattle.std.specs.Bool.{⊤}
-use Rattle.board_model.specs.Durable.{DurableState, Image, Change, Consume, formatted, after, fold}
-use Rattle.board_model.proofs.Steps.{by_image, image_after}
+use Rattle.board_model.{specs.Durable.{DurableState, Image, Change, Consume, formatted, after, fold}, proofs.Steps.{by_image, image_after}}
 use Rattle.theorem.specs.Events.{Event, WasOpened, WasAcknowledged, WasRefused, WasDoubtful, WasCut, WasResumed, World, new_world, Finds, serial_of, dropped_by, Happens, Runs, AreBelow, IsAbove, Rises}
 
 -- the image's serial was given out, and no hart with it or a later one was answered

@@ -2,24 +2,14 @@
 -- STARTED.
 use Rattle.std.proofs.Common.{◌≡◌, ℕ, List, Ok, Err, refl, sym, ap, ◌∙◌, subst}
 use Rattle.board_model.specs.Shapes.{Size}
-use Rattle.hart.specs.State.{ArchState}
-use Rattle.hart.specs.declared.Outcome.{Outcome}
+use Rattle.hart.specs.{State.ArchState, declared.Outcome.Outcome}
 use Rattle.hart.specs.declared.Outcome.TheVariants as outcomes
-use Rattle.hsm.specs.Words.{HartView}
-use Rattle.hsm.specs.declared.view.Stage.TheVariants.{Running}
-use Rattle.hsm.specs.Rule.{stands}
+use Rattle.hsm.specs.{Words.HartView, declared.view.Stage.TheVariants.Running, Rule.stands}
 use Rattle.sbi_abi.specs.Calls.{call_of}
 use Rattle.sbi_calls.specs.declared.requests.Request.TheVariants.{Value, Start, Stop, Status, Suspend, SuspendAfresh, Send, Command}
-use Rattle.sbi_calls.specs.declared.endings.Ending.{Ending}
+use Rattle.sbi_calls.specs.{declared.{endings.Ending.Ending, tables.{Tables.Tables, Seats.Seats}}, Both.{Known, GivesBack, Acts, known}}
+use Rattle.sbi_calls.specs.{Requests.{Checked, request_of}, Answers.Ends, Steps.Does, declared.words.Turned.{Turned, TheVariants.Durable}}
 use Rattle.sbi_calls.specs.declared.endings.Ending.TheVariants as endings
-use Rattle.sbi_calls.specs.declared.tables.Tables.{Tables}
-use Rattle.sbi_calls.specs.declared.tables.Seats.{Seats}
-use Rattle.sbi_calls.specs.Both.{Known, GivesBack, Acts, known}
-use Rattle.sbi_calls.specs.Requests.{Checked, request_of}
-use Rattle.sbi_calls.specs.Answers.{Ends}
-use Rattle.sbi_calls.specs.Steps.{Does}
-use Rattle.sbi_calls.specs.declared.words.Turned.{Turned}
-use Rattle.sbi_calls.specs.declared.words.Turned.TheVariants.{Durable}
 use Rattle.turns.specs.Own.{FinishesOwn}
 
 -- ---- a call that is told durable was left to the firmware

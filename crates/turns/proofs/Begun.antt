@@ -1,24 +1,13 @@
 -- What a look at the own state tells of a hart between two turns, and what a turn comes to.
 use Rattle.std.proofs.Common.{◌≡◌, ◌≢◌, ◌⊎◌, ◌↔◌, ℕ, zero, suc, Bool, true, false, true≢false, IsTrue, List, [], ◌∷◌, Some, None, Option, refl, sym, ap, ◌∙◌, subst, ⊎_elim, inl, get_or}
-use Rattle.hsm.specs.declared.view.Stage.TheVariants.{Out, Running, Suspended}
-use Rattle.hsm.specs.Words.{HartView}
-use Rattle.hsm.specs.Rule.{stands}
-use Rattle.hsm.specs.States.{HartState, stopped, start_pending, started, suspended, entry}
-use Rattle.hsm.specs.Calls.{Sits as SitsIn, IsOwnStatus, named}
-use Rattle.hsm.specs.declared.state.State.{State}
+use Rattle.hsm.specs.{declared.{view.Stage.TheVariants.{Out, Running, Suspended}, state.State.State}, Words.HartView, Rule.stands}
+use Rattle.hsm.specs.{States.{HartState, stopped, start_pending, started, suspended, entry}, Calls.{Sits as SitsIn, IsOwnStatus, named}}
 use Rattle.hsm.specs.declared.state.State.TheVariants as codes
-use Rattle.ipi.specs.Ledger.{PendingSeatView}
-use Rattle.ipi.specs.Pairs.{Shows, ActsAlone}
-use Rattle.ipi.specs.Views.{ArePairs, pair_at, row_of}
-use Rattle.sbi_calls.specs.declared.tables.Tables.{Tables}
-use Rattle.sbi_calls.specs.declared.tables.Seats.{Seats}
-use Rattle.sbi_calls.specs.Both.{GivesBack, Known, TableState}
-use Rattle.sbi_calls.specs.Answers.{with_state}
-use Rattle.turns.specs.declared.readies.Ready.{Ready}
-use Rattle.turns.specs.declared.readies.Ready.TheVariants as readies
-use Rattle.turns.specs.Entries.{EntersTaken}
-use Rattle.turns.specs.Own.{TakesOwn, EntersOwn}
+use Rattle.ipi.specs.{Ledger.PendingSeatView, Pairs.{Shows, ActsAlone}, Views.{ArePairs, pair_at, row_of}}
+use Rattle.sbi_calls.specs.{declared.tables.{Tables.Tables, Seats.Seats}, Both.{GivesBack, Known, TableState}, Answers.with_state}
+use Rattle.turns.specs.{declared.readies.Ready.Ready, Entries.EntersTaken, Own.{TakesOwn, EntersOwn}}
 use Rattle.turns.specs.Turns.{RestsAt, IsOutside, has_true, has_pending, after_take, begun_by}
+use Rattle.turns.specs.declared.readies.Ready.TheVariants as readies
 
 -- ---- where the hart stands
 pub sits : (h : ℕ) (vs : List HartView) → RestsAt h vs → SitsIn h vs

@@ -1,19 +1,13 @@
 -- A whole turn with the one seat of all harts.
 use Rattle.std.proofs.Common.{◌≡◌, ℕ, ◌<◌, Bool, List, refl, sym, ap, ◌∙◌, subst}
 use Rattle.board_model.specs.Shapes.{Size}
-use Rattle.hart.specs.State.{ArchState, started as fresh}
-use Rattle.hart.specs.Means.{Steps}
-use Rattle.hart.specs.declared.Outcome.{Outcome}
-use Rattle.sbi_calls.specs.declared.tables.Tables.{Tables}
-use Rattle.sbi_calls.specs.declared.tables.Seats.{Seats}
-use Rattle.sbi_calls.specs.declared.words.Turned.{Turned}
-use Rattle.sbi_calls.specs.declared.words.Did.TheVariants as dids
-use Rattle.sbi_calls.specs.declared.words.Turned.TheVariants.{Made}
-use Rattle.turns.specs.declared.readies.Ready.{Ready}
-use Rattle.turns.specs.declared.readies.Ready.TheVariants as readies
+use Rattle.hart.specs.{State.{ArchState, started as fresh}, Means.Steps, declared.Outcome.Outcome}
+use Rattle.sbi_calls.specs.declared.{tables.{Tables.Tables, Seats.Seats}, words.Turned.{Turned, TheVariants.Made}}
 use Rattle.sbi_calls.specs.Both.{Known, known, GivesBack}
-use Rattle.turns.specs.Own.{BeginsOwn, FinishesOwn, StepsIf, TurnAsOwn, TurnOwn}
+use Rattle.sbi_calls.specs.declared.words.Did.TheVariants as dids
+use Rattle.turns.specs.{declared.readies.Ready.Ready, Own.{BeginsOwn, FinishesOwn, StepsIf, TurnAsOwn, TurnOwn}}
 use Rattle.turns.specs.Turns.{Rests, RestsAs, turn_begun, BeginsAlone, FinishesAlone, TurnAs, TurnsAlone, moment}
+use Rattle.turns.specs.declared.readies.Ready.TheVariants as readies
 
 -- how a turn of the hart begins: its own steps, and with the one seat of all harts
 pub record Comes (size : Size) (s : ArchState) (b c : Seats) (r : Ready) : Type 0 where

@@ -1,6 +1,5 @@
 use Rattle.std.proofs.Common.{◌∙◌, Ok, Err, refl, sym}
-use Rattle.sbistore.proofs.Packed.{some_is}
-use Rattle.sbistore.proofs.Ended.{ends_command}
+use Rattle.sbistore.proofs.{Packed.some_is, Ended.ends_command}
 use Rattle.sbistore.proofs.finish_command.Goals as goal
 
 pub returns-in-Ok : goal.returns-in-Ok

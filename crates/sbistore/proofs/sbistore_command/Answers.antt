@@ -1,12 +1,7 @@
 use Rattle.std.proofs.Common.{◌≡◌, ◌∙◌, [], ap, subst}
-use Rattle.board_model.specs.Durable.{ends_life}
-use Rattle.board_model.specs.Views.{change_of}
-use Rattle.board_model.specs.declared.durable.Command.{Command}
-use Rattle.planned_store.specs.Stores.{PlansCommand}
-use Rattle.planned_store.specs.declared.stores.OpenStore.{OpenStore}
-use Rattle.sbistore.specs.Ends.{flag_number}
-use Rattle.sbistore.proofs.Packed.{some_is}
-use Rattle.sbistore.proofs.Ended.{begun_command, kept_ends}
+use Rattle.board_model.specs.{Durable.ends_life, Views.change_of, declared.durable.Command.Command}
+use Rattle.planned_store.specs.{Stores.PlansCommand, declared.stores.OpenStore.OpenStore}
+use Rattle.sbistore.{specs.Ends.flag_number, proofs.{Packed.some_is, Ended.{begun_command, kept_ends}}}
 use Rattle.sbistore.proofs.sbistore_command.Goals as goal
 
 pub returns-in-Ok-clause-begins : goal.returns-in-Ok-clause-begins

@@ -1,9 +1,6 @@
 use Rattle.std.proofs.Common.{◌≡◌, ◌∙◌, ◌<◌, subst}
-use Rattle.planned_store.specs.Commits.{Answer}
-use Rattle.planned_store.specs.Plans.{Goes}
-use Rattle.planned_store.specs.declared.plans.Plan.{Plan}
-use Rattle.sbistore.specs.Next.{IsAnswer}
-use Rattle.sbistore.proofs.Packed.{some_is, goes_sound}
+use Rattle.planned_store.specs.{Commits.Answer, Plans.Goes, declared.plans.Plan.Plan}
+use Rattle.sbistore.{specs.Next.IsAnswer, proofs.Packed.{some_is, goes_sound}}
 use Rattle.sbistore.proofs.sbistore_next.Goals as goal
 
 pub returns-clause-plans : goal.returns-clause-plans

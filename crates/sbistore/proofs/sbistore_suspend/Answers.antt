@@ -1,10 +1,7 @@
 use Rattle.std.proofs.Common.{subst}
 use Rattle.store.specs.declared.saving.Resumption.{Resumption}
-use Rattle.planned_store.specs.Saves.{NoSave}
-use Rattle.planned_store.specs.declared.stores.OpenStore.{OpenStore}
-use Rattle.sbistore.specs.Images.{resumption}
-use Rattle.sbistore.proofs.Packed.{some_is}
-use Rattle.sbistore.proofs.Saves.{refused_save}
+use Rattle.planned_store.specs.{Saves.NoSave, declared.stores.OpenStore.OpenStore}
+use Rattle.sbistore.{specs.Images.resumption, proofs.{Packed.some_is, Saves.refused_save}}
 use Rattle.sbistore.proofs.sbistore_suspend.Goals as goal
 
 pub returns-in_default-resumption-clause-begins : goal.returns-in_default-resumption-clause-begins

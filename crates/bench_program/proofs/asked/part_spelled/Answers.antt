@@ -1,6 +1,5 @@
-use Rattle.std.proofs.Common.{◌≡◌, ◌∙◌, ◌+◌, ◌-◌, ◌==◌, ℕ, Option, Some, length, take, drop, ap, sym, arith}
+use Rattle.std.{proofs.Common.{◌≡◌, ◌∙◌, ◌+◌, ◌-◌, ◌==◌, ℕ, Option, Some, length, take, drop, ap, sym, arith}, specs.Prelude.position}
 use Rattle.std.proofs.lemmas.List.{length-drop, take_all}
-use Rattle.std.specs.Prelude.{position}
 use Rattle.script_lang.specs.Words.{number_of}
 use Rattle.bench_program.specs.Usage.{part_at, part_between}
 use Rattle.bench_program.proofs.asked.part_spelled.Goals as goal

@@ -1,7 +1,6 @@
 use Rattle.std.proofs.Common.{◌∙◌, ℕ, List, Option, IfSome, ap, codes, refl, subst, sym}
 use Rattle.clap.specs.Words.{first_value, found_of}
-use Rattle.bench_program.specs.Usage.{with_part, with_quiet, with_tap, Flags, IsBounded}
-use Rattle.bench_program.specs.declared.usage.Work.{Work}
+use Rattle.bench_program.specs.{Usage.{with_part, with_quiet, with_tap, Flags, IsBounded}, declared.usage.Work.Work}
 use Rattle.bench_program.proofs.FewRuns.{few_are_asked}
 use Rattle.bench_program.proofs.asked.work_asked.Goals as goal
 

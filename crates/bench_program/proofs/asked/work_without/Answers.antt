@@ -1,9 +1,6 @@
-use Rattle.std.proofs.Common.{◌≡◌, ◌∙◌, ℕ, Bool, List, Option, Some, ap, sym, codes}
-use Rattle.std.specs.Option.{option_map}
-use Rattle.clap.specs.Words.{first_value, found_of}
-use Rattle.clap.specs.declared.parser.matches.Found.{Found}
-use Rattle.bench_program.specs.Usage.{schedules_named, savers_of, without_benches, work_named, work_without}
-use Rattle.bench_program.specs.declared.usage.Work.{Work}
+use Rattle.std.{proofs.Common.{◌≡◌, ◌∙◌, ℕ, Bool, List, Option, Some, ap, sym, codes}, specs.Option.option_map}
+use Rattle.clap.specs.{Words.{first_value, found_of}, declared.parser.matches.Found.Found}
+use Rattle.bench_program.specs.{Usage.{schedules_named, savers_of, without_benches, work_named, work_without}, declared.usage.Work.Work}
 use Rattle.bench_program.proofs.asked.work_without.Goals as goal
 
 asked : (f : Found) (sweep faults : Bool) (runs : List ℕ) (seed show shrink : Option (List ℕ)) (work : Option Work)

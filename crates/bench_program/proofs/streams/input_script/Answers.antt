@@ -1,8 +1,6 @@
-use Rattle.std.proofs.Common.{◌≡◌}
-use Rattle.std.proofs.lemmas.Result.{IfOk-weaker}
+use Rattle.std.proofs.{Common.{◌≡◌}, lemmas.Result.IfOk-weaker}
 use Rattle.script_lang.specs.Scripts.{script_of}
-use Rattle.bench_program.specs.Written.{IsReadOf}
-use Rattle.bench_program.proofs.Ends.{of_what_is_behind}
+use Rattle.bench_program.{specs.Written.IsReadOf, proofs.Ends.of_what_is_behind}
 use Rattle.bench_program.proofs.streams.input_script.Goals as goal
 
 pub returns-in-Ok-clause-said : goal.returns-in-Ok-clause-said

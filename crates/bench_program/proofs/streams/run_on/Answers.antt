@@ -1,20 +1,13 @@
-use Rattle.std.proofs.Common.{◌≡◌, ◌∙◌, ◌⊎◌, ◌<◌, ℕ, Bool, List, [], Option, Err, ap, map}
-use Rattle.std.proofs.lemmas.Result.{IfErr-weaker}
+use Rattle.std.proofs.{Common.{◌≡◌, ◌∙◌, ◌⊎◌, ◌<◌, ℕ, Bool, List, [], Option, Err, ap, map}, lemmas.Result.IfErr-weaker}
 use Rattle.std.specs.Io.Buffered.{writer_buffer, writer_contents, writer_inner}
 use Rattle.clap.specs.Words.{kind_of}
-use Rattle.command_line.specs.Kinds.{no_work}
-use Rattle.command_line.specs.Pipes.{is_closed_pipe, pipe_contents}
+use Rattle.command_line.specs.{Kinds.no_work, Pipes.{is_closed_pipe, pipe_contents}}
 use Rattle.board_model.specs.declared.refusal.Refusal.TheVariants.{Memory}
-use Rattle.bench_program.specs.Faults.{without_work}
-use Rattle.bench_program.specs.Usage.{IsNamedBy, NamesConflict, NamesNoWork}
-use Rattle.bench_program.specs.Written.{AreDone, IsDone, IsFault, IsFaultOf, IsUnread}
-use Rattle.bench_program.specs.declared.fault.BenchFault.{BenchFault}
-use Rattle.bench_program.specs.declared.fault.BenchFault.TheVariants.{Refused, Wrong}
-use Rattle.command_line.specs.declared.NoWork.TheVariants as whys
-use Rattle.bench_program.specs.declared.usage.BenchOptions.{BenchOptions}
-use Rattle.bench_program.proofs.Done.{done_or, wrong_of}
+use Rattle.bench_program.specs.{Faults.without_work, Usage.{IsNamedBy, NamesConflict, NamesNoWork}, declared.fault.BenchFault.BenchFault}
+use Rattle.bench_program.specs.{Written.{AreDone, IsDone, IsFault, IsFaultOf, IsUnread}, declared.usage.BenchOptions.BenchOptions}
+use Rattle.bench_program.{specs.declared.fault.BenchFault.TheVariants.{Refused, Wrong}, proofs.{Done.{done_or, wrong_of}, Told.of_options}}
 use Rattle.bench_program.proofs.Ends.{nothing_more, line_fault, never_wrong}
-use Rattle.bench_program.proofs.Told.{of_options}
+use Rattle.command_line.specs.declared.NoWork.TheVariants as whys
 use Rattle.bench_program.proofs.streams.run_on.Goals as goal
 
 pub returns-in-Ok : goal.returns-in-Ok

@@ -1,12 +1,9 @@
-use Rattle.std.proofs.Common.{◌≡◌, ◌⊎◌, ℕ, [], inr}
-use Rattle.std.proofs.lemmas.Result.{IfErr-weaker}
+use Rattle.std.proofs.{Common.{◌≡◌, ◌⊎◌, ℕ, [], inr}, lemmas.Result.IfErr-weaker}
 use Rattle.std.specs.Io.Buffered.{writer_buffer, writer_contents, writer_inner}
 use Rattle.command_line.specs.Pipes.{is_closed_pipe, pipe_contents}
-use Rattle.bench_program.specs.Written.{AreDone, IsFaultIn, IsFaultOf, IsUnread, IsWritten}
-use Rattle.bench_program.specs.declared.fault.BenchFault.{BenchFault}
-use Rattle.bench_program.specs.declared.fault.BenchFault.TheVariants.{Refused}
+use Rattle.bench_program.specs.{Written.{AreDone, IsFaultIn, IsFaultOf, IsUnread, IsWritten}, declared.fault.BenchFault.BenchFault}
+use Rattle.bench_program.{specs.declared.fault.BenchFault.TheVariants.Refused, proofs.Done.{done_of, wrong_of, over, fault_over}}
 use Rattle.board_model.specs.declared.refusal.Refusal.TheVariants.{Memory}
-use Rattle.bench_program.proofs.Done.{done_of, wrong_of, over, fault_over}
 use Rattle.bench_program.proofs.streams.run_options.Goals as goal
 
 pub returns-clause-done : goal.returns-clause-done

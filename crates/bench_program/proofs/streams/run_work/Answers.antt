@@ -1,8 +1,6 @@
-use Rattle.std.proofs.Common.{◌≡◌, ◌∙◌, Bool, [], IfOk, subst, sym}
-use Rattle.std.specs.Io.Buffered.{writer_buffer, writer_contents, writer_inner}
+use Rattle.std.{proofs.Common.{◌≡◌, ◌∙◌, Bool, [], IfOk, subst, sym}, specs.Io.Buffered.{writer_buffer, writer_contents, writer_inner}}
 use Rattle.command_line.specs.Pipes.{is_closed_pipe, pipe_contents}
-use Rattle.bench_program.specs.Written.{IsMade, IsPut, is_kept, put_text}
-use Rattle.bench_program.proofs.Judged.{did, faults, told_wrong}
+use Rattle.bench_program.{specs.Written.{IsMade, IsPut, is_kept, put_text}, proofs.Judged.{did, faults, told_wrong}}
 use Rattle.bench_program.proofs.streams.run_work.Goals as goal
 
 pub returns-then-is_kept-clause-wrong : goal.returns-then-is_kept-clause-wrong

@@ -1,5 +1,4 @@
-use Rattle.std.proofs.Common.{◌∙◌, List, ℕ, nat_eq, ap, sym}
-use Rattle.std.specs.List.{starts_with}
+use Rattle.std.{proofs.Common.{◌∙◌, List, ℕ, nat_eq, ap, sym}, specs.List.starts_with}
 use Rattle.bench_program.proofs.Tested.{all_left, word_here, word_later}
 use Rattle.bench_program.proofs.taps.has_word.Goals as goal
 

@@ -1,5 +1,4 @@
-use Rattle.std.proofs.Common.{◌≡◌, ◌+◌, ◌≤◌, ◌++◌, ℕ, List, map, drop}
-use Rattle.std.specs.Io.KnownBytes.{Appends}
+use Rattle.std.{proofs.Common.{◌≡◌, ◌+◌, ◌≤◌, ◌++◌, ℕ, List, map, drop}, specs.Io.KnownBytes.Appends}
 use Rattle.bench_program.specs.Taps.{failed_count, failed_lines}
 use Rattle.bench_program.proofs.taps.write_failures.Given as goal
 

@@ -1,6 +1,4 @@
-use Rattle.std.proofs.Common.{◌+◌, ◌++◌, ℕ, List, Bor, [], codes, map, subst}
-use Rattle.std.proofs.lemmas.Result.{on_ok_weaker}
-use Rattle.std.specs.Io.KnownBytes.{Appends}
+use Rattle.std.{proofs.{Common.{◌+◌, ◌++◌, ℕ, List, Bor, [], codes, map, subst}, lemmas.Result.on_ok_weaker}, specs.Io.KnownBytes.Appends}
 use Rattle.bench_program.specs.Taps.{counts_text, failed_count, failed_lines, last_behind, shown_text}
 use Rattle.board_model.proofs.Written.{appended}
 use Rattle.bench_program.proofs.taps.write_lines.Goals as goal

@@ -1,5 +1,4 @@
-use Rattle.std.proofs.Common.{◌∙◌, List, ℕ, OnOk, Bor, ap, map, subst}
-use Rattle.std.specs.Io.KnownBytes.{Appends}
+use Rattle.std.{proofs.Common.{◌∙◌, List, ℕ, OnOk, Bor, ap, map, subst}, specs.Io.KnownBytes.Appends}
 use Rattle.bench_program.specs.Taps.{tap_lines}
 use Rattle.bench_program.proofs.taps.write_tap.Goals as goal
 

@@ -1,5 +1,4 @@
-use Rattle.std.proofs.Common.{◌∙◌, ap}
-use Rattle.std.proofs.lemmas.Result.{IfOk-weaker}
+use Rattle.std.proofs.{Common.{◌∙◌, ap}, lemmas.Result.IfOk-weaker}
 use Rattle.command_line.specs.Options.{with_payloads}
 use Rattle.bench_program.specs.Usage.{with_benches, with_manners, with_schedules, with_script, with_shown}
 use Rattle.bench_program.proofs.usage.command.Goals as goal

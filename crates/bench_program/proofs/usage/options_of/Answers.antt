@@ -1,5 +1,4 @@
-use Rattle.std.proofs.Common.{inl, inr}
-use Rattle.std.proofs.lemmas.Result.{IfOk-weaker, IfErr-weaker}
+use Rattle.std.proofs.{Common.{inl, inr}, lemmas.Result.{IfOk-weaker, IfErr-weaker}}
 use Rattle.clap.specs.Words.{found_of}
 use Rattle.bench_program.proofs.usage.options_of.Goals as goal
 

@@ -1,9 +1,7 @@
-use Rattle.std.proofs.Common.{◌∙◌, map, ap, subst}
-use Rattle.std.proofs.lemmas.Result.{IfOk-weaker}
+use Rattle.std.proofs.{Common.{◌∙◌, map, ap, subst}, lemmas.Result.IfOk-weaker}
 use Rattle.clap.specs.Words.{App, app_of, found_of, is_simple_and_free}
 use Rattle.command_line.specs.Parses.{AreParsed}
-use Rattle.bench_program.proofs.Ends.{not_taken}
-use Rattle.bench_program.proofs.Simple.{sbibench_free}
+use Rattle.bench_program.proofs.{Ends.not_taken, Simple.sbibench_free}
 use Rattle.bench_program.proofs.usage.parsed.Goals as goal
 
 pub parse-requires : goal.parse-requires

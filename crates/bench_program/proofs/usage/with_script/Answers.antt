@@ -1,5 +1,4 @@
-use Rattle.std.proofs.Common.{◌∙◌, ap₂}
-use Rattle.std.proofs.lemmas.Result.{IfOk-weaker}
+use Rattle.std.proofs.{Common.{◌∙◌, ap₂}, lemmas.Result.IfOk-weaker}
 use Rattle.clap.specs.Words.{app_of}
 use Rattle.command_line.specs.Options.{with_rules}
 use Rattle.bench_program.proofs.usage.with_script.Goals as goal

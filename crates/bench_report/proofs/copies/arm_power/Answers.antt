@@ -1,7 +1,5 @@
 use Rattle.std.proofs.Common.{subst}
-use Rattle.bench_report.specs.declared.power.Power.{Power}
-use Rattle.bench_report.specs.Agree.{Agrees}
-use Rattle.bench_report.proofs.Armed.{armed_on}
+use Rattle.bench_report.{specs.{declared.power.Power.Power, Agree.Agrees}, proofs.Armed.armed_on}
 use Rattle.bench_report.proofs.copies.arm_power.Goals as goal
 
 pub returns-in-Off-clause-reported : goal.returns-in-Off-clause-reported

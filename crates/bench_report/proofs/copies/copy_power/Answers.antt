@@ -1,8 +1,5 @@
-use Rattle.std.proofs.Common.{◌∙◌, sym, subst}
-use Rattle.std.proofs.lemmas.Result.{IfOk-from_err}
-use Rattle.bench_report.specs.declared.power.Power.{Power}
-use Rattle.bench_report.specs.Agree.{Agrees, HasDisk}
-use Rattle.bench_report.proofs.Alone.{struck_by, copies_at}
+use Rattle.std.proofs.{Common.{◌∙◌, sym, subst}, lemmas.Result.IfOk-from_err}
+use Rattle.bench_report.{specs.{declared.power.Power.Power, Agree.{Agrees, HasDisk}}, proofs.Alone.{struck_by, copies_at}}
 use Rattle.bench_report.proofs.copies.copy_power.Goals as goal
 
 pub returns-in_err-copy_on-in-On-clause-stays : goal.returns-in_err-copy_on-in-On-clause-stays

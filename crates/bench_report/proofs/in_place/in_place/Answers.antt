@@ -1,6 +1,5 @@
 use Rattle.std.proofs.Common.{subst}
-use Rattle.bench_report.specs.declared.power.Power.{Power}
-use Rattle.bench_report.specs.Agree.{Agrees}
+use Rattle.bench_report.specs.{declared.power.Power.Power, Agree.Agrees}
 use Rattle.bench_report.proofs.in_place.in_place.Goals as goal
 
 pub returns-then-has-clause-reported : goal.returns-then-has-clause-reported

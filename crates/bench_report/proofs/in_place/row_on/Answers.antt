@@ -1,8 +1,6 @@
-use Rattle.std.proofs.Common.{◌≡◌, ◌∙◌, ◌⊎◌, ◌+◌, inl, inr, true, refl, sym, ◌≤◌, ◌-◌, arith}
-use Rattle.std.proofs.lemmas.Int.{ints}
+use Rattle.std.proofs.{Common.{◌≡◌, ◌∙◌, ◌⊎◌, ◌+◌, inl, inr, true, refl, sym, ◌≤◌, ◌-◌, arith}, lemmas.Int.ints}
 use Rattle.sbi.specs.Words.{ends}
-use Rattle.bench_report.specs.Views.{store_in, store_fault_state}
-use Rattle.bench_report.proofs.InPlace.{went_on}
+use Rattle.bench_report.{specs.Views.{store_in, store_fault_state}, proofs.InPlace.went_on}
 use Rattle.bench_report.proofs.IdleRows.{held_range, idle_row, last_row, row_behind}
 use Rattle.bench_report.proofs.in_place.row_on.Goals.{then-count-eq1-via-then-count-eq1, then-count-eq1-via-else-count-eq1+then-ends_row, then-count-eq1-via-else-count-eq1+else-ends_row+then-struck}
 use Rattle.bench_report.proofs.in_place.row_on.Goals as goal

@@ -1,8 +1,5 @@
 use Rattle.std.proofs.Common.{◌≡◌, subst}
-use Rattle.bench_report.specs.Bench.{DiskState}
-use Rattle.bench_report.specs.Happens.{says}
-use Rattle.bench_report.proofs.Inspected.{ContentLaws, said_of}
-use Rattle.bench_report.proofs.Examiners.{said_so}
+use Rattle.bench_report.{specs.{Bench.DiskState, Happens.says}, proofs.{Inspected.{ContentLaws, said_of}, Examiners.said_so}}
 use Rattle.bench_report.proofs.laws.inspections.Goals as goal
 
 pub returns-clause-blank : goal.returns-clause-blank

@@ -1,5 +1,4 @@
-use Rattle.bench_report.proofs.Single.{script_determines_report}
-use Rattle.bench_report.proofs.FailureFree.{failure_free_bench}
+use Rattle.bench_report.proofs.{Single.script_determines_report, FailureFree.failure_free_bench}
 use Rattle.bench_report.proofs.laws.script_determines_report.Goals as goal
 
 pub returns-clause-one : goal.returns-clause-one

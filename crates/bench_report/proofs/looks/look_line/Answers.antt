@@ -1,8 +1,5 @@
 use Rattle.std.proofs.Common.{subst}
-use Rattle.bench_report.specs.declared.power.Power.{Power}
-use Rattle.bench_report.specs.Agree.{Agrees}
-use Rattle.bench_report.specs.Looks.{IsShown}
-use Rattle.bench_report.proofs.Lines.{on_looks}
+use Rattle.bench_report.{specs.{declared.power.Power.Power, Agree.Agrees, Looks.IsShown}, proofs.Lines.on_looks}
 use Rattle.bench_report.proofs.looks.look_line.Goals as goal
 
 pub returns-in-On : goal.returns-in-On

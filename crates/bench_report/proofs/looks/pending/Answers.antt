@@ -1,6 +1,5 @@
 use Rattle.std.proofs.Common.{◌≡◌, ◌+◌, ◌^◌, if◌then◌else◌, ℕ, Bool, add-one, ◌∙◌, ap, arith}
-use Rattle.machine.specs.Machine.{Machine}
-use Rattle.machine.specs.Shows.{waits, pending_set}
+use Rattle.machine.specs.{Machine.Machine, Shows.{waits, pending_set}}
 use Rattle.bench_report.specs.Views.{machine_in}
 use Rattle.bench_report.proofs.looks.pending.Goals as goal
 

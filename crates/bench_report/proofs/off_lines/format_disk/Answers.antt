@@ -1,10 +1,7 @@
 use Rattle.std.proofs.Common.{refl, ◌∙◌, ap}
-use Rattle.bench_report.specs.Views.{facts, fault_state}
-use Rattle.bench_report.specs.Happens.{says, formatted_anew}
+use Rattle.bench_report.{specs.{Views.{facts, fault_state}, Happens.{says, formatted_anew}}, proofs.Devices.stays_as}
+use Rattle.bench_report.proofs.{Formats.{anew, formats_ok, formats_err}, KeptDisks.{KeptLaw, BlankLaw}}
 use Rattle.report_lines.specs.declared.printed.Printed.TheVariants as printed
-use Rattle.bench_report.proofs.Devices.{stays_as}
-use Rattle.bench_report.proofs.Formats.{anew, formats_ok, formats_err}
-use Rattle.bench_report.proofs.KeptDisks.{KeptLaw, BlankLaw}
 use Rattle.bench_report.proofs.off_lines.format_disk.Goals as goal
 
 pub returns-in-Ok : goal.returns-in-Ok

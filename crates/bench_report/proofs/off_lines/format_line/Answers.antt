@@ -1,7 +1,5 @@
 use Rattle.std.proofs.Common.{subst}
-use Rattle.bench_report.specs.declared.power.Power.{Power}
-use Rattle.bench_report.specs.Agree.{Agrees}
-use Rattle.bench_report.proofs.Lines.{off_formats}
+use Rattle.bench_report.{specs.{declared.power.Power.Power, Agree.Agrees}, proofs.Lines.off_formats}
 use Rattle.bench_report.proofs.off_lines.format_line.Goals as goal
 
 pub returns-in-Off : goal.returns-in-Off

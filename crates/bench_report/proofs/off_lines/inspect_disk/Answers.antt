@@ -1,8 +1,6 @@
 use Rattle.std.proofs.Common.{◌∙◌, ap}
-use Rattle.bench_report.specs.Happens.{says}
+use Rattle.bench_report.{specs.{Happens.says, Views.facts}, proofs.Examining.{examined, refused, answers_ok, answers_err}}
 use Rattle.report_lines.specs.declared.printed.Printed.TheVariants as printed
-use Rattle.bench_report.proofs.Examining.{examined, refused, answers_ok, answers_err}
-use Rattle.bench_report.specs.Views.{facts}
 use Rattle.bench_report.proofs.off_lines.inspect_disk.Goals as goal
 
 pub returns-in-Ok-clause-reported : goal.returns-in-Ok-clause-reported

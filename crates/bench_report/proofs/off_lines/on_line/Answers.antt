@@ -1,7 +1,5 @@
 use Rattle.std.proofs.Common.{subst}
-use Rattle.bench_report.specs.declared.power.Power.{Power}
-use Rattle.bench_report.specs.Agree.{Agrees}
-use Rattle.bench_report.proofs.Lines.{off_powers}
+use Rattle.bench_report.{specs.{declared.power.Power.Power, Agree.Agrees}, proofs.Lines.off_powers}
 use Rattle.bench_report.proofs.off_lines.on_line.Goals as goal
 
 pub returns-in-Off-clause-reported : goal.returns-in-Off-clause-reported

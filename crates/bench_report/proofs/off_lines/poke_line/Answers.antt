@@ -1,7 +1,5 @@
 use Rattle.std.proofs.Common.{subst}
-use Rattle.bench_report.specs.declared.power.Power.{Power}
-use Rattle.bench_report.specs.Agree.{Agrees}
-use Rattle.bench_report.proofs.Pokes.{poked_off, not_poked}
+use Rattle.bench_report.{specs.{declared.power.Power.Power, Agree.Agrees}, proofs.Pokes.{poked_off, not_poked}}
 use Rattle.bench_report.proofs.off_lines.poke_line.Goals as goal
 
 pub returns-in-Ok-clause-reported : goal.returns-in-Ok-clause-reported

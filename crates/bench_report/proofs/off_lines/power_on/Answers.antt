@@ -1,9 +1,7 @@
 use Rattle.std.proofs.Common.{Some, refl, ap, ◌∙◌}
 use Rattle.board_model.specs.Views.{durable_of}
 use Rattle.report_lines.specs.declared.printed.Printed.TheVariants as printed
-use Rattle.bench_report.proofs.KeptDisks.{KeptLaw, BlankLaw}
-use Rattle.bench_report.proofs.Started.{power_ok, on_now, unpowered}
-use Rattle.bench_report.proofs.Opened.{opened_ok, opened_err}
+use Rattle.bench_report.proofs.{KeptDisks.{KeptLaw, BlankLaw}, Started.{power_ok, on_now, unpowered}, Opened.{opened_ok, opened_err}}
 use Rattle.bench_report.proofs.off_lines.power_on.Goals as goal
 
 pub returns-in-Ok-clause-reported : goal.returns-in-Ok-clause-reported

@@ -1,9 +1,7 @@
 use Rattle.std.proofs.Common.{subst, ap, arith, length}
 use Rattle.sbi.specs.declared.words.Word.{Word}
-use Rattle.bench_report.specs.Views.{store_in, facts, fault_state, store_facts, store_fault_state}
-use Rattle.bench_report.specs.Agree.{BoardAfter}
-use Rattle.bench_report.proofs.Devices.{stays}
-use Rattle.bench_report.proofs.Ended.{over_ended}
+use Rattle.bench_report.specs.{Views.{store_in, facts, fault_state, store_facts, store_fault_state}, Agree.BoardAfter}
+use Rattle.bench_report.proofs.{Devices.stays, Ended.over_ended}
 use Rattle.bench_report.proofs.on_lines.after.Goals as goal
 
 pub returns-in-Over-clause-reported : goal.returns-in-Over-clause-reported

@@ -1,10 +1,7 @@
 use Rattle.std.proofs.Common.{◌≡◌, Option, true≢false, refl, sym, subst}
-use Rattle.machine.specs.Machine.{Machine, hart_at}
+use Rattle.machine.specs.{Machine.{Machine, hart_at}, Shows.{HasHart, called_line}}
 use Rattle.sbi.specs.declared.words.Word.{Word}
-use Rattle.bench_report.specs.declared.power.Power.TheVariants.{On}
-use Rattle.bench_report.specs.Views.{machine_in}
-use Rattle.machine.specs.Shows.{HasHart, called_line}
-use Rattle.bench_report.proofs.Lines.{on_calls, call_lacks, Follows}
+use Rattle.bench_report.{specs.{declared.power.Power.TheVariants.On, Views.machine_in}, proofs.Lines.{on_calls, call_lacks, Follows}}
 use Rattle.bench_report.proofs.on_lines.call.Goals as goal
 
 pub returns-in-None : goal.returns-in-None

@@ -1,18 +1,9 @@
 use Rattle.std.proofs.Common.{refl, sym, ◌∙◌, ap, subst, Option, Ok, Err}
-use Rattle.board_model.specs.Durable.{Change}
-use Rattle.board_model.specs.ConsoleCommands.{console_change}
-use Rattle.board_model.specs.Views.{number_of_refusal}
-use Rattle.board_model.proofs.Console.{ends_life-console}
+use Rattle.board_model.{specs.{Durable.Change, ConsoleCommands.console_change, Views.number_of_refusal}, proofs.Console.ends_life-console}
 use Rattle.store.specs.Views.{life_of}
-use Rattle.bench_report.specs.declared.power.Power.{Power}
-use Rattle.bench_report.specs.Bench.{BenchLife}
-use Rattle.bench_report.specs.Steps.{ConsoleStep}
-use Rattle.bench_report.specs.Views.{store_in, IsAs}
-use Rattle.bench_report.specs.Happens.{says}
-use Rattle.bench_report.specs.Agree.{Agrees, BoardIs}
+use Rattle.bench_report.specs.{declared.power.Power.Power, Bench.BenchLife, Steps.ConsoleStep, Views.{store_in, IsAs}, Happens.says}
+use Rattle.bench_report.{specs.Agree.{Agrees, BoardIs}, proofs.{Commanded.{reported_ok, reported_err, goes_on}, Lines.on_life}}
 use Rattle.report_lines.specs.declared.printed.Printed.TheVariants as printed
-use Rattle.bench_report.proofs.Commanded.{reported_ok, reported_err, goes_on}
-use Rattle.bench_report.proofs.Lines.{on_life}
 use Rattle.bench_report.proofs.on_lines.console.Goals as goal
 
 pub returns-in-Off : goal.returns-in-Off

@@ -1,8 +1,6 @@
 use Rattle.std.proofs.Common.{true≢false, refl, sym, subst}
-use Rattle.machine.specs.Machine.{Machine}
-use Rattle.bench_report.specs.Views.{machine_in}
-use Rattle.machine.specs.Shows.{HasHart}
-use Rattle.bench_report.proofs.Lines.{on_turns, turn_lacks}
+use Rattle.machine.specs.{Machine.Machine, Shows.HasHart}
+use Rattle.bench_report.{specs.Views.machine_in, proofs.Lines.{on_turns, turn_lacks}}
 use Rattle.bench_report.proofs.on_lines.turn.Goals as goal
 
 pub returns : goal.returns

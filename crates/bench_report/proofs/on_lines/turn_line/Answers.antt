@@ -1,6 +1,5 @@
 use Rattle.std.proofs.Common.{subst}
-use Rattle.bench_report.specs.declared.power.Power.{Power}
-use Rattle.bench_report.specs.Agree.{Agrees}
+use Rattle.bench_report.specs.{declared.power.Power.Power, Agree.Agrees}
 use Rattle.bench_report.proofs.on_lines.turn_line.Goals as goal
 
 pub returns-in-On : goal.returns-in-On

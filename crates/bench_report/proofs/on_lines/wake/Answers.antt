@@ -1,18 +1,12 @@
 use Rattle.std.proofs.Common.{◌≡◌, Bool, Option, Some, false, true, refl, sym, ◌∙◌, ap, subst}
-use Rattle.board_model.specs.Shapes.{Size}
-use Rattle.board_model.specs.Views.{number_of_refusal}
+use Rattle.board_model.specs.{Shapes.Size, Views.number_of_refusal}
 use Rattle.machine.specs.Machine.{Machine}
 use Rattle.susp.specs.Dozes.{can_wake, after_wake}
 use Rattle.report_lines.specs.declared.printed.Answer.{Answer}
 use Rattle.report_lines.specs.declared.printed.Printed.TheVariants as printed
-use Rattle.bench_report.specs.Agree.{BoardIs, DeviceIs, OnIs, StoreIs}
-use Rattle.bench_report.specs.Asides.{AsideStep, affected, wakes}
-use Rattle.bench_report.specs.Bench.{Bench, BenchLife}
-use Rattle.bench_report.specs.Deeds.{CallWake}
-use Rattle.bench_report.specs.Happens.{says, has_machine, on_with}
+use Rattle.bench_report.specs.{Agree.{BoardIs, DeviceIs, OnIs, StoreIs}, Asides.{AsideStep, affected, wakes}, Bench.{Bench, BenchLife}}
+use Rattle.bench_report.{specs.{Deeds.CallWake, Happens.{says, has_machine, on_with}}, proofs.{Came.has_other, Lines.as_it_was}}
 use Rattle.bench_report.specs.Views.{SimBoard, SimStore, machine_in, store_in, store_facts, store_fault_state}
-use Rattle.bench_report.proofs.Came.{has_other}
-use Rattle.bench_report.proofs.Lines.{as_it_was}
 use Rattle.bench_report.proofs.on_lines.wake.Goals as goal
 
 module _ (size : Size) (b : Bench) (life : BenchLife) (old new : SimBoard) (on : b.power ≡ Some life) (was : OnIs size b old) (still : store_in new ≡ store_in old) where

@@ -1,9 +1,5 @@
 use Rattle.std.proofs.Common.{Option, sym, subst}
-use Rattle.bench_report.specs.declared.power.Power.{Power}
-use Rattle.bench_report.specs.Bench.{BenchLife}
-use Rattle.bench_report.specs.Deeds.{CallWake}
-use Rattle.bench_report.specs.Asides.{AsideStep}
-use Rattle.bench_report.specs.Agree.{Agrees}
+use Rattle.bench_report.specs.{declared.power.Power.Power, Bench.BenchLife, Deeds.CallWake, Asides.AsideStep, Agree.Agrees}
 use Rattle.bench_report.proofs.Lines.{on_life}
 use Rattle.bench_report.proofs.on_lines.wake_line.Goals as goal
 

@@ -1,10 +1,7 @@
 use Rattle.std.proofs.Common.{◌≡◌, ◌∙◌, [], ◌∷◌, refl, subst, arith}
 use Rattle.board_model.proofs.Written.{unwritten}
-use Rattle.report_lines.specs.Counts.{Reported}
-use Rattle.report_lines.specs.declared.printed.Answer.{Answer}
-use Rattle.bench_report.specs.Reports.{board_answer}
-use Rattle.bench_report.proofs.RunLines.{few_found}
-use Rattle.bench_report.proofs.Told.{reported_more}
+use Rattle.report_lines.specs.{Counts.Reported, declared.printed.Answer.Answer}
+use Rattle.bench_report.{specs.Reports.board_answer, proofs.{RunLines.few_found, Told.reported_more}}
 use Rattle.bench_report.proofs.runs.begin.Goals as goal
 
 pub returns-clause-ok : goal.returns-clause-ok

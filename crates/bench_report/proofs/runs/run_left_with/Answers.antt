@@ -1,14 +1,8 @@
 use Rattle.std.proofs.Common.{List, ◌∷◌, inl, inr, refl, subst, take, arith}
 use Rattle.board_model.specs.declared.refusal.Refusal.TheVariants.{Memory}
-use Rattle.script_lang.specs.Scripts.{script_of}
-use Rattle.script_lang.specs.Views.{view}
-use Rattle.script_lang.specs.declared.line.Line.{Line}
-use Rattle.bench_report.specs.Bench.{bench_with}
-use Rattle.bench_report.specs.Reports.{board_answer, IsReportWith}
-use Rattle.bench_report.specs.Steps.{Run}
-use Rattle.bench_report.proofs.Devices.{may_find}
-use Rattle.bench_report.proofs.Found.{all_found}
-use Rattle.bench_report.proofs.Prefixed.{end_law, prefix_law}
+use Rattle.script_lang.specs.{Scripts.script_of, Views.view, declared.line.Line.Line}
+use Rattle.bench_report.{specs.{Bench.bench_with, Reports.{board_answer, IsReportWith}, Steps.Run}, proofs.Devices.may_find}
+use Rattle.bench_report.proofs.{Found.all_found, Prefixed.{end_law, prefix_law}}
 use Rattle.bench_report.proofs.Stopping.{no_fault, no_report, no_disk, none_idle, none_written, fault_or_memory, runs_nothing}
 use Rattle.bench_report.proofs.runs.run_left_with.Goals as goal
 

@@ -1,12 +1,8 @@
-use Rattle.std.proofs.Common.{◌+◌, ◌∙◌, arith, ap, get_or, List, [], ◌∷◌, ◌++◌, refl, subst, sym}
-use Rattle.std.proofs.lemmas.List.{take_all}
+use Rattle.std.proofs.{Common.{◌+◌, ◌∙◌, arith, ap, get_or, List, [], ◌∷◌, ◌++◌, refl, subst, sym}, lemmas.List.take_all}
 use Rattle.std.proofs.lemmas.Result.{IfOk-from_err}
 use Rattle.script_lang.specs.declared.line.Line.{Line}
-use Rattle.bench_report.specs.Agree.{fill_after, fills_after}
-use Rattle.bench_report.specs.Reports.{board_answer}
-use Rattle.bench_report.specs.Steps.{Moves, Run}
+use Rattle.bench_report.{specs.{Agree.{fill_after, fills_after}, Reports.board_answer, Steps.{Moves, Run}}, proofs.Told.reported_more}
 use Rattle.bench_report.proofs.RunLines.{few_found, fills_more, on_err, run_more}
-use Rattle.bench_report.proofs.Told.{reported_more}
 use Rattle.bench_report.proofs.runs.run_lines.Goals as goal
 
 pub loop-line-init : goal.loop-line-init

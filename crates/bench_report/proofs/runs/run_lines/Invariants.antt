@@ -1,11 +1,6 @@
 use Rattle.std.proofs.Common.{◌≡◌, ◌+◌, ◌*◌, ◌≤◌, List, ◌∷◌, take}
-use Rattle.report_lines.specs.declared.printed.Answer.{Answer}
-use Rattle.bench_report.specs.Agree.{fills_after}
-use Rattle.bench_report.specs.Bench.{Bench}
-use Rattle.bench_report.specs.Reports.{board_answer}
-use Rattle.bench_report.specs.Steps.{Run}
-use Rattle.bench_report.specs.Lives.{IsSound, Shows}
-use Rattle.report_lines.specs.Counts.{Reported}
+use Rattle.report_lines.specs.{declared.printed.Answer.Answer, Counts.Reported}
+use Rattle.bench_report.specs.{Agree.fills_after, Bench.Bench, Reports.board_answer, Steps.Run, Lives.{IsSound, Shows}}
 use Rattle.bench_report.proofs.runs.run_lines.Given as goal
 
 -- the lines so far ran, and were written

@@ -1,8 +1,5 @@
 use Rattle.std.proofs.Common.{refl, subst}
-use Rattle.bench_report.specs.declared.power.Power.{Power}
-use Rattle.bench_report.specs.Happens.{armed_with}
-use Rattle.bench_report.specs.Agree.{Agrees}
-use Rattle.bench_report.proofs.Armed.{armed_on}
+use Rattle.bench_report.{specs.{declared.power.Power.Power, Happens.armed_with, Agree.Agrees}, proofs.Armed.armed_on}
 use Rattle.bench_report.proofs.steps.arm.Goals as goal
 
 pub returns-in-Off-clause-reported : goal.returns-in-Off-clause-reported

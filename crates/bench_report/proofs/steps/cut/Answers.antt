@@ -1,9 +1,6 @@
 use Rattle.std.proofs.Common.{refl, sym, ◌∙◌, ap, arith}
 use Rattle.disk.specs.FaultState.{fault_state_left}
-use Rattle.bench_report.specs.Views.{facts}
-use Rattle.bench_report.proofs.Sides.{sides_stay}
-use Rattle.bench_report.proofs.Ended.{left_on, cut_leaves}
-use Rattle.bench_report.proofs.KeptDisks.{less}
+use Rattle.bench_report.{specs.Views.facts, proofs.{Sides.sides_stay, Ended.{left_on, cut_leaves}, KeptDisks.less}}
 use Rattle.bench_report.proofs.steps.cut.Goals as goal
 
 pub returns-clause-reported : goal.returns-clause-reported

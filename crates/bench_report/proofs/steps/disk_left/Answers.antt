@@ -1,9 +1,6 @@
 use Rattle.std.proofs.Common.{refl, subst, ap, arith, length}
-use Rattle.bench_report.specs.declared.power.Power.{Power}
-use Rattle.bench_report.specs.Views.{store_in, facts, fault_state, store_facts, store_fault_state}
-use Rattle.bench_report.specs.Agree.{Agrees}
-use Rattle.bench_report.proofs.Devices.{stays}
-use Rattle.bench_report.proofs.Ended.{board_ended}
+use Rattle.bench_report.specs.{declared.power.Power.Power, Views.{store_in, facts, fault_state, store_facts, store_fault_state}}
+use Rattle.bench_report.{specs.Agree.Agrees, proofs.{Devices.stays, Ended.board_ended}}
 use Rattle.bench_report.proofs.steps.disk_left.Goals as goal
 
 pub returns-in-Off-clause-reported : goal.returns-in-Off-clause-reported

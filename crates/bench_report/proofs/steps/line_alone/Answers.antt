@@ -1,8 +1,6 @@
 use Rattle.std.proofs.Common.{◌∙◌, Ok, Err, refl, sym}
-use Rattle.bench_report.specs.Happens.{unpowered}
+use Rattle.bench_report.{specs.Happens.unpowered, proofs.{Lines.{call_reported, row_reported}, Pokes.poke_matches}}
 use Rattle.bench_report.proofs.Alone.{arms_by, cuts_by, pokes_by, inspects_by, exact_by, enough_by, some_turns, few_bytes}
-use Rattle.bench_report.proofs.Lines.{call_reported, row_reported}
-use Rattle.bench_report.proofs.Pokes.{poke_matches}
 use Rattle.bench_report.proofs.steps.line_alone.Goals as goal
 
 pub returns-in-Format-clause-reported : goal.returns-in-Format-clause-reported

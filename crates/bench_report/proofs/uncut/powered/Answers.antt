@@ -1,10 +1,6 @@
 use Rattle.std.proofs.Common.{Option, refl, sym, subst}
 use Rattle.report_lines.specs.declared.printed.Answer.{Answer}
-use Rattle.bench_report.specs.Bench.{BenchLife}
-use Rattle.bench_report.specs.Agree.{Agrees}
-use Rattle.bench_report.specs.Steps.{OnStep}
-use Rattle.bench_report.specs.declared.power.Power.{Power}
-use Rattle.bench_report.proofs.Still.{busy}
+use Rattle.bench_report.{specs.{Bench.BenchLife, Agree.Agrees, Steps.OnStep, declared.power.Power.Power}, proofs.Still.busy}
 use Rattle.bench_report.proofs.uncut.powered.Goals as goal
 
 pub returns-in-Off : goal.returns-in-Off

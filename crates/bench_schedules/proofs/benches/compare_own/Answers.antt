@@ -1,9 +1,7 @@
-use Rattle.std.proofs.Common.{◌≡◌, ◌+◌, ◌-◌, ℕ, ap₂, slice_index_or, subst}
-use Rattle.std.specs.Io.KnownBytes.{Appends}
+use Rattle.std.{proofs.Common.{◌≡◌, ◌+◌, ◌-◌, ℕ, ap₂, slice_index_or, subst}, specs.Io.KnownBytes.Appends}
 use Rattle.crew.specs.Parts.{begin_of}
 use Rattle.script_lang.specs.Scripts.{Script}
-use Rattle.bench_schedules.specs.Numbers.{place_of_other}
-use Rattle.bench_schedules.specs.Schedules.{Wrote, count_text, own_count}
+use Rattle.bench_schedules.specs.{Numbers.place_of_other, Schedules.{Wrote, count_text, own_count}}
 use Rattle.bench_schedules.proofs.benches.compare_own.Goals as goal
 
 pub returns : goal.returns

@@ -1,8 +1,6 @@
 use Rattle.std.proofs.Common.{◌≡◌, ◌≤◌, ℕ, ◌+◌, List, All, IfOk, length, slice_index_or, subst, sym}
-use Rattle.script_lang.specs.Lines.{IsLineInRange}
-use Rattle.script_lang.specs.declared.line.Line.{Line}
-use Rattle.bench_schedules.specs.Numbers.{place_of_other}
-use Rattle.bench_schedules.specs.Schedules.{WroteSchedules, own_count}
+use Rattle.script_lang.specs.{Lines.IsLineInRange, declared.line.Line.Line}
+use Rattle.bench_schedules.specs.{Numbers.place_of_other, Schedules.{WroteSchedules, own_count}}
 use Rattle.bench_schedules.proofs.benches.compare_script.Goals as goal
 
 pub compare_own-requires-clause-drawable : goal.compare_own-requires-clause-drawable

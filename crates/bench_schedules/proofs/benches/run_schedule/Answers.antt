@@ -1,10 +1,7 @@
-use Rattle.std.proofs.Common.{List, All, subst, sym}
-use Rattle.std.proofs.lemmas.Result.{IfOk-weaker}
-use Rattle.script_lang.specs.Lines.{IsLineInRange}
-use Rattle.script_lang.specs.declared.line.Line.{Line}
+use Rattle.std.proofs.{Common.{List, All, subst, sym}, lemmas.Result.IfOk-weaker}
+use Rattle.script_lang.specs.{Lines.IsLineInRange, declared.line.Line.Line}
 use Rattle.report_lines.specs.declared.printed.Answer.{Answer}
-use Rattle.bench_schedules.specs.Schedules.{RanLike}
-use Rattle.bench_schedules.proofs.Lines.{ran_of}
+use Rattle.bench_schedules.{specs.Schedules.RanLike, proofs.Lines.ran_of}
 use Rattle.bench_schedules.proofs.benches.run_schedule.Goals as goal
 
 pub run_until-requires-clause-ranges : goal.run_until-requires-clause-ranges

@@ -1,8 +1,6 @@
 use Rattle.std.proofs.Common.{◌≡◌, ◌+◌, ◌-◌, ℕ, List, Option, ap, arith, refl, slice_index_or, subst, sym}
 use Rattle.script_lang.specs.Scripts.{Script}
-use Rattle.bench_schedules.specs.Numbers.{place_of_other}
-use Rattle.bench_schedules.specs.Schedules.{Wrote}
-use Rattle.bench_schedules.proofs.DrawnRuns.{all_runs}
+use Rattle.bench_schedules.{specs.{Numbers.place_of_other, Schedules.Wrote}, proofs.DrawnRuns.all_runs}
 use Rattle.bench_schedules.proofs.benches.run_schedules.Goals as goal
 
 pub hand_on_all-requires-clause-has : goal.hand_on_all-requires-clause-has

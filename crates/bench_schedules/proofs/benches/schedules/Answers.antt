@@ -1,7 +1,6 @@
 use Rattle.std.proofs.Common.{ℕ, List, ◌+◌, ◌∙◌, inl, inr, slice_index_or, subst, ⊎_elim}
 use Rattle.script_lang.specs.Views.{view}
-use Rattle.bench_schedules.specs.Numbers.{place_of_other}
-use Rattle.bench_schedules.specs.Schedules.{WroteSchedules}
+use Rattle.bench_schedules.specs.{Numbers.place_of_other, Schedules.WroteSchedules}
 use Rattle.bench_schedules.proofs.benches.schedules.Goals as goal
 
 pub returns-in-Ok-clause-wrote : goal.returns-in-Ok-clause-wrote

@@ -1,9 +1,6 @@
-use Rattle.std.proofs.Common.{List, All, OnOk, subst, sym}
-use Rattle.std.proofs.lemmas.Result.{on_ok_weaker}
-use Rattle.script_lang.specs.Lines.{IsLineInRange}
-use Rattle.script_lang.specs.declared.line.Line.{Line}
-use Rattle.bench_schedules.specs.Schedules.{Shown}
-use Rattle.bench_schedules.proofs.Texts.{shown_of}
+use Rattle.std.proofs.{Common.{List, All, OnOk, subst, sym}, lemmas.Result.on_ok_weaker}
+use Rattle.script_lang.specs.{Lines.IsLineInRange, declared.line.Line.Line}
+use Rattle.bench_schedules.{specs.Schedules.Shown, proofs.Texts.shown_of}
 use Rattle.bench_schedules.proofs.benches.show_script.Goals as goal
 
 pub returns-clause-shown : goal.returns-clause-shown

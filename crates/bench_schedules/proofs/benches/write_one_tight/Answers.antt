@@ -1,5 +1,4 @@
-use Rattle.std.proofs.Common.{[], ◌∷◌}
-use Rattle.std.proofs.lemmas.Result.{on_ok_weaker}
+use Rattle.std.proofs.{Common.{[], ◌∷◌}, lemmas.Result.on_ok_weaker}
 use Rattle.board_model.proofs.Written.{unwritten}
 use Rattle.bench_schedules.proofs.benches.write_one_tight.Goals as goal
 

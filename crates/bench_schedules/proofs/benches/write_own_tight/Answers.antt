@@ -1,8 +1,6 @@
-use Rattle.std.proofs.Common.{◌∙◌, ◌++◌, Bool, [], if◌then◌else◌, sym, subst}
-use Rattle.std.specs.Io.KnownBytes.{Appends}
+use Rattle.std.{proofs.Common.{◌∙◌, ◌++◌, Bool, [], if◌then◌else◌, sym, subst}, specs.Io.KnownBytes.Appends}
 use Rattle.board_model.proofs.Written.{unwritten}
-use Rattle.bench_schedules.proofs.Ledgers.{tight_more}
-use Rattle.bench_schedules.specs.Schedules.{tight_text}
+use Rattle.bench_schedules.{proofs.Ledgers.tight_more, specs.Schedules.tight_text}
 use Rattle.bench_schedules.proofs.benches.write_own_tight.Goals as goal
 
 pub returns-then-not-writes_tight : goal.returns-then-not-writes_tight

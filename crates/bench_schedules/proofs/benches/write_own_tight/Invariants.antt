@@ -1,5 +1,4 @@
-use Rattle.std.proofs.Common.{List, ℕ}
-use Rattle.std.specs.Io.KnownBytes.{Appends}
+use Rattle.std.{proofs.Common.{List, ℕ}, specs.Io.KnownBytes.Appends}
 use Rattle.bench_schedules.specs.Schedules.{tight_text}
 use Rattle.bench_schedules.proofs.benches.write_own_tight.Given as goal
 

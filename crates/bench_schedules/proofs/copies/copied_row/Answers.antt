@@ -1,6 +1,4 @@
-use Rattle.std.proofs.lemmas.Result.{IfOk-from_err}
-use Rattle.std.proofs.Common.{◌∙◌}
-use Rattle.std.proofs.lemmas.List.{take_all}
+use Rattle.std.proofs.{lemmas.{Result.IfOk-from_err, List.take_all}, Common.{◌∙◌}}
 use Rattle.bench_schedules.proofs.CopiedLines.{row_more}
 use Rattle.bench_schedules.proofs.copies.copied_row.Goals as goal
 

@@ -1,6 +1,4 @@
-use Rattle.std.proofs.Common.{arith, ap, length, length-append}
-use Rattle.std.proofs.lemmas.List.{length-take-le}
-use Rattle.std.proofs.lemmas.Result.{IfOk-from_err}
+use Rattle.std.proofs.{Common.{arith, ap, length, length-append}, lemmas.{List.length-take-le, Result.IfOk-from_err}}
 use Rattle.bench_schedules.proofs.drawn_orders.add_next.Goals as goal
 
 pub returns-clause-added : goal.returns-clause-added

@@ -1,6 +1,5 @@
 use Rattle.std.proofs.Common.{◌≡◌, ◌∙◌, ℕ, List, ap, bit_xor}
-use Rattle.rand_core.specs.Steps.{steps_u64_high, stream_of}
-use Rattle.rand_core.specs.Stream.{Stream, next_u64}
+use Rattle.rand_core.specs.{Steps.{steps_u64_high, stream_of}, Stream.{Stream, next_u64}}
 use Rattle.rand_xoshiro.specs.Xoshiro256.{plus_plus}
 use Rattle.bench_schedules.specs.Generators.{seeded}
 use Rattle.bench_schedules.proofs.drawn_orders.generator.Goals as goal

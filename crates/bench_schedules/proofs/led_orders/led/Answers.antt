@@ -1,6 +1,5 @@
-use Rattle.std.proofs.Common.{arith, length, ap, length-drop}
+use Rattle.std.proofs.{Common.{arith, length, ap, length-drop}, lemmas.Result.IfOk-from_err}
 use Rattle.bench_schedules.proofs.Parts.{left_behind, part_placed}
-use Rattle.std.proofs.lemmas.Result.{IfOk-from_err}
 use Rattle.bench_schedules.proofs.led_orders.led.Goals as goal
 
 pub loop-rest-preserved : goal.loop-rest-preserved

@@ -1,6 +1,4 @@
-use Rattle.std.proofs.Common.{rules, tests}
-use Rattle.std.proofs.lemmas.Iterator.Consumers.{map_from_collect}
-use Rattle.std.proofs.lemmas.Iterator.Splits.{YieldsList-from_slice_split}
+use Rattle.std.proofs.{Common.{rules, tests}, lemmas.Iterator.{Consumers.map_from_collect, Splits.YieldsList-from_slice_split}}
 use Rattle.std.specs.Prelude.{◌==◌}
 use Rattle.bench_schedules.proofs.numbers.text_lines.Goals as goal
 

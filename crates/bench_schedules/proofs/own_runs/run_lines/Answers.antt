@@ -2,13 +2,10 @@ use Rattle.std.proofs.Common.{◌≡◌, ◌∙◌, ◌+◌, ◌++◌, [], List,
 use Rattle.std.proofs.lemmas.List.{append-nil, take_all}
 use Rattle.script_lang.specs.declared.line.Line.{Line}
 use Rattle.report_lines.specs.declared.printed.Answer.{Answer}
-use Rattle.bench_schedules.specs.Orders.{is_other}
-use Rattle.bench_report.specs.Bench.{bench_with}
-use Rattle.bench_schedules.specs.RunSoFar.{RunSoFar}
-use Rattle.bench_schedules.specs.Schedules.{other_answer}
-use Rattle.bench_schedules.proofs.Lines.{goes_begun, goes_more}
-use Rattle.bench_schedules.proofs.own_runs.run_lines.Goals as goal
+use Rattle.bench_schedules.{specs.{Orders.is_other, RunSoFar.RunSoFar, Schedules.other_answer}, proofs.Lines.{goes_begun, goes_more}}
 use Rattle.bench_schedules.proofs.own_runs.run_lines.Goals.{in-Some+in_ok-push, in_default}
+use Rattle.bench_report.specs.Bench.{bench_with}
+use Rattle.bench_schedules.proofs.own_runs.run_lines.Goals as goal
 
 abbrev items : Vec Answer Global → List Answer
 items v = v.items

@@ -1,6 +1,5 @@
 use Rattle.std.proofs.Common.{◌≡◌, ℕ, List, take}
-use Rattle.bench_report.specs.Lives.{IsSound, Shows}
-use Rattle.bench_report.specs.Bench.{bench_with}
+use Rattle.bench_report.specs.{Lives.{IsSound, Shows}, Bench.bench_with}
 use Rattle.bench_schedules.specs.RunSoFar.{RunSoFar}
 use Rattle.bench_schedules.proofs.own_runs.run_lines.Given as goal
 

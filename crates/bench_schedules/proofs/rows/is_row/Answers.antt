@@ -1,6 +1,4 @@
-use Rattle.std.proofs.Common.{◌≤◌, length, All, arith, subst}
-use Rattle.std.proofs.lemmas.Bool.Decides.{nat_tests}
-use Rattle.std.proofs.lemmas.List.{take_all}
+use Rattle.std.proofs.{Common.{◌≤◌, length, All, arith, subst}, lemmas.{Bool.Decides.nat_tests, List.take_all}}
 use Rattle.bench_schedules.specs.Orders.{IsTurn}
 use Rattle.bench_schedules.proofs.rows.is_row.Goals as goal
 

@@ -1,8 +1,7 @@
 use Rattle.std.proofs.Common.{◌≡◌, ◌≢◌, ◌∙◌, true, false, inr, refl, sym, subst, get_or, true≢false}
-use Rattle.report_lines.specs.declared.printed.Answer.{Answer}
-use Rattle.report_lines.specs.contracts.printed.AnswerEq.TheImpl.Laws.{laws-law}
-use Rattle.report_lines.specs.contracts.printed.AnswerPartialEq.TheImpl as equality
+use Rattle.report_lines.specs.{declared.printed.Answer.Answer, contracts.printed.AnswerEq.TheImpl.Laws.laws-law}
 use Rattle.report_lines.proofs.Alike.{equal-answer}
+use Rattle.report_lines.specs.contracts.printed.AnswerPartialEq.TheImpl as equality
 use Rattle.bench_schedules.proofs.runs.next_place.Goals as goal
 
 -- what the comparison finds apart is not the same

@@ -1,8 +1,6 @@
 use Rattle.std.proofs.Common.{◌≡◌, ◌+◌, ℕ, List, length, take, drop}
-use Rattle.bench_schedules.specs.Orders.{other_count}
-use Rattle.bench_report.specs.Bench.{bench_with}
-use Rattle.bench_report.specs.Lives.{IsSound, Shows}
-use Rattle.bench_schedules.specs.RunSoFar.{RunSoFar}
+use Rattle.bench_schedules.specs.{Orders.other_count, RunSoFar.RunSoFar}
+use Rattle.bench_report.specs.{Bench.bench_with, Lives.{IsSound, Shows}}
 use Rattle.bench_schedules.proofs.runs.run_lines.Given as goal
 
 abbrev pub invariant-loop-line : goal.invariant-loop-line

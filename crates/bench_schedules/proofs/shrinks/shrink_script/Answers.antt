@@ -1,10 +1,7 @@
-use Rattle.std.proofs.Common.{List, All, OnOk, subst, sym}
-use Rattle.std.proofs.lemmas.Result.{on_ok_weaker}
-use Rattle.script_lang.specs.Lines.{IsLineInRange}
-use Rattle.script_lang.specs.declared.line.Line.{Line}
+use Rattle.std.proofs.{Common.{List, All, OnOk, subst, sym}, lemmas.Result.on_ok_weaker}
+use Rattle.script_lang.specs.{Lines.IsLineInRange, declared.line.Line.Line}
 use Rattle.report_lines.specs.declared.printed.Answer.{Answer}
-use Rattle.bench_schedules.specs.Shrunk.{IsShortened, Shrunk}
-use Rattle.bench_schedules.proofs.Shortened.{shrunk_of}
+use Rattle.bench_schedules.{specs.Shrunk.{IsShortened, Shrunk}, proofs.Shortened.shrunk_of}
 use Rattle.bench_schedules.proofs.shrinks.shrink_script.Goals as goal
 
 pub returns-clause-shrunk : goal.returns-clause-shrunk

@@ -1,8 +1,6 @@
-use Rattle.std.proofs.Common.{◌≡◌, ◌+◌, ℕ, rules, refl, ◌∙◌, [], take, subst, arith}
-use Rattle.bench_sweep.specs.Runs.{IsFormattedAt}
+use Rattle.std.proofs.{Common.{◌≡◌, ◌+◌, ℕ, rules, refl, ◌∙◌, [], take, subst, arith}, lemmas.Result.IfOk-from_err}
+use Rattle.bench_sweep.{specs.Runs.IsFormattedAt, proofs.Begun.{begun_by, begins_more}}
 use Rattle.bench_report.specs.Bench.{bench_with}
-use Rattle.bench_sweep.proofs.Begun.{begun_by, begins_more}
-use Rattle.std.proofs.lemmas.Result.{IfOk-from_err}
 use Rattle.bench_sweep.proofs.begins.run_to_format.Goals as goal
 
 pub loop-line-init : goal.loop-line-init

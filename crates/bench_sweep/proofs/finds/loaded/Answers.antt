@@ -1,7 +1,6 @@
 use Rattle.std.proofs.Common.{IfOk, subst, sym}
 use Rattle.bench_report.specs.Views.{SimStore, store_in}
-use Rattle.bench_sweep.specs.Runs.{FoundSo}
-use Rattle.bench_sweep.proofs.Loaded.{found_bare}
+use Rattle.bench_sweep.{specs.Runs.FoundSo, proofs.Loaded.found_bare}
 use Rattle.bench_sweep.proofs.finds.loaded.Goals as goal
 
 pub returns-then-is_some : goal.returns-then-is_some

@@ -1,9 +1,7 @@
 use Rattle.std.proofs.Common.{◌≡◌, ℕ, List, inl, inr, None, Some, OnOk, subst, arith}
 use Rattle.report_lines.specs.declared.printed.Printed.{Printed}
 use Rattle.report_lines.specs.declared.printed.Printed.TheVariants as printed
-use Rattle.bench_sweep.specs.Told.{BootTold, BootSaid, commands_told}
-use Rattle.bench_sweep.specs.Resumes.{image_told, powered, Resumes}
-use Rattle.bench_sweep.proofs.Boots.{boot_weaker}
+use Rattle.bench_sweep.{specs.{Told.{BootTold, BootSaid, commands_told}, Resumes.{image_told, powered, Resumes}}, proofs.Boots.boot_weaker}
 use Rattle.bench_sweep.proofs.Serials.{as_told, refused_boot}
 use Rattle.bench_sweep.proofs.follows.record_answer.Goals as goal
 

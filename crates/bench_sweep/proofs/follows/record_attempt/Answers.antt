@@ -1,10 +1,7 @@
 use Rattle.std.proofs.Common.{Option, subst}
-use Rattle.board_model.specs.Durable.{Attempt}
-use Rattle.board_model.specs.declared.durable.Trial.{Trial}
+use Rattle.board_model.specs.{Durable.Attempt, declared.durable.Trial.Trial}
 use Rattle.board.specs.Moments.{attempts_of}
-use Rattle.bench_sweep.specs.Told.{IssuedTold, BootTold}
-use Rattle.bench_sweep.proofs.Boots.{one_told, none_told}
-use Rattle.bench_sweep.proofs.Followed.{as_before, weaker, issued_told}
+use Rattle.bench_sweep.{specs.Told.{IssuedTold, BootTold}, proofs.{Boots.{one_told, none_told}, Followed.{as_before, weaker, issued_told}}}
 use Rattle.bench_sweep.proofs.follows.record_attempt.Goals as goal
 
 pub returns-in-None-clause-kept : goal.returns-in-None-clause-kept

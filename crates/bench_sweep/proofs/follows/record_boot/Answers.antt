@@ -1,12 +1,9 @@
 use Rattle.std.proofs.Common.{inl, inr, subst}
-use Rattle.board_model.specs.Durable.{Consume}
-use Rattle.board_model.specs.declared.boot_mode.BootMode.{BootMode}
+use Rattle.board_model.specs.{Durable.Consume, declared.boot_mode.BootMode.BootMode}
 use Rattle.board_model.specs.declared.boot_mode.BootMode.TheVariants as modes
 use Rattle.board.specs.Moments.{attempts_of}
-use Rattle.bench_sweep.specs.Resumes.{image_told, booted}
-use Rattle.bench_sweep.specs.Told.{IssuedTold, BootTold, commands_told}
-use Rattle.bench_sweep.proofs.Boots.{one_told, boot_of, boot_weaker}
-use Rattle.bench_sweep.proofs.Serials.{kept_none, as_told}
+use Rattle.bench_sweep.specs.{Resumes.{image_told, booted}, Told.{IssuedTold, BootTold, commands_told}}
+use Rattle.bench_sweep.proofs.{Boots.{one_told, boot_of, boot_weaker}, Serials.{kept_none, as_told}}
 use Rattle.bench_sweep.proofs.follows.record_boot.Goals as goal
 
 pub returns-in-Fresh-clause-kept : goal.returns-in-Fresh-clause-kept

@@ -1,9 +1,6 @@
-use Rattle.std.proofs.Common.{ℕ, None, Some, subst}
-use Rattle.std.specs.Prelude.{Option}
+use Rattle.std.{proofs.Common.{ℕ, None, Some, subst}, specs.Prelude.Option}
 use Rattle.board_model.specs.Durable.{Consume}
-use Rattle.bench_sweep.specs.Told.{IssuedTold}
-use Rattle.bench_sweep.proofs.Followed.{weaker, issued_told}
-use Rattle.bench_sweep.specs.Resumes.{image_told, consumed}
+use Rattle.bench_sweep.{specs.{Told.IssuedTold, Resumes.{image_told, consumed}}, proofs.Followed.{weaker, issued_told}}
 use Rattle.bench_sweep.proofs.Serials.{kept_none, as_told}
 use Rattle.bench_sweep.proofs.follows.record_consume.Goals as goal
 

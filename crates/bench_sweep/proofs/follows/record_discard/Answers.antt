@@ -1,9 +1,7 @@
-use Rattle.std.proofs.Common.{ℕ, ◌∷◌, None, Some, subst}
-use Rattle.std.specs.Prelude.{Option}
+use Rattle.std.{proofs.Common.{ℕ, ◌∷◌, None, Some, subst}, specs.Prelude.Option}
 use Rattle.board_model.specs.Durable.{Discard}
 use Rattle.board.specs.Moments.{attempts_of}
-use Rattle.bench_sweep.specs.Told.{BootTold}
-use Rattle.bench_sweep.proofs.Boots.{made_both, boot_weaker}
+use Rattle.bench_sweep.{specs.Told.BootTold, proofs.Boots.{made_both, boot_weaker}}
 use Rattle.bench_sweep.proofs.follows.record_discard.Goals as goal
 
 pub returns-in_ok-record_command-in-None-clause-kept : goal.returns-in_ok-record_command-in-None-clause-kept

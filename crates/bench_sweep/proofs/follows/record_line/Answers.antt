@@ -1,8 +1,6 @@
-use Rattle.std.proofs.Common.{ap, refl}
-use Rattle.std.proofs.lemmas.Result.{on_ok_weaker}
+use Rattle.std.proofs.{Common.{ap, refl}, lemmas.Result.on_ok_weaker}
 use Rattle.script_lang.specs.declared.line.Line.{Line}
-use Rattle.bench_sweep.specs.Told.{powers_on}
-use Rattle.bench_sweep.proofs.Left.{no_serials, not_boot}
+use Rattle.bench_sweep.{specs.Told.powers_on, proofs.Left.{no_serials, not_boot}}
 use Rattle.bench_sweep.proofs.follows.record_line.Goals as goal
 
 pub returns-in-On-clause-kept : goal.returns-in-On-clause-kept

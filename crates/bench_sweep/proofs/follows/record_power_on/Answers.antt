@@ -1,5 +1,4 @@
-use Rattle.bench_sweep.proofs.Boots.{found_none, found_some}
-use Rattle.bench_sweep.proofs.Serials.{resumes_none, resumes_found}
+use Rattle.bench_sweep.proofs.{Boots.{found_none, found_some}, Serials.{resumes_none, resumes_found}}
 use Rattle.bench_sweep.proofs.follows.record_power_on.Goals as goal
 
 pub returns-in-None-clause-kept : goal.returns-in-None-clause-kept

@@ -1,6 +1,5 @@
 use Rattle.board_model.specs.Durable.{Consume}
-use Rattle.bench_sweep.proofs.Followed.{acknowledged, no_resume}
-use Rattle.bench_sweep.proofs.Serials.{one_more, no_serial}
+use Rattle.bench_sweep.proofs.{Followed.{acknowledged, no_resume}, Serials.{one_more, no_serial}}
 use Rattle.bench_sweep.proofs.follows.record_resume.Goals as goal
 
 pub returns-in-Ok-clause-kept : goal.returns-in-Ok-clause-kept

@@ -1,6 +1,5 @@
 use Rattle.std.proofs.Common.{ℕ, List, None, OnOk, sym, ◌∙◌, ap, subst}
-use Rattle.board_model.specs.Durable.{Change, Suspend}
-use Rattle.board_model.specs.declared.durable.Durable.{Durable}
+use Rattle.board_model.specs.{Durable.{Change, Suspend}, declared.durable.Durable.Durable}
 use Rattle.bench_sweep.proofs.Followed.{IssuedKept, asleep_has, asleep_kept}
 use Rattle.bench_sweep.proofs.follows.record_sleep.Goals as goal
 

@@ -1,7 +1,6 @@
 use Rattle.std.proofs.Common.{◌≡◌, ◌∙◌, true, false, refl, sym, subst}
 use Rattle.script_lang.specs.declared.line.Line.TheVariants as lines
-use Rattle.machine.specs.Machine.{Machine}
-use Rattle.machine.specs.Shows.{HasHart}
+use Rattle.machine.specs.{Machine.Machine, Shows.HasHart}
 use Rattle.bench_sweep.proofs.Turned.{call_lacks}
 use Rattle.bench_sweep.proofs.harts.call_in_place.Goals as goal
 

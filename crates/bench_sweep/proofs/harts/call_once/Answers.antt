@@ -1,6 +1,5 @@
 use Rattle.bench_sweep.proofs.Turned.{call_unmade, call_made}
-use Rattle.std.proofs.Common.{refl}
-use Rattle.std.proofs.lemmas.Result.{IfOk-from_err}
+use Rattle.std.proofs.{Common.refl, lemmas.Result.IfOk-from_err}
 use Rattle.bench_sweep.proofs.harts.call_once.Goals as goal
 
 pub returns-in-None-clause-goes : goal.returns-in-None-clause-goes

@@ -1,11 +1,8 @@
-use Rattle.std.proofs.Common.{◌≡◌, ◌∙◌, true, false, refl, sym, subst}
+use Rattle.std.proofs.{Common.{◌≡◌, ◌∙◌, true, false, refl, sym, subst}, lemmas.Result.IfOk-from_err}
 use Rattle.script_lang.specs.declared.line.Line.TheVariants as lines
-use Rattle.machine.specs.Machine.{Machine}
-use Rattle.machine.specs.Shows.{HasHart}
+use Rattle.machine.specs.{Machine.Machine, Shows.HasHart}
 use Rattle.bench_report.specs.Views.{machine_in}
-use Rattle.bench_sweep.specs.Lines.{TurnsMany}
-use Rattle.bench_sweep.proofs.Turned.{hart_line, turn_line, turn_lacks}
-use Rattle.std.proofs.lemmas.Result.{IfOk-from_err}
+use Rattle.bench_sweep.{specs.Lines.TurnsMany, proofs.Turned.{hart_line, turn_line, turn_lacks}}
 use Rattle.bench_sweep.proofs.harts.turn_in_place.Goals as goal
 
 pub returns-then-not-has-clause-goes : goal.returns-then-not-has-clause-goes

@@ -1,10 +1,7 @@
 use Rattle.std.proofs.Common.{◌≡◌, length}
 use Rattle.board_model.specs.Shapes.{Size}
-use Rattle.bench_report.specs.Views.{machine_in}
-use Rattle.bench_report.specs.Bench.{Bench}
-use Rattle.bench_report.specs.Agree.{OnIs}
-use Rattle.bench_sweep.specs.Runs.{Follows}
-use Rattle.bench_sweep.proofs.Turned.{GoesFar}
+use Rattle.bench_report.specs.{Views.machine_in, Bench.Bench, Agree.OnIs}
+use Rattle.bench_sweep.{specs.Runs.Follows, proofs.Turned.GoesFar}
 use Rattle.bench_sweep.proofs.harts.turn_many.Given as goal
 
 abbrev pub invariant-loop-left : goal.invariant-loop-left

@@ -1,10 +1,6 @@
-use Rattle.std.proofs.Common.{◌≡◌, ℕ, [], ◌∷◌, map, take, Some, refl, sym, ap, arith}
-use Rattle.simdisk.specs.declared.fill.Fill.{Fill}
-use Rattle.simdisk.specs.declared.fill.Fill.TheVariants.{Byte, Alternating, Old}
-use Rattle.bench_sweep.specs.Swept.{cell}
-use Rattle.bench_sweep.proofs.Rowed.{judged_none, judged_more, judged_as}
-use Rattle.bench_sweep.proofs.Written.{map_more}
-use Rattle.std.proofs.lemmas.Result.{IfOk-from_err}
+use Rattle.std.proofs.{Common.{◌≡◌, ℕ, [], ◌∷◌, map, take, Some, refl, sym, ap, arith}, lemmas.Result.IfOk-from_err}
+use Rattle.simdisk.specs.declared.fill.Fill.{Fill, TheVariants.{Byte, Alternating, Old}}
+use Rattle.bench_sweep.{specs.Swept.cell, proofs.{Rowed.{judged_none, judged_more, judged_as}, Written.map_more}}
 use Rattle.bench_sweep.proofs.judging.judge_each_fill.Goals as goal
 
 pub loop-fill-init : goal.loop-fill-init

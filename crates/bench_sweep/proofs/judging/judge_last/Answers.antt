@@ -1,9 +1,6 @@
-use Rattle.std.proofs.Common.{refl}
-use Rattle.std.proofs.lemmas.Result.{on_ok_weaker}
-use Rattle.bench_report.specs.Happens.{unpowered}
-use Rattle.bench_report.specs.declared.power.Power.TheVariants.{Off}
-use Rattle.bench_sweep.proofs.KeptRows.{left_row}
-use Rattle.bench_sweep.proofs.Left.{left_by}
+use Rattle.std.proofs.{Common.refl, lemmas.Result.on_ok_weaker}
+use Rattle.bench_report.specs.{Happens.unpowered, declared.power.Power.TheVariants.Off}
+use Rattle.bench_sweep.proofs.{KeptRows.left_row, Left.left_by}
 use Rattle.bench_sweep.proofs.judging.judge_last.Goals as goal
 
 pub judge_left-requires-clause-left : goal.judge_left-requires-clause-left

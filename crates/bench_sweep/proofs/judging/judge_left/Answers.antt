@@ -1,7 +1,5 @@
-use Rattle.std.proofs.Common.{refl}
-use Rattle.std.proofs.lemmas.Result.{IfOk-from_err}
-use Rattle.board_model.specs.Plains.{state_in}
-use Rattle.board_model.specs.Views.{durable_of}
+use Rattle.std.proofs.{Common.refl, lemmas.Result.IfOk-from_err}
+use Rattle.board_model.specs.{Plains.state_in, Views.durable_of}
 use Rattle.bench_sweep.proofs.judging.judge_left.Goals as goal
 
 pub count_run-requires : goal.count_run-requires

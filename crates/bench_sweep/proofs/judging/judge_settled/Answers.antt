@@ -1,12 +1,7 @@
 use Rattle.std.proofs.Common.{◌≡◌, ℕ, [], ◌∷◌, map, take, Some, refl, sym, ap, arith}
-use Rattle.simdisk.specs.declared.fill.Fill.{Fill}
-use Rattle.simdisk.specs.declared.fill.Fill.TheVariants.{Byte, Alternating, Old, New}
-use Rattle.bench_sweep.specs.Reports.{IsLeftBy}
-use Rattle.bench_sweep.specs.declared.rows.Row.{Row}
-use Rattle.bench_sweep.specs.Swept.{cell}
-use Rattle.bench_sweep.proofs.Alike.{kept_again, left_alike}
-use Rattle.bench_sweep.proofs.Rowed.{judged_none, judged_more, judged_as}
-use Rattle.bench_sweep.proofs.Written.{map_more}
+use Rattle.simdisk.specs.declared.fill.Fill.{Fill, TheVariants.{Byte, Alternating, Old, New}}
+use Rattle.bench_sweep.{specs.{Reports.IsLeftBy, declared.rows.Row.Row, Swept.cell}, proofs.Alike.{kept_again, left_alike}}
+use Rattle.bench_sweep.proofs.{Rowed.{judged_none, judged_more, judged_as}, Written.map_more}
 use Rattle.bench_sweep.proofs.judging.judge_settled.Goals as goal
 
 pub loop-fill-init : goal.loop-fill-init

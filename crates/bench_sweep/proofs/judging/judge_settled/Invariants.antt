@@ -1,9 +1,7 @@
 use Rattle.std.proofs.Common.{map, take, Some}
 use Rattle.bench_report.specs.Bench.{Bench}
 use Rattle.simdisk.specs.declared.fill.Fill.{Fill}
-use Rattle.bench_sweep.specs.Reports.{Judged, IsLeftBy}
-use Rattle.bench_sweep.specs.Runs.{RunsAt}
-use Rattle.bench_sweep.specs.Swept.{cell}
+use Rattle.bench_sweep.specs.{Reports.{Judged, IsLeftBy}, Runs.RunsAt, Swept.cell}
 use Rattle.bench_sweep.proofs.judging.judge_settled.Given as goal
 
 -- the runs of the fills so far are judged

@@ -1,5 +1,4 @@
-use Rattle.std.proofs.Common.{refl}
-use Rattle.std.proofs.lemmas.Result.{IfOk-from_err}
+use Rattle.std.proofs.{Common.refl, lemmas.Result.IfOk-from_err}
 use Rattle.bench_sweep.proofs.judging.repeat.Goals as goal
 
 pub returns-clause-right : goal.returns-clause-right

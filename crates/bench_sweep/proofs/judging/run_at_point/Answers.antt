@@ -1,7 +1,5 @@
 use Rattle.std.proofs.lemmas.Result.{IfOk-weaker}
-use Rattle.bench_sweep.proofs.Made.{over_all}
-use Rattle.bench_sweep.proofs.Reported.{swept_take}
-use Rattle.bench_sweep.proofs.Rowed.{judged_weaker}
+use Rattle.bench_sweep.proofs.{Made.over_all, Reported.swept_take, Rowed.judged_weaker}
 use Rattle.bench_sweep.proofs.judging.run_at_point.Goals as goal
 
 pub run_to_cut-requires-clause-lines : goal.run_to_cut-requires-clause-lines

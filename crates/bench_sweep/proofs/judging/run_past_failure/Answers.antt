@@ -1,11 +1,7 @@
-use Rattle.std.proofs.Common.{◌≡◌, [], arith, length}
-use Rattle.bench_sweep.specs.declared.points.BenchKind.TheVariants.{Fails}
-use Rattle.bench_sweep.specs.Points.{fault_at}
-use Rattle.bench_report.specs.Happens.{armed_with, off}
-use Rattle.bench_sweep.proofs.Left.{unstruck}
-use Rattle.bench_sweep.proofs.Made.{runs_with}
+use Rattle.std.proofs.{Common.{◌≡◌, [], arith, length}, lemmas.Result.IfOk-from_err}
+use Rattle.bench_sweep.{specs.{declared.points.BenchKind.TheVariants.Fails, Points.fault_at}, proofs.{Left.unstruck, Made.runs_with}}
 use Rattle.bench_sweep.proofs.Rowed.{judged_none, judged_more, judged_at}
-use Rattle.std.proofs.lemmas.Result.{IfOk-from_err}
+use Rattle.bench_report.specs.Happens.{armed_with, off}
 use Rattle.bench_sweep.proofs.judging.run_past_failure.Goals as goal
 
 pub run_lines-requires-clause-calm : goal.run_lines-requires-clause-calm

@@ -1,10 +1,7 @@
 use Rattle.std.proofs.lemmas.Result.{IfOk-weaker}
-use Rattle.bench_sweep.specs.declared.points.BenchKind.TheVariants.{Cuts}
-use Rattle.bench_sweep.specs.Points.{fault_at}
-use Rattle.bench_report.specs.Happens.{armed_with, off}
-use Rattle.bench_sweep.proofs.Left.{unstruck}
-use Rattle.bench_sweep.proofs.Made.{runs_with}
+use Rattle.bench_sweep.{specs.{declared.points.BenchKind.TheVariants.Cuts, Points.fault_at}, proofs.{Left.unstruck, Made.runs_with}}
 use Rattle.bench_sweep.proofs.Rowed.{judged_at}
+use Rattle.bench_report.specs.Happens.{armed_with, off}
 use Rattle.bench_sweep.proofs.judging.run_to_cut.Goals as goal
 
 pub run_lines-requires-clause-calm : goal.run_lines-requires-clause-calm

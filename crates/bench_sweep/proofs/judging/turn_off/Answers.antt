@@ -1,5 +1,4 @@
-use Rattle.std.proofs.Common.{◌≡◌, Bool, true, false, refl, sym, ◌∙◌, ap}
-use Rattle.std.proofs.Math.Bool.{not, beq}
+use Rattle.std.proofs.{Common.{◌≡◌, Bool, true, false, refl, sym, ◌∙◌, ap}, Math.Bool.{not, beq}}
 use Rattle.disk.specs.FaultState.{FaultState}
 use Rattle.bench_sweep.proofs.judging.turn_off.Goals as goal
 

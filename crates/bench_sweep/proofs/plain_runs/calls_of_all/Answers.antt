@@ -1,11 +1,6 @@
-use Rattle.std.proofs.Common.{◌≡◌, ◌∙◌, ℕ, List, [], ◌∷◌, ◌++◌, take, refl, sym, subst, arith}
-use Rattle.std.proofs.lemmas.List.{take_more}
-use Rattle.std.specs.List.{AllZip}
-use Rattle.bench_sweep.specs.Points.{callers, MadeCalls}
-use Rattle.bench_sweep.specs.declared.points.Caller.{Caller}
-use Rattle.bench_sweep.specs.declared.points.Caller.TheVariants.{Disk}
-use Rattle.bench_sweep.proofs.Made.{zip_long, zip_more}
-use Rattle.bench_sweep.proofs.Written.{all_long, total_more}
+use Rattle.std.{proofs.{Common.{◌≡◌, ◌∙◌, ℕ, List, [], ◌∷◌, ◌++◌, take, refl, sym, subst, arith}, lemmas.List.take_more}, specs.List.AllZip}
+use Rattle.bench_sweep.specs.{Points.{callers, MadeCalls}, declared.points.Caller.{Caller, TheVariants.Disk}}
+use Rattle.bench_sweep.proofs.{Made.{zip_long, zip_more}, Written.{all_long, total_more}}
 use Rattle.bench_sweep.proofs.plain_runs.calls_of_all.Goals as goal
 
 pub loop-caller-init : goal.loop-caller-init

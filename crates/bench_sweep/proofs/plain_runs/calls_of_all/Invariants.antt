@@ -1,7 +1,5 @@
-use Rattle.std.proofs.Common.{◌≡◌, ℕ, List, take}
-use Rattle.std.specs.List.{AllZip}
-use Rattle.bench_sweep.specs.Points.{MadeCalls}
-use Rattle.bench_sweep.proofs.Written.{total}
+use Rattle.std.{proofs.Common.{◌≡◌, ℕ, List, take}, specs.List.AllZip}
+use Rattle.bench_sweep.{specs.Points.MadeCalls, proofs.Written.total}
 use Rattle.bench_sweep.proofs.plain_runs.calls_of_all.Given as goal
 
 -- those of the callers so far are counted

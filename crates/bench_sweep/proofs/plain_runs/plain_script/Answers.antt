@@ -1,10 +1,7 @@
-use Rattle.std.proofs.Common.{All, List, inl, inr, ⊎_elim, subst}
-use Rattle.std.proofs.lemmas.Result.{IfOk-from_err}
+use Rattle.std.proofs.{Common.{All, List, inl, inr, ⊎_elim, subst}, lemmas.Result.IfOk-from_err}
 use Rattle.board_model.proofs.Exits.{err_exit}
-use Rattle.script_lang.specs.Views.{view}
-use Rattle.script_lang.specs.declared.line.Line.{Line}
-use Rattle.bench_sweep.specs.Swept.{IsNotPlain, IsPlainLine}
-use Rattle.bench_sweep.proofs.Scripts.{unswept}
+use Rattle.script_lang.specs.{Views.view, declared.line.Line.Line}
+use Rattle.bench_sweep.{specs.Swept.{IsNotPlain, IsPlainLine}, proofs.Scripts.unswept}
 use Rattle.bench_sweep.proofs.plain_runs.plain_script.Goals as goal
 
 pub returns-clause-plain : goal.returns-clause-plain

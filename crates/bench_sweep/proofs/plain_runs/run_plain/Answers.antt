@@ -1,12 +1,8 @@
-use Rattle.std.proofs.Common.{◌∙◌, List, arith, subst, sym}
-use Rattle.std.proofs.lemmas.List.{take_all}
+use Rattle.std.proofs.{Common.{◌∙◌, List, arith, subst, sym}, lemmas.{List.take_all, Result.IfOk-from_err}}
 use Rattle.script_lang.specs.declared.line.Line.{Line}
 use Rattle.bench_report.specs.Happens.{unpowered}
-use Rattle.bench_sweep.specs.Took.{RunTook}
-use Rattle.bench_sweep.proofs.Left.{off_sits}
-use Rattle.bench_sweep.proofs.Made.{none_yet, sits_at, went_more, rest_is, ends_at, took_on}
+use Rattle.bench_sweep.{specs.Took.RunTook, proofs.{Left.off_sits, Made.{none_yet, sits_at, went_more, rest_is, ends_at, took_on}}}
 use Rattle.bench_sweep.proofs.Reported.{swept_take, swept_drop, stays_within}
-use Rattle.std.proofs.lemmas.Result.{IfOk-from_err}
 use Rattle.bench_sweep.proofs.plain_runs.run_plain.Goals as goal
 
 pub loop-from-init : goal.loop-from-init

@@ -1,9 +1,6 @@
 use Rattle.std.proofs.Common.{◌≤◌, ◌-◌, length, take}
-use Rattle.bench_report.specs.Bench.{Bench}
-use Rattle.bench_report.specs.Happens.{unpowered}
-use Rattle.bench_sweep.specs.Runs.{RunsAt, Sits}
-use Rattle.bench_sweep.specs.Took.{RunTook}
-use Rattle.bench_sweep.proofs.Made.{Went}
+use Rattle.bench_report.specs.{Bench.Bench, Happens.unpowered}
+use Rattle.bench_sweep.{specs.{Runs.{RunsAt, Sits}, Took.RunTook}, proofs.Made.Went}
 use Rattle.bench_sweep.proofs.plain_runs.run_plain.Given as goal
 
 -- the lines so far were run

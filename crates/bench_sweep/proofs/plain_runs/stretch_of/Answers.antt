@@ -1,11 +1,7 @@
-use Rattle.std.proofs.Common.{◌∙◌, ap, refl, sym, subst, take}
+use Rattle.std.proofs.{Common.{◌∙◌, ap, refl, sym, subst, take}, lemmas.Result.IfOk-from_err}
 use Rattle.simdisk.specs.declared.SimDisk.{SimDisk}
 use Rattle.bench_report.specs.Happens.{off, unpowered}
-use Rattle.bench_sweep.specs.Points.{calls_of}
-use Rattle.bench_sweep.specs.Took.{RunTook, own_disk}
-use Rattle.bench_sweep.proofs.Ran.{life_of}
-use Rattle.bench_sweep.proofs.Took.{took_since}
-use Rattle.std.proofs.lemmas.Result.{IfOk-from_err}
+use Rattle.bench_sweep.{specs.{Points.calls_of, Took.{RunTook, own_disk}}, proofs.{Ran.life_of, Took.took_since}}
 use Rattle.bench_sweep.proofs.plain_runs.stretch_of.Goals as goal
 
 pub returns-clause-lives : goal.returns-clause-lives

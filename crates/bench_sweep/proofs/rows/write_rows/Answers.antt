@@ -1,10 +1,6 @@
-use Rattle.std.proofs.Common.{List, ℕ, false, subst, arith}
-use Rattle.std.specs.Io.KnownBytes.{Appends}
+use Rattle.std.{proofs.{Common.{List, ℕ, false, subst, arith}, lemmas.List.take_all}, specs.Io.KnownBytes.Appends}
 use Rattle.board_model.proofs.Written.{appended, unwritten}
-use Rattle.std.proofs.lemmas.List.{take_all}
-use Rattle.bench_sweep.specs.declared.rows.Row.{Row}
-use Rattle.bench_sweep.specs.Swept.{rows_text}
-use Rattle.bench_sweep.proofs.Written.{rows_one_more}
+use Rattle.bench_sweep.{specs.{declared.rows.Row.Row, Swept.rows_text}, proofs.Written.rows_one_more}
 use Rattle.bench_sweep.proofs.rows.write_rows.Goals as goal
 
 pub loop-row-init : goal.loop-row-init

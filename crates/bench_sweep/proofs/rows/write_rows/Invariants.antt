@@ -1,5 +1,4 @@
-use Rattle.std.proofs.Common.{false, take}
-use Rattle.std.specs.Io.KnownBytes.{Appends}
+use Rattle.std.{proofs.Common.{false, take}, specs.Io.KnownBytes.Appends}
 use Rattle.bench_sweep.specs.Swept.{rows_text}
 use Rattle.bench_sweep.proofs.rows.write_rows.Given as goal
 

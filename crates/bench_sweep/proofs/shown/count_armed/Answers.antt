@@ -1,7 +1,5 @@
 use Rattle.bench_report.specs.Happens.{armed_with, unpowered}
-use Rattle.bench_sweep.specs.Points.{fault_at}
-use Rattle.bench_sweep.proofs.Left.{unstruck}
-use Rattle.bench_sweep.proofs.Made.{runs_armed}
+use Rattle.bench_sweep.{specs.Points.fault_at, proofs.{Left.unstruck, Made.runs_armed}}
 use Rattle.bench_sweep.proofs.shown.count_armed.Goals as goal
 
 pub run_lines-requires-clause-calm : goal.run_lines-requires-clause-calm

@@ -1,8 +1,6 @@
 use Rattle.std.proofs.lemmas.Result.{IfOk-from_err, IfOk-weaker}
 use Rattle.bench_report.specs.Happens.{unpowered}
-use Rattle.bench_sweep.specs.Made.{CallsIn}
-use Rattle.bench_sweep.specs.Points.{callers, MadeCalls}
-use Rattle.bench_sweep.proofs.Made.{plain_run, zip_long}
+use Rattle.bench_sweep.{specs.{Made.CallsIn, Points.{callers, MadeCalls}}, proofs.Made.{plain_run, zip_long}}
 use Rattle.bench_sweep.proofs.shown.count_calls.Goals as goal
 
 pub returns-clause-calls : goal.returns-clause-calls

@@ -1,10 +1,5 @@
-use Rattle.std.proofs.Common.{◌≡◌, ℕ, List, ◌++◌, ◌∷◌, [], ◌+◌, take, sym, subst, arith}
-use Rattle.std.proofs.lemmas.List.{take_more}
-use Rattle.std.specs.List.{AllZip}
-use Rattle.bench_sweep.specs.Points.{callers, MadeCalls}
-use Rattle.bench_sweep.specs.declared.points.Caller.{Caller}
-use Rattle.bench_sweep.specs.declared.points.Caller.TheVariants.{Disk}
-use Rattle.bench_sweep.proofs.Made.{zip_more}
+use Rattle.std.{proofs.{Common.{◌≡◌, ℕ, List, ◌++◌, ◌∷◌, [], ◌+◌, take, sym, subst, arith}, lemmas.List.take_more}, specs.List.AllZip}
+use Rattle.bench_sweep.{specs.{Points.{callers, MadeCalls}, declared.points.Caller.{Caller, TheVariants.Disk}}, proofs.Made.zip_more}
 use Rattle.bench_sweep.proofs.shown.counts_of.Goals as goal
 
 pub loop-caller-preserved : goal.loop-caller-preserved

@@ -1,8 +1,5 @@
 use Rattle.std.proofs.Common.{◌≡◌, ◌+◌, ◌*◌, ◌∙◌, ℕ, take, ap, sym, refl, arith}
-use Rattle.bench_sweep.specs.Shown.{runs_each}
-use Rattle.bench_sweep.proofs.Written.{total}
-use Rattle.bench_sweep.specs.declared.points.Caller.TheVariants.{Disk}
-use Rattle.bench_sweep.proofs.Nth.{fewer_runs, nth_run}
+use Rattle.bench_sweep.{specs.{Shown.runs_each, declared.points.Caller.TheVariants.Disk}, proofs.{Written.total, Nth.{fewer_runs, nth_run}}}
 use Rattle.bench_sweep.proofs.shown.run_of_number.Goals as goal
 
 pub returns-then-point-counts : goal.returns-then-point-counts

@@ -1,10 +1,8 @@
-use Rattle.std.proofs.Common.{inl, inr, ⊎_elim}
-use Rattle.std.proofs.lemmas.List.Elements.{All-take}
+use Rattle.std.proofs.{Common.{inl, inr, ⊎_elim}, lemmas.List.Elements.All-take}
 use Rattle.std.proofs.lemmas.Result.{err_from_is_err_and, on_ok_weaker, IfOk-from_err}
 use Rattle.bench_report.specs.Happens.{unpowered}
 use Rattle.script_lang.specs.Lines.{IsLineInRange}
-use Rattle.bench_sweep.specs.Shown.{run_cell}
-use Rattle.bench_sweep.proofs.ShownRows.{refused_so, shows_from, shows_none}
+use Rattle.bench_sweep.{specs.Shown.run_cell, proofs.ShownRows.{refused_so, shows_from, shows_none}}
 use Rattle.board_model.proofs.Exits.{err_said}
 use Rattle.bench_sweep.proofs.shown.show_from.Goals as goal
 

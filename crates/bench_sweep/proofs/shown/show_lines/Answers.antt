@@ -1,14 +1,7 @@
-use Rattle.std.proofs.Common.{List, refl, subst, take, inl}
-use Rattle.std.proofs.lemmas.List.Elements.{All-take}
-use Rattle.std.proofs.lemmas.Result.{on_ok_weaker, IfOk-from_err}
-use Rattle.script_lang.specs.Lines.{IsLineInRange}
-use Rattle.script_lang.specs.declared.line.Line.{Line}
-use Rattle.bench_report.specs.Happens.{off, unpowered}
-use Rattle.bench_report.specs.declared.power.Power.TheVariants.{Off}
-use Rattle.bench_sweep.specs.Shown.{ShowsFrom, ShowsNone}
-use Rattle.bench_sweep.proofs.Made.{rest_is}
-use Rattle.bench_sweep.proofs.Reported.{swept_take, swept_drop}
-use Rattle.bench_sweep.proofs.ShownRows.{refused_so}
+use Rattle.std.proofs.{Common.{List, refl, subst, take, inl}, lemmas.{List.Elements.All-take, Result.{on_ok_weaker, IfOk-from_err}}}
+use Rattle.script_lang.specs.{Lines.IsLineInRange, declared.line.Line.Line}
+use Rattle.bench_report.specs.{Happens.{off, unpowered}, declared.power.Power.TheVariants.Off}
+use Rattle.bench_sweep.{specs.Shown.{ShowsFrom, ShowsNone}, proofs.{Made.rest_is, Reported.{swept_take, swept_drop}, ShownRows.refused_so}}
 use Rattle.board_model.proofs.Exits.{err_said}
 use Rattle.bench_sweep.proofs.shown.show_lines.Goals as goal
 

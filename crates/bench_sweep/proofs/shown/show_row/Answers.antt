@@ -1,8 +1,6 @@
-use Rattle.std.proofs.Common.{inl, inr, ⊎_elim, refl}
-use Rattle.std.proofs.lemmas.Result.{on_ok_weaker, IfOk-from_err}
+use Rattle.std.proofs.{Common.{inl, inr, ⊎_elim, refl}, lemmas.Result.{on_ok_weaker, IfOk-from_err}}
 use Rattle.script_lang.specs.Views.{view}
-use Rattle.bench_sweep.proofs.Scripts.{swept, no_fault, fault_told, plain_told}
-use Rattle.bench_sweep.proofs.ShownRows.{refused_row}
+use Rattle.bench_sweep.proofs.{Scripts.{swept, no_fault, fault_told, plain_told}, ShownRows.refused_row}
 use Rattle.board_model.proofs.Exits.{err_exit}
 use Rattle.bench_sweep.proofs.shown.show_row.Goals as goal
 

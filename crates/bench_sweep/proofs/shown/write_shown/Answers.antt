@@ -1,8 +1,6 @@
-use Rattle.std.proofs.Common.{◌≡◌, ◌∙◌, ◌≤◌, List, All, length, ap, arith, subst, sym, inl}
-use Rattle.std.proofs.lemmas.Bool.Decides.{nat_tests}
+use Rattle.std.proofs.{Common.{◌≡◌, ◌∙◌, ◌≤◌, List, All, length, ap, arith, subst, sym, inl}, lemmas.Bool.Decides.nat_tests}
 use Rattle.std.proofs.lemmas.Result.{on_ok_weaker, IfOk-from_err}
-use Rattle.script_lang.specs.Lines.{FitsLine}
-use Rattle.script_lang.specs.declared.line.Line.{Line}
+use Rattle.script_lang.specs.{Lines.FitsLine, declared.line.Line.Line}
 use Rattle.bench_sweep.proofs.ShownRows.{row_in_range, wrote_script}
 use Rattle.board_model.proofs.Exits.{err_said}
 use Rattle.bench_sweep.proofs.shown.write_shown.Goals as goal

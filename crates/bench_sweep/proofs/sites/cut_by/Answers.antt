@@ -1,5 +1,4 @@
-use Rattle.bench_sweep.proofs.Left.{left_off}
-use Rattle.bench_sweep.proofs.Calls.{same_calls}
+use Rattle.bench_sweep.proofs.{Left.left_off, Calls.same_calls}
 use Rattle.bench_sweep.proofs.sites.cut_by.Goals as goal
 
 pub returns-clause-left : goal.returns-clause-left

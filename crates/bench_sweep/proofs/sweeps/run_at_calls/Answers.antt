@@ -1,12 +1,8 @@
 use Rattle.std.proofs.Common.{◌≡◌, ◌∙◌, ◌+◌, ◌-◌, ◌≤◌, ◌<◌, ℕ, List, [], ap, subst, sym, arith, min}
 use Rattle.std.proofs.lemmas.Result.{on_ok_weaker, IfOk-from_err}
-use Rattle.bench_sweep.specs.Reports.{IsOfCall, TakesPoint}
-use Rattle.bench_sweep.specs.Swept.{Spot, points_from}
-use Rattle.crew.specs.Parts.{chunk_from, window}
-use Rattle.crew.proofs.Chunked.{chunks_handed}
-use Rattle.bench_sweep.proofs.Reported.{reports_as, reports_none}
-use Rattle.bench_sweep.proofs.Rowed.{all_points}
-use Rattle.bench_sweep.proofs.Written.{window_of_calls}
+use Rattle.bench_sweep.{specs.{Reports.{IsOfCall, TakesPoint}, Swept.{Spot, points_from}}, proofs.Reported.{reports_as, reports_none}}
+use Rattle.bench_sweep.proofs.{Rowed.all_points, Written.window_of_calls}
+use Rattle.crew.{specs.Parts.{chunk_from, window}, proofs.Chunked.chunks_handed}
 use Rattle.bench_sweep.proofs.sweeps.run_at_calls.Goals as goal
 
 pub hand_on_all-requires-clause-has : goal.hand_on_all-requires-clause-has

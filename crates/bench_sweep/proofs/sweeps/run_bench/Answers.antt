@@ -1,5 +1,4 @@
-use Rattle.std.proofs.Common.{inr, inl, ⊎_elim, refl}
-use Rattle.std.proofs.lemmas.Result.{IfOk-from_err}
+use Rattle.std.proofs.{Common.{inr, inl, ⊎_elim, refl}, lemmas.Result.IfOk-from_err}
 use Rattle.script_lang.specs.Views.{view}
 use Rattle.bench_sweep.proofs.Scripts.{swept, no_fault, fault_told, plain_told}
 use Rattle.board_model.proofs.Exits.{err_exit}

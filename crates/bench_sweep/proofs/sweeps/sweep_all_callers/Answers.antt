@@ -1,16 +1,9 @@
-use Rattle.std.proofs.Common.{◌≡◌, ◌∙◌, ℕ, List, [], ◌∷◌, ◌++◌, take, length, refl, sym, ap, subst, arith}
-use Rattle.std.proofs.lemmas.List.{take_more, length-take-le}
-use Rattle.std.specs.List.{AllZip}
-use Rattle.bench_sweep.specs.Points.{callers, MadeCalls}
-use Rattle.bench_sweep.specs.declared.points.Caller.{Caller}
-use Rattle.bench_sweep.specs.declared.points.Caller.TheVariants.{Disk}
-use Rattle.bench_sweep.specs.Swept.{all_points}
-use Rattle.crew.specs.Parts.{window, begin_of, end_of}
-use Rattle.crew.proofs.Pieces.{window_none, window_at, own_is}
-use Rattle.bench_sweep.proofs.Made.{zip_long, zip_more, zip_same}
-use Rattle.bench_sweep.proofs.Reported.{reports_none, reports_more, reports_as}
+use Rattle.std.{proofs.Common.{◌≡◌, ◌∙◌, ℕ, List, [], ◌∷◌, ◌++◌, take, length, refl, sym, ap, subst, arith}, specs.List.AllZip}
+use Rattle.std.proofs.lemmas.{List.{take_more, length-take-le}, Result.IfOk-from_err}
+use Rattle.bench_sweep.specs.{Points.{callers, MadeCalls}, declared.points.Caller.{Caller, TheVariants.Disk}, Swept.all_points}
+use Rattle.bench_sweep.proofs.{Made.{zip_long, zip_more, zip_same}, Reported.{reports_none, reports_more, reports_as}}
 use Rattle.bench_sweep.proofs.Written.{next_caller, total_more}
-use Rattle.std.proofs.lemmas.Result.{IfOk-from_err}
+use Rattle.crew.{specs.Parts.{window, begin_of, end_of}, proofs.Pieces.{window_none, window_at, own_is}}
 use Rattle.bench_sweep.proofs.sweeps.sweep_all_callers.Goals as goal
 
 pub loop-caller-init : goal.loop-caller-init

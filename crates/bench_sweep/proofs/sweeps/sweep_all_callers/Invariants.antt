@@ -1,13 +1,6 @@
-use Rattle.std.proofs.Common.{◌≡◌, ◌-◌, ℕ, List, take}
-use Rattle.std.specs.List.{AllZip}
-use Rattle.bench_report.specs.Bench.{Bench}
-use Rattle.bench_report.specs.Happens.{unpowered}
-use Rattle.bench_sweep.specs.Points.{MadeCalls}
-use Rattle.bench_sweep.specs.Made.{IsRunOf}
-use Rattle.bench_sweep.specs.Reports.{Reports}
-use Rattle.bench_sweep.specs.Runs.{RunsAt}
-use Rattle.bench_sweep.specs.Swept.{all_points}
-use Rattle.bench_sweep.proofs.Written.{total}
+use Rattle.std.{proofs.Common.{◌≡◌, ◌-◌, ℕ, List, take}, specs.List.AllZip}
+use Rattle.bench_report.specs.{Bench.Bench, Happens.unpowered}
+use Rattle.bench_sweep.{specs.{Points.MadeCalls, Made.IsRunOf, Reports.Reports, Runs.RunsAt, Swept.all_points}, proofs.Written.total}
 use Rattle.crew.specs.Parts.{window}
 use Rattle.bench_sweep.proofs.sweeps.sweep_all_callers.Given as goal
 

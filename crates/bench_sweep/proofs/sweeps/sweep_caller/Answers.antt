@@ -1,11 +1,8 @@
-use Rattle.std.proofs.Common.{arith, sym}
+use Rattle.std.proofs.{Common.{arith, sym}, lemmas.Result.IfOk-from_err}
 use Rattle.bench_report.specs.Happens.{unpowered}
-use Rattle.bench_sweep.proofs.Left.{off_sits}
-use Rattle.bench_sweep.proofs.Made.{none_yet, sits_at, went_more, rest_is, row_of, took_on}
+use Rattle.bench_sweep.proofs.{Left.off_sits, Made.{none_yet, sits_at, went_more, rest_is, row_of, took_on}, Written.next_window}
 use Rattle.bench_sweep.proofs.Reported.{reports_none, reports_more, reports_as, reports_weaker, swept_take, swept_drop, stays_within}
 use Rattle.crew.proofs.Pieces.{window_none}
-use Rattle.bench_sweep.proofs.Written.{next_window}
-use Rattle.std.proofs.lemmas.Result.{IfOk-from_err}
 use Rattle.bench_sweep.proofs.sweeps.sweep_caller.Goals as goal
 
 pub loop-from-init : goal.loop-from-init

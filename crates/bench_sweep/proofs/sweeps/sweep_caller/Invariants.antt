@@ -1,14 +1,8 @@
 use Rattle.std.proofs.Common.{◌≡◌, ◌≤◌, ◌+◌, ◌-◌, length, take}
-use Rattle.bench_report.specs.Bench.{Bench}
-use Rattle.bench_report.specs.Happens.{unpowered}
-use Rattle.bench_sweep.specs.Points.{calls_of}
-use Rattle.bench_sweep.specs.Made.{IsRunOf}
-use Rattle.bench_sweep.specs.Reports.{Reports}
-use Rattle.bench_sweep.specs.Runs.{RunsAt, Sits}
-use Rattle.bench_sweep.specs.Swept.{points_from}
-use Rattle.bench_sweep.specs.Took.{RunTook}
-use Rattle.crew.specs.Parts.{window}
+use Rattle.bench_report.specs.{Bench.Bench, Happens.unpowered}
+use Rattle.bench_sweep.specs.{Points.calls_of, Made.IsRunOf, Reports.Reports, Runs.{RunsAt, Sits}, Swept.points_from, Took.RunTook}
 use Rattle.bench_sweep.proofs.Made.{Went}
+use Rattle.crew.specs.Parts.{window}
 use Rattle.bench_sweep.proofs.sweeps.sweep_caller.Given as goal
 
 -- the runs of the points so far are written

@@ -1,11 +1,7 @@
-use Rattle.std.proofs.Common.{List, refl, subst}
-use Rattle.std.proofs.lemmas.Result.{IfOk-weaker}
-use Rattle.bench_report.specs.Happens.{off, unpowered}
-use Rattle.bench_report.specs.declared.power.Power.TheVariants.{Off}
+use Rattle.std.proofs.{Common.{List, refl, subst}, lemmas.Result.IfOk-weaker}
+use Rattle.bench_report.specs.{Happens.{off, unpowered}, declared.power.Power.TheVariants.Off}
 use Rattle.script_lang.specs.declared.line.Line.{Line}
-use Rattle.bench_sweep.specs.Reports.{ReportsAll}
-use Rattle.bench_sweep.proofs.Made.{rest_is}
-use Rattle.bench_sweep.proofs.Reported.{swept_take, swept_drop}
+use Rattle.bench_sweep.{specs.Reports.ReportsAll, proofs.{Made.rest_is, Reported.{swept_take, swept_drop}}}
 use Rattle.bench_sweep.proofs.sweeps.sweep_lines.Goals as goal
 
 pub sweep_site-requires-clause-lines : goal.sweep_site-requires-clause-lines

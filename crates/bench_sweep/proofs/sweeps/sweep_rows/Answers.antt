@@ -1,7 +1,5 @@
-use Rattle.std.proofs.Common.{◌≡◌, ℕ, List, Option, ◌∷◌, ◌++◌, [], refl, sym, ap, subst}
-use Rattle.std.specs.Io.KnownBytes.{Appends}
-use Rattle.bench_sweep.specs.Rows.{sweep_text}
-use Rattle.bench_sweep.proofs.Written.{wrote_all}
+use Rattle.std.{proofs.Common.{◌≡◌, ℕ, List, Option, ◌∷◌, ◌++◌, [], refl, sym, ap, subst}, specs.Io.KnownBytes.Appends}
+use Rattle.bench_sweep.{specs.Rows.sweep_text, proofs.Written.wrote_all}
 use Rattle.bench_sweep.proofs.sweeps.sweep_rows.Goals as goal
 
 -- the report went on in the writer that it was given

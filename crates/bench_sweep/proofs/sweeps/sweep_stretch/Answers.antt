@@ -1,7 +1,5 @@
-use Rattle.std.proofs.Common.{sym, subst, arith}
-use Rattle.bench_sweep.specs.declared.site.Site.{Site}
-use Rattle.bench_sweep.specs.Runs.{IsLife}
-use Rattle.std.proofs.lemmas.Result.{IfOk-from_err}
+use Rattle.std.proofs.{Common.{sym, subst, arith}, lemmas.Result.IfOk-from_err}
+use Rattle.bench_sweep.specs.{declared.site.Site.Site, Runs.IsLife}
 use Rattle.bench_sweep.proofs.sweeps.sweep_stretch.Goals as goal
 
 pub run_at_calls-requires-clause-numbers : goal.run_at_calls-requires-clause-numbers

@@ -1,11 +1,7 @@
-use Rattle.std.proofs.Common.{◌≡◌, None, inl, inr, refl, sym, subst}
-use Rattle.std.proofs.lemmas.Result.{err_from_is_err_and}
-use Rattle.board_model.specs.Durable.{Consume}
-use Rattle.board_model.specs.declared.boot_mode.BootMode.{BootMode}
+use Rattle.std.proofs.{Common.{◌≡◌, None, inl, inr, refl, sym, subst}, lemmas.Result.err_from_is_err_and}
+use Rattle.board_model.specs.{Durable.Consume, declared.boot_mode.BootMode.BootMode}
 use Rattle.store.specs.Views.{size_of_store, view_of, found_state, now_state}
-use Rattle.board.specs.Boots.{boot_refusal}
-use Rattle.board.specs.Issues.{AreIssued, AreStopped}
-use Rattle.board.specs.Moments.{commands_by}
+use Rattle.board.specs.{Boots.boot_refusal, Issues.{AreIssued, AreStopped}, Moments.commands_by}
 use Rattle.board.proofs.Issued.{takes_commands, free_now, one_issued, one_stopped, is_issued, is_unissued, not_loaded}
 use Rattle.board.proofs.CallsMade.{resumed_calls, by_load, by_disk}
 use Rattle.board.proofs.ready.begin.Goals as goal

@@ -1,11 +1,9 @@
-use Rattle.std.proofs.Common.{rules, ◌≡◌, ◌*◌, true, false, is_some, List, length, refl, sym, subst}
-use Rattle.std.proofs.lemmas.Result.{err_from_is_err_and}
+use Rattle.std.proofs.{Common.{rules, ◌≡◌, ◌*◌, true, false, is_some, List, length, refl, sym, subst}, lemmas.Result.err_from_is_err_and}
 use Rattle.board_model.specs.Durable.{Change, Attempt}
 use Rattle.disk.specs.Facts.{counted}
 use Rattle.store.specs.Views.{view_of, now_state}
-use Rattle.board.specs.Issues.{AreIssued, AreStopped}
+use Rattle.board.{specs.Issues.{AreIssued, AreStopped}, proofs.CallsMade.no_call}
 use Rattle.board.proofs.Issued.{none_to_issue, one_issued, one_stopped, counts_boot, counts_none, attempt_taken}
-use Rattle.board.proofs.CallsMade.{no_call}
 use Rattle.board.proofs.ready.count_boot.Goals as goal
 
 -- the boot was counted

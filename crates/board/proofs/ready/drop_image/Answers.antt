@@ -1,13 +1,9 @@
-use Rattle.std.proofs.Common.{◌≡◌, ◌*◌, length, None, refl, sym, subst}
-use Rattle.std.proofs.lemmas.Result.{err_from_is_err_and}
-use Rattle.board_model.specs.Durable.{Discard}
-use Rattle.board_model.specs.declared.boot_mode.BootMode.{BootMode}
+use Rattle.std.proofs.{Common.{◌≡◌, ◌*◌, length, None, refl, sym, subst}, lemmas.Result.err_from_is_err_and}
+use Rattle.board_model.specs.{Durable.Discard, declared.boot_mode.BootMode.BootMode}
 use Rattle.disk.specs.Facts.{counted}
 use Rattle.store.specs.Views.{view_of, found_state}
-use Rattle.board.specs.Boots.{boot_refusal}
-use Rattle.board.specs.Issues.{AreIssued, AreStopped, drops_by}
+use Rattle.board.{specs.{Boots.boot_refusal, Issues.{AreIssued, AreStopped, drops_by}}, proofs.CallsMade.none_dropped_calls}
 use Rattle.board.proofs.Issued.{takes_commands, one_issued, one_stopped, free_now, none_dropped}
-use Rattle.board.proofs.CallsMade.{none_dropped_calls}
 use Rattle.board.proofs.ready.drop_image.Goals as goal
 
 -- the image was dropped

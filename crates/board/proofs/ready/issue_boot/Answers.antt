@@ -1,7 +1,6 @@
 use Rattle.std.proofs.lemmas.Result.{err_from_is_err_and}
 use Rattle.store.specs.Views.{view_of}
-use Rattle.board.proofs.Issued.{boot_acknowledged, boot_refused, boot_unissued, drop_stopped, is_unissued, issues}
-use Rattle.board.proofs.CallsMade.{boot_made}
+use Rattle.board.proofs.{Issued.{boot_acknowledged, boot_refused, boot_unissued, drop_stopped, is_unissued, issues}, CallsMade.boot_made}
 use Rattle.board.proofs.ready.issue_boot.Goals as goal
 
 -- the image was not dropped

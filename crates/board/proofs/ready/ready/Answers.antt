@@ -1,12 +1,8 @@
-use Rattle.std.proofs.Common.{Option, Some, subst}
-use Rattle.std.proofs.lemmas.Result.{err_from_is_err_and}
+use Rattle.std.proofs.{Common.{Option, Some, subst}, lemmas.Result.err_from_is_err_and}
 use Rattle.board_model.specs.declared.refusal.Refusal.{Refusal}
 use Rattle.store.specs.Views.{size_of_store, found_state, view_of}
-use Rattle.board.specs.Boots.{boot_refusal}
-use Rattle.board.specs.Unbooted.{RefusesMode}
-use Rattle.board.proofs.Unmoved.{unmoved}
+use Rattle.board.{specs.{Boots.boot_refusal, Unbooted.RefusesMode}, proofs.{Unmoved.unmoved, CallsMade.{by_mode, by_start}}}
 use Rattle.board.proofs.Refused.{comes_first, comes_late, refusal_is_quiet, none_refuses, start_is_quiet, start_is_late}
-use Rattle.board.proofs.CallsMade.{by_mode, by_start}
 use Rattle.board.proofs.ready.ready.Goals as goal
 
 pub returns-in-Some-clause-unissued : goal.returns-in-Some-clause-unissued

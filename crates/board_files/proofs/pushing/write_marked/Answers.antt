@@ -1,7 +1,7 @@
 use Rattle.std.proofs.Common.{◌≡◌, length, arith}
 use Rattle.board_files.proofs.Pushed.{writes_skip, writes_more, writes_all}
-use Rattle.board_files.proofs.pushing.write_marked.Goals as goal
 use Rattle.board_files.proofs.pushing.write_marked.Goals.{then-marks-number+in_ok-write_sector, else-marks-number}
+use Rattle.board_files.proofs.pushing.write_marked.Goals as goal
 
 pub loop-number-preserved : goal.loop-number-preserved
 loop-number-preserved g c = elim c.if-marks-number.branch [

@@ -1,5 +1,4 @@
-use Rattle.std.proofs.Common.{◌∙◌, arith, refl, rules}
-use Rattle.std.proofs.lemmas.List.{with_items_is, places}
+use Rattle.std.proofs.{Common.{◌∙◌, arith, refl, rules}, lemmas.List.{with_items_is, places}}
 use Rattle.board_files.proofs.InFolders.{one_appended}
 use Rattle.board_files.proofs.written.append_sectors.Goals as goal
 

@@ -1,6 +1,4 @@
-use Rattle.std.proofs.Common.{◌≡◌, ◌∙◌, length, arith, refl, rules, sym}
-use Rattle.std.proofs.lemmas.List.{with_items_is, places}
-use Rattle.std.specs.Vec.{with_items}
+use Rattle.std.{proofs.{Common.{◌≡◌, ◌∙◌, length, arith, refl, rules, sym}, lemmas.List.{with_items_is, places}}, specs.Vec.with_items}
 use Rattle.board_files.proofs.InFolders.{one_there}
 use Rattle.board_files.proofs.written.begins_with.Goals as goal
 

@@ -1,5 +1,4 @@
-use Rattle.std.specs.Prelude.{◌≡◌, ◌*◌, IfSome, take}
-use Rattle.std.specs.List.{concat}
+use Rattle.std.specs.{Prelude.{◌≡◌, ◌*◌, IfSome, take}, List.concat}
 use Rattle.board_files.specs.Folders.{blocks_of}
 use Rattle.board_files.proofs.written.begins_with.Given as goal
 

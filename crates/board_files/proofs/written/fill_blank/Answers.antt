@@ -1,5 +1,4 @@
-use Rattle.std.proofs.Common.{◌≡◌, ◌∙◌, [], length, refl, rules}
-use Rattle.std.proofs.lemmas.List.{with_items_is, places}
+use Rattle.std.proofs.{Common.{◌≡◌, ◌∙◌, [], length, refl, rules}, lemmas.List.{with_items_is, places}}
 use Rattle.board_files.proofs.InFolders.{blocks_filled, plain_filled}
 use Rattle.board_files.proofs.written.fill_blank.Goals as goal
 

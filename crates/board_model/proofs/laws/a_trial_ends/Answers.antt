@@ -1,11 +1,8 @@
 use Rattle.std.proofs.Common.{◌≡◌, ◌∙◌, [], ◌∷◌, ℕ, zero, suc, ◌-◌, ◌≤◌, List, Option, None, Some, Bool, true, false, nat_lt, if◌then◌else◌, refl, sym, ap, subst, arith}
-use Rattle.std.specs.List.{All}
-use Rattle.std.proofs.lemmas.List.Elements.{All-head, All-tail}
-use Rattle.std.proofs.lemmas.Bool.Decides.{nat_tests}
+use Rattle.std.{specs.List.All, proofs.lemmas.{List.Elements.{All-head, All-tail}, Bool.Decides.nat_tests}}
 use Rattle.board_model.specs.Durable.{DurableState, Change, Tries, Attempt, after, fold, attempted, attempts, fallback_by}
-use Rattle.board_model.specs.Trials.{IsUndecided, DecidesNone, boots_in, counts_boot}
+use Rattle.board_model.specs.{Trials.{IsUndecided, DecidesNone, boots_in, counts_boot}, declared.durable.Trial.Trial}
 use Rattle.board_model.proofs.Steps.{ByTrial, Decides, Counts, Spares, by_trial}
-use Rattle.board_model.specs.declared.durable.Trial.{Trial}
 use Rattle.board_model.proofs.laws.a_trial_ends.Goals as goal
 
 abbrev trial : ℕ → ℕ → Trial

@@ -1,6 +1,5 @@
 use Rattle.std.proofs.Common.{◌≡◌, ◌∙◌, ℕ, ◌≤◌, ◌<◌, ◌+◌, List, [], ◌∷◌, Option, Some, None, ap, arith}
-use Rattle.board_model.proofs.Steps.{by_image, image_after}
-use Rattle.board_model.specs.Durable.{DurableState, Image, Change, after, fold, HasImage, IsOrdered}
+use Rattle.board_model.{proofs.Steps.{by_image, image_after}, specs.Durable.{DurableState, Image, Change, after, fold, HasImage, IsOrdered}}
 use Rattle.board_model.proofs.laws.image_never_again.Goals as goal
 
 -- a serial that was given out, of which no image stands

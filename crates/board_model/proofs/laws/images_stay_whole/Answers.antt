@@ -1,8 +1,5 @@
-use Rattle.std.proofs.Common.{◌≡◌, List, [], ◌∷◌, Some, length, ap, arith}
-use Rattle.board_model.proofs.Steps.{whole_after}
-use Rattle.std.specs.List.{All}
-use Rattle.std.proofs.lemmas.List.Elements.{All-head, All-tail}
-use Rattle.board_model.specs.Durable.{DurableState, Image, Change, after, fold, IsWhole, CarriesWhole}
+use Rattle.std.{proofs.{Common.{◌≡◌, List, [], ◌∷◌, Some, length, ap, arith}, lemmas.List.Elements.{All-head, All-tail}}, specs.List.All}
+use Rattle.board_model.{proofs.Steps.whole_after, specs.Durable.{DurableState, Image, Change, after, fold, IsWhole, CarriesWhole}}
 use Rattle.board_model.specs.Shapes.{Size, IsSize, ram_bytes_of}
 use Rattle.board_model.proofs.laws.images_stay_whole.Goals as goal
 

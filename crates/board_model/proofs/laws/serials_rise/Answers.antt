@@ -1,7 +1,5 @@
-use Rattle.std.proofs.Common.{◌<◌, ◌≤◌, List, [], ◌∷◌, arith}
-use Rattle.std.specs.Prelude.{IfSome}
-use Rattle.board_model.proofs.Steps.{by_image, image_after}
-use Rattle.board_model.specs.Durable.{DurableState, Change, after, fold, IsOrdered}
+use Rattle.std.{proofs.Common.{◌<◌, ◌≤◌, List, [], ◌∷◌, arith}, specs.Prelude.IfSome}
+use Rattle.board_model.{proofs.Steps.{by_image, image_after}, specs.Durable.{DurableState, Change, after, fold, IsOrdered}}
 use Rattle.board_model.proofs.laws.serials_rise.Goals as goal
 
 rises : (s : DurableState) (cs : List Change) → IsOrdered s → (s.next ≤ (fold s cs).next) × IsOrdered (fold s cs)

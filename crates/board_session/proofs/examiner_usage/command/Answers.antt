@@ -1,5 +1,4 @@
-use Rattle.std.proofs.Common.{◌∙◌, ap₂}
-use Rattle.std.proofs.lemmas.Result.{IfOk-weaker}
+use Rattle.std.proofs.{Common.{◌∙◌, ap₂}, lemmas.Result.IfOk-weaker}
 use Rattle.clap.specs.Words.{with_rule}
 use Rattle.board_session.proofs.examiner_usage.command.Goals as goal
 

@@ -1,6 +1,5 @@
-use Rattle.std.proofs.Common.{◌∙◌, sym}
+use Rattle.std.{proofs.Common.{◌∙◌, sym}, specs.Io.Buffered.writer_contents}
 use Rattle.command_line.specs.Pipes.{pipe_contents}
-use Rattle.std.specs.Io.Buffered.{writer_contents}
 use Rattle.board_session.proofs.FileSeen.{ends_closed, ends_open}
 use Rattle.board_session.proofs.examines.examine_by.Goals as goal
 

@@ -1,7 +1,5 @@
-use Rattle.std.proofs.Common.{◌≡◌, ◌∙◌, Bool, false, ap, ap₂, codes}
-use Rattle.std.proofs.lemmas.Result.{IfOk-weaker}
-use Rattle.clap.specs.Words.{rule_of, with_rule}
-use Rattle.clap.specs.declared.builder.arg.Arg.{Arg}
+use Rattle.std.proofs.{Common.{◌≡◌, ◌∙◌, Bool, false, ap, ap₂, codes}, lemmas.Result.IfOk-weaker}
+use Rattle.clap.specs.{Words.{rule_of, with_rule}, declared.builder.arg.Arg.Arg}
 use Rattle.command_line.specs.Options.{path_rule}
 use Rattle.board_session.specs.Usage.{required}
 use Rattle.board_session.proofs.help.board.Goals as goal

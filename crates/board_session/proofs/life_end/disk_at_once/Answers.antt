@@ -1,12 +1,8 @@
 use Rattle.std.proofs.Common.{[], length, Option, None, refl, sym, subst}
 use Rattle.board_model.specs.Durable.{Change}
-use Rattle.hart_threads.specs.Doubts.{IsDoubtOf}
-use Rattle.hart_threads.specs.Since.{AreKept}
-use Rattle.hart_threads.proofs.Keeping.{begun_kept}
-use Rattle.store.specs.Leaves.{LeavesOnly}
-use Rattle.store.specs.Views.{disk_of, doubt_of, found_state, journal_of, life_of, now_state, size_of_store}
-use Rattle.board_session.proofs.Backing.{at_once, none_later}
-use Rattle.board_session.proofs.Powering.{kept_reads, life_kept, life_leaves}
+use Rattle.hart_threads.{specs.{Doubts.IsDoubtOf, Since.AreKept}, proofs.Keeping.begun_kept}
+use Rattle.store.specs.{Leaves.LeavesOnly, Views.{disk_of, doubt_of, found_state, journal_of, life_of, now_state, size_of_store}}
+use Rattle.board_session.proofs.{Backing.{at_once, none_later}, Powering.{kept_reads, life_kept, life_leaves}}
 use Rattle.board_session.proofs.life_end.disk_at_once.Goals as goal
 
 pub returns-clause-life : goal.returns-clause-life

@@ -1,18 +1,11 @@
 use Rattle.std.proofs.Common.{◌≡◌, ◌∙◌, ℕ, List, None, length, refl, sym, ap, subst, arith}
-use Rattle.board_model.specs.Durable.{DurableState, fold, refusal_of}
-use Rattle.board_model.specs.Shapes.{Size}
+use Rattle.board_model.specs.{Durable.{DurableState, fold, refusal_of}, Shapes.Size, declared.durable.Entry.Entry}
 use Rattle.board.specs.Unbooted.{LeavesLife}
 use Rattle.disk.specs.Facts.{Failed}
-use Rattle.tallies.specs.Closed.{AreReceiptsOf, told_in}
-use Rattle.board_model.specs.declared.durable.Entry.{Entry}
-use Rattle.tallies.specs.declared.book_views.PartView.{PartView}
-use Rattle.hart_threads.specs.Bused.{AreSaved}
-use Rattle.hart_threads.specs.Noted.{entries_in}
-use Rattle.hart_threads.specs.Since.{AreKept}
-use Rattle.hart_threads.specs.Views.{parts_with}
+use Rattle.tallies.specs.{Closed.{AreReceiptsOf, told_in}, declared.book_views.PartView.PartView}
+use Rattle.hart_threads.specs.{Bused.AreSaved, Noted.entries_in, Since.AreKept, Views.parts_with}
 use Rattle.store.specs.Views.{size_of_store, now_state, journal_of, life_of, doubt_of}
-use Rattle.board_session.proofs.Backing.{acknowledged}
-use Rattle.board_session.proofs.Powering.{begins_so, kept_reads, life_kept, life_leaves}
+use Rattle.board_session.proofs.{Backing.acknowledged, Powering.{begins_so, kept_reads, life_kept, life_leaves}}
 use Rattle.board_session.proofs.life_end.disk_of.Goals as goal
 
 pub returns-clause-life : goal.returns-clause-life

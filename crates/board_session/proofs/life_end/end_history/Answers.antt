@@ -1,8 +1,6 @@
 use Rattle.std.proofs.Common.{◌∙◌, ◌∷◌, List, ap, subst}
-use Rattle.tallies.specs.Books.{Each, IsPart}
-use Rattle.tallies.specs.declared.book_views.PartView.{PartView}
-use Rattle.hart_threads.specs.Views.{bus_in, bus_log}
-use Rattle.hart_threads.specs.declared.bus_turns.BusTurn.{BusTurn}
+use Rattle.tallies.specs.{Books.{Each, IsPart}, declared.book_views.PartView.PartView}
+use Rattle.hart_threads.specs.{Views.{bus_in, bus_log}, declared.bus_turns.BusTurn.BusTurn}
 use Rattle.board_session.proofs.life_end.end_history.Goals as goal
 
 pub returns : goal.returns

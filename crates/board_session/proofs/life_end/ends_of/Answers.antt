@@ -1,20 +1,13 @@
-use Rattle.std.proofs.Common.{◌≡◌, ◌∙◌, ℕ, List, length, map, vec_len, arith, refl, sym, ap, subst, All}
-use Rattle.std.proofs.lemmas.List.Elements.{All-push}
+use Rattle.std.proofs.{Common.{◌≡◌, ◌∙◌, ℕ, List, length, map, vec_len, arith, refl, sym, ap, subst, All}, lemmas.List.Elements.All-push}
 use Rattle.board_model.specs.declared.durable.Entry.{Entry}
 use Rattle.hart.specs.State.{ArchState}
 use Rattle.hsm.specs.Seating.{all_harts}
 use Rattle.ipi.specs.Seating.{all_pending_views}
 use Rattle.tallies.specs.declared.book_views.PartView.{PartView}
-use Rattle.hart_threads.specs.declared.ends.HartEnd.{HartEnd}
-use Rattle.hart_threads.specs.Begun.{AreFromLast}
-use Rattle.hart_threads.specs.Ends.{AreNumberedFrom, own_receipt}
+use Rattle.hart_threads.specs.{declared.ends.HartEnd.HartEnd, Begun.AreFromLast, Ends.{AreNumberedFrom, own_receipt}}
 use Rattle.hart_threads.specs.Views.{bus_parts, parts_with}
-use Rattle.board_session.specs.Backs.{AreBack}
-use Rattle.board_session.specs.Histories.{EndsWith}
-use Rattle.board_session.specs.Sessions.{IsOver}
-use Rattle.board_session.proofs.Backing.{none_there, none_told, told_back, told_more}
-use Rattle.board_session.proofs.Historied.{all_with}
-use Rattle.board_session.proofs.Numbering.{from_last_taken, numbered_next}
+use Rattle.board_session.{specs.{Backs.AreBack, Histories.EndsWith, Sessions.IsOver}, proofs.Historied.all_with}
+use Rattle.board_session.proofs.{Backing.{none_there, none_told, told_back, told_more}, Numbering.{from_last_taken, numbered_next}}
 use Rattle.board_session.proofs.life_end.ends_of.Goals as goal
 
 pub loop-rested-init : goal.loop-rested-init

@@ -2,12 +2,8 @@ use Rattle.std.proofs.Common.{◌≡◌, ◌+◌, All, length, map, vec_len, vec
 use Rattle.arrayvec.specs.ArrayVec.{array_vec_len}
 use Rattle.hsm.specs.Seating.{all_harts}
 use Rattle.ipi.specs.Seating.{all_pending_views}
-use Rattle.hart_threads.specs.Begun.{AreFromLast}
-use Rattle.hart_threads.specs.Ends.{AreNumberedFrom, own_receipt}
-use Rattle.hart_threads.specs.Views.{bus_parts, inside, moments_with, parts_with}
-use Rattle.board_session.specs.Backs.{AreBack}
-use Rattle.board_session.specs.Histories.{EndsWith}
-use Rattle.board_session.specs.Sessions.{IsOver}
+use Rattle.hart_threads.specs.{Begun.AreFromLast, Ends.{AreNumberedFrom, own_receipt}, Views.{bus_parts, inside, moments_with, parts_with}}
+use Rattle.board_session.specs.{Backs.AreBack, Histories.EndsWith, Sessions.IsOver}
 use Rattle.board_session.proofs.life_end.ends_of.Given as goal
 
 abbrev pub invariant-loop-rested : goal.invariant-loop-rested

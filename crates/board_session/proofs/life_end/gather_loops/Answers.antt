@@ -2,8 +2,7 @@ use Rattle.std.proofs.Common.{◌∙◌, List, length, sym, ap, subst, arith}
 use Rattle.board_model.specs.declared.durable.Entry.{Entry}
 use Rattle.tallies.specs.declared.book_views.PartView.{PartView}
 use Rattle.hart_threads.specs.Views.{parts_with}
-use Rattle.board_session.specs.Backs.{AreBack}
-use Rattle.board_session.proofs.Backing.{one_back}
+use Rattle.board_session.{specs.Backs.AreBack, proofs.Backing.one_back}
 use Rattle.board_session.proofs.life_end.gather_loops.Goals as goal
 
 pub loop-rested-preserved-in-Some : goal.loop-rested-preserved-in-Some

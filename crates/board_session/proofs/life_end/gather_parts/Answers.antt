@@ -1,11 +1,8 @@
-use Rattle.std.proofs.Common.{◌≡◌, ◌∙◌, List, [], Some, length, sym, ap, subst, arith}
-use Rattle.std.proofs.lemmas.List.Elements.{All-pop}
+use Rattle.std.proofs.{Common.{◌≡◌, ◌∙◌, List, [], Some, length, sym, ap, subst, arith}, lemmas.List.Elements.All-pop}
 use Rattle.board_model.specs.declared.durable.Entry.{Entry}
 use Rattle.tallies.specs.declared.book_views.PartView.{PartView}
-use Rattle.hart_threads.specs.Views.{parts_with}
-use Rattle.hart_threads.specs.declared.shared.HartParts.{HartParts}
-use Rattle.board_session.specs.Backs.{AreBack}
-use Rattle.board_session.proofs.Backing.{fresh_back}
+use Rattle.hart_threads.specs.{Views.parts_with, declared.shared.HartParts.HartParts}
+use Rattle.board_session.{specs.Backs.AreBack, proofs.Backing.fresh_back}
 use Rattle.board_session.proofs.life_end.gather_parts.Goals as goal
 
 pub loop-part-preserved : goal.loop-part-preserved

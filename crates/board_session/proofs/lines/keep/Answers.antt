@@ -1,5 +1,4 @@
-use Rattle.std.proofs.Common.{◌≡◌, ◌<◌, ◌∙◌, length, arith}
-use Rattle.std.proofs.lemmas.Bool.Decides.{nat_tests}
+use Rattle.std.proofs.{Common.{◌≡◌, ◌<◌, ◌∙◌, length, arith}, lemmas.Bool.Decides.nat_tests}
 use Rattle.board_session.proofs.Reading.{kept_short, kept_full}
 use Rattle.board_session.proofs.lines.keep.Goals as goal
 

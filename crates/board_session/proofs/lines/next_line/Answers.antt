@@ -1,8 +1,5 @@
-use Rattle.std.proofs.Common.{ℕ, List, [], ◌∷◌, sym, subst}
-use Rattle.std.specs.Io.KnownBytes.{Consumes}
-use Rattle.board_session.specs.declared.lines.ByteRead.{ByteRead}
-use Rattle.board_session.specs.Lines.{FindsByte}
-use Rattle.board_session.proofs.Reading.{Reading, one_more, fed, ended, failed}
+use Rattle.std.{proofs.Common.{ℕ, List, [], ◌∷◌, sym, subst}, specs.Io.KnownBytes.Consumes}
+use Rattle.board_session.{specs.{declared.lines.ByteRead.ByteRead, Lines.FindsByte}, proofs.Reading.{Reading, one_more, fed, ended, failed}}
 use Rattle.board_session.proofs.lines.next_line.Goals as goal
 
 pub returns-then-byte-eq10 : goal.returns-then-byte-eq10

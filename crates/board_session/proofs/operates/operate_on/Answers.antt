@@ -3,9 +3,7 @@ use Rattle.clap.specs.Words.{kind_of}
 use Rattle.command_line.specs.Told.{fault_of}
 use Rattle.board_files.specs.contracts.file_disk.FileDiskDisk.TheImpl as file_disk
 use Rattle.simdisk.specs.contracts.device.SimDiskDisk.TheImpl as sim_disk
-use Rattle.board_session.specs.Dialogues.{output_of}
-use Rattle.board_session.proofs.FilesLeft.{asks_for_none}
-use Rattle.board_session.proofs.Statuses.{gives_none, no_usage}
+use Rattle.board_session.{specs.Dialogues.output_of, proofs.{FilesLeft.asks_for_none, Statuses.{gives_none, no_usage}}}
 use Rattle.board_session.specs.Operated.{GiveNoOptions, known}
 use Rattle.board_session.proofs.operates.operate_on.Goals as goal
 

@@ -1,10 +1,7 @@
 use Rattle.std.proofs.Common.{◌∙◌, ap, sym, subst}
-use Rattle.store.specs.Leaves.{IsKept}
+use Rattle.store.specs.{Leaves.IsKept, Views.{view_of, life_of, disk_of, size_of_store, found_state}}
 use Rattle.disk.specs.Facts.{LeavesSince}
-use Rattle.board.specs.Moments.{MayLeave, commands_by}
-use Rattle.store.specs.Views.{view_of, life_of, disk_of, size_of_store, found_state}
-use Rattle.board.specs.Views.{store_of, machine_of}
-use Rattle.board.specs.PowersOn.{IsUnpowered}
+use Rattle.board.specs.{Moments.{MayLeave, commands_by}, Views.{store_of, machine_of}, PowersOn.IsUnpowered}
 use Rattle.board_session.proofs.Powering.{begins, life_ends, life_few, life_issued, life_taken, life_up, booted, format_refuses, kept_off, refuses_disk, runs_over}
 use Rattle.board_session.proofs.power.powered.Goals as goal
 

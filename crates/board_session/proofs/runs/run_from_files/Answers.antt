@@ -1,10 +1,8 @@
-use Rattle.std.proofs.Common.{string_bytes}
+use Rattle.std.{proofs.Common.string_bytes, specs.Io.Buffered.reader_remaining}
 use Rattle.command_line.specs.Told.{fault_of}
 use Rattle.board_files.specs.contracts.file_disk.FileDiskDisk.TheImpl as file_disk
 use Rattle.simdisk.specs.contracts.device.SimDiskDisk.TheImpl as sim_disk
-use Rattle.std.specs.Io.Buffered.{reader_remaining}
-use Rattle.board_session.specs.Dialogues.{output_of}
-use Rattle.board_session.proofs.FilesLeft.{ended_left, read_through, stayed_left}
+use Rattle.board_session.{specs.Dialogues.output_of, proofs.FilesLeft.{ended_left, read_through, stayed_left}}
 use Rattle.board_session.proofs.runs.run_from_files.Goals as goal
 
 pub returns-then-not-options : goal.returns-then-not-options

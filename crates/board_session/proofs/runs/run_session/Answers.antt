@@ -1,6 +1,5 @@
 use Rattle.std.proofs.Common.{ap}
-use Rattle.board_session.proofs.FilesLeft.{has_run}
-use Rattle.board_session.specs.Dialogues.{output_of}
+use Rattle.board_session.{proofs.FilesLeft.has_run, specs.Dialogues.output_of}
 use Rattle.board_session.proofs.runs.run_session.Goals as goal
 
 pub returns : goal.returns

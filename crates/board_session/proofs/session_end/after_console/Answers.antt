@@ -1,14 +1,10 @@
 use Rattle.std.proofs.Common.{◌∙◌, ℕ, Bool, All, Some, arith, sym, ap, subst}
 use Rattle.hsm.specs.Seating.{all_harts}
 use Rattle.ipi.specs.Seating.{all_pending_views}
-use Rattle.hart_threads.specs.Views.{bus_parts, inside}
-use Rattle.hart_threads.specs.declared.ends.HartEnd.{HartEnd}
-use Rattle.hart_threads.specs.declared.closing.AfterConsole.{AfterConsole}
+use Rattle.hart_threads.specs.{Views.{bus_parts, inside}, declared.{ends.HartEnd.HartEnd, closing.AfterConsole.AfterConsole}}
 use Rattle.store.specs.Views.{journal_of, life_of}
-use Rattle.board_session.specs.Histories.{AreDriven, HasTables, harts_after}
-use Rattle.board_session.proofs.Alone.{all_alone}
+use Rattle.board_session.{specs.Histories.{AreDriven, HasTables, harts_after}, proofs.{Alone.all_alone, Lasting.all_over}}
 use Rattle.board_session.proofs.Historied.{EndedBy, all_ends_by, history_of}
-use Rattle.board_session.proofs.Lasting.{all_over}
 use Rattle.board_session.proofs.session_end.after_console.Goals as goal
 
 pub ends_of-harts-requires-clause-none : goal.ends_of-harts-requires-clause-none

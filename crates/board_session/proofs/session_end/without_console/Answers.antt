@@ -1,10 +1,7 @@
 use Rattle.std.proofs.Common.{◌≡◌, [], ap, arith, subst}
-use Rattle.hart_threads.specs.Bused.{AreWakes}
-use Rattle.hart_threads.specs.Heard.{Hearing}
-use Rattle.hart_threads.specs.Views.{bus_parts, inside}
+use Rattle.hart_threads.specs.{Bused.AreWakes, Heard.Hearing, Views.{bus_parts, inside}}
 use Rattle.store.specs.Views.{doubt_of, journal_of, life_of}
-use Rattle.board_session.specs.Sessions.{IsOfLife}
-use Rattle.board_session.proofs.Historied.{history_of, no_steps}
+use Rattle.board_session.{specs.Sessions.IsOfLife, proofs.Historied.{history_of, no_steps}}
 use Rattle.board_session.proofs.session_end.without_console.Goals as goal
 
 pub disk_of-disk-requires-clause-harts : goal.disk_of-disk-requires-clause-harts

@@ -1,6 +1,5 @@
 use Rattle.std.proofs.Common.{Some, None}
-use Rattle.board_session.specs.Commands.{party}
-use Rattle.board_session.specs.Dialogues.{dialogue_ends, output_of}
+use Rattle.board_session.specs.{Commands.party, Dialogues.{dialogue_ends, output_of}}
 use Rattle.board_session.proofs.Talking.{none_left, left_as, obeyed, held, goes_on, leaves_after, unwritten}
 use Rattle.board_session.proofs.talks.console.Goals as goal
 

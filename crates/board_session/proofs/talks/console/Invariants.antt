@@ -1,8 +1,6 @@
 use Rattle.std.proofs.Common.{◌≡◌}
 use Rattle.hart_threads.specs.Locks.{no_locks}
-use Rattle.board_session.specs.Commands.{party}
-use Rattle.board_session.specs.Dialogues.{dialogue_ends, output_of}
-use Rattle.board_session.proofs.Talking.{Talking}
+use Rattle.board_session.{specs.{Commands.party, Dialogues.{dialogue_ends, output_of}}, proofs.Talking.Talking}
 use Rattle.board_session.proofs.talks.console.Given as goal
 
 abbrev pub invariant-loop : goal.invariant-loop

@@ -1,8 +1,5 @@
-use Rattle.std.proofs.Common.{rules, ℕ, List, ◌+◌, ◌*◌, ◌<◌, ◌≤◌, length, sym, subst, arith}
-use Rattle.std.specs.Prelude.{slice_index}
-use Rattle.board_space.specs.Layouts.{tracked_of}
-use Rattle.board_space.specs.Tracked.{segment_count}
-use Rattle.board_space.proofs.Kept.{segment_within}
+use Rattle.std.{proofs.Common.{rules, ℕ, List, ◌+◌, ◌*◌, ◌<◌, ◌≤◌, length, sym, subst, arith}, specs.Prelude.slice_index}
+use Rattle.board_space.{specs.{Layouts.tracked_of, Tracked.segment_count}, proofs.Kept.segment_within}
 use Rattle.board_space.proofs.Putting.{framed_shown, segments_none, segments_by, segments_hold}
 use Rattle.board_space.proofs.board_rows.put_segments.Goals as goal
 

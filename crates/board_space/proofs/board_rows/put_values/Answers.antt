@@ -1,5 +1,4 @@
-use Rattle.std.proofs.Common.{rules, ◌<◌, ◌^◌, length}
-use Rattle.std.specs.Prelude.{slice_index}
+use Rattle.std.{proofs.Common.{rules, ◌<◌, ◌^◌, length}, specs.Prelude.slice_index}
 use Rattle.board_space.proofs.Putting.{values_none, values_more}
 use Rattle.board_space.proofs.board_rows.put_values.Goals as goal
 

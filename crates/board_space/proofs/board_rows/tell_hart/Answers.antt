@@ -1,5 +1,4 @@
-use Rattle.std.proofs.Common.{◌∙◌, sym}
-use Rattle.std.proofs.lemmas.Result.{IfOk-weaker}
+use Rattle.std.proofs.{Common.{◌∙◌, sym}, lemmas.Result.IfOk-weaker}
 use Rattle.hart.specs.State.{never_started}
 use Rattle.board_space.proofs.Numbers.{at_same, stopped_at}
 use Rattle.board_space.proofs.board_rows.tell_hart.Goals as goal

@@ -1,6 +1,5 @@
 use Rattle.std.specs.Prelude.{length}
-use Rattle.board_space.specs.Records.{Stays}
-use Rattle.board_space.specs.Rows.{AreHarts, Extends, seen_harts}
+use Rattle.board_space.specs.{Records.Stays, Rows.{AreHarts, Extends, seen_harts}}
 use Rattle.board_space.proofs.board_rows.tell_harts.Given as goal
 
 abbrev pub invariant-loop-number : goal.invariant-loop-number

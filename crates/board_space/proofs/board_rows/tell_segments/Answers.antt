@@ -1,10 +1,6 @@
-use Rattle.std.proofs.Common.{rules, ℕ, List, [], ◌∷◌, ◌++◌, ◌≡◌, ◌+◌, ◌*◌, ◌<◌, ◌≤◌, length, sym, subst}
-use Rattle.std.specs.Prelude.{slice_index}
+use Rattle.std.{proofs.Common.{rules, ℕ, List, [], ◌∷◌, ◌++◌, ◌≡◌, ◌+◌, ◌*◌, ◌<◌, ◌≤◌, length, sym, subst}, specs.Prelude.slice_index}
 use Rattle.state_space.specs.Numbered.{words_of}
-use Rattle.board_space.specs.Layouts.{tracked_of}
-use Rattle.board_space.specs.Rows.{Extends, Hold}
-use Rattle.board_space.specs.Tracked.{segment, segment_count}
-use Rattle.board_space.proofs.Kept.{segment_within}
+use Rattle.board_space.{specs.{Layouts.tracked_of, Rows.{Extends, Hold}, Tracked.{segment, segment_count}}, proofs.Kept.segment_within}
 use Rattle.board_space.proofs.Numbers.{AreFirst, extends_more, segments_more, grows_both}
 use Rattle.board_space.proofs.board_rows.tell_segments.Goals as goal
 

@@ -1,6 +1,5 @@
 use Rattle.std.specs.Prelude.{length}
-use Rattle.board_space.specs.Rows.{Extends, Grows}
-use Rattle.board_space.proofs.Numbers.{AreFirst}
+use Rattle.board_space.{specs.Rows.{Extends, Grows}, proofs.Numbers.AreFirst}
 use Rattle.board_space.proofs.board_rows.tell_segments.Given as goal
 
 abbrev pub invariant-loop-segment : goal.invariant-loop-segment

@@ -1,8 +1,5 @@
 use Rattle.std.proofs.Common.{rules, List, ℕ, [], ◌∷◌, ◌++◌, ◌≡◌, ◌+◌, length, sym, subst, arith}
-use Rattle.board_space.specs.Carried.{AreLearned, AreSameRecords}
-use Rattle.board_space.specs.Rows.{Extends}
-use Rattle.board_space.proofs.Carried.{records_more}
-use Rattle.board_space.proofs.Numbers.{extends_more}
+use Rattle.board_space.{specs.{Carried.{AreLearned, AreSameRecords}, Rows.Extends}, proofs.{Carried.records_more, Numbers.extends_more}}
 use Rattle.board_space.proofs.Remembered.{learned_more, right_more}
 use Rattle.board_space.proofs.carrying.carry_harts.Goals as goal
 

@@ -1,7 +1,5 @@
 use Rattle.std.specs.Prelude.{length}
-use Rattle.board_space.specs.Carried.{AreLearned, AreRightRecords, AreSameRecords}
-use Rattle.board_space.specs.Records.{Stays}
-use Rattle.board_space.specs.Rows.{Extends}
+use Rattle.board_space.specs.{Carried.{AreLearned, AreRightRecords, AreSameRecords}, Records.Stays, Rows.Extends}
 use Rattle.board_space.proofs.carrying.carry_harts.Given as goal
 
 abbrev pub invariant-loop-place : goal.invariant-loop-place

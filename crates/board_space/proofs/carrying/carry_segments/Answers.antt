@@ -1,9 +1,6 @@
 use Rattle.std.proofs.Common.{rules, List, ℕ, [], ◌∷◌, ◌++◌, ◌≡◌, ◌+◌, length, sym, subst, arith}
-use Rattle.board_space.specs.Carried.{AreLearned, AreSameWords}
-use Rattle.board_space.specs.Rows.{Extends}
-use Rattle.board_space.proofs.Carried.{words_more}
-use Rattle.board_space.proofs.Numbers.{extends_more, grows_both}
-use Rattle.board_space.proofs.Remembered.{learned_more, right_words_more}
+use Rattle.board_space.{specs.{Carried.{AreLearned, AreSameWords}, Rows.Extends}, proofs.Carried.words_more}
+use Rattle.board_space.proofs.{Numbers.{extends_more, grows_both}, Remembered.{learned_more, right_words_more}}
 use Rattle.board_space.proofs.carrying.carry_segments.Goals as goal
 
 pub loop-place-preserved : goal.loop-place-preserved

@@ -1,6 +1,5 @@
 use Rattle.std.specs.Prelude.{length}
-use Rattle.board_space.specs.Carried.{AreLearned, AreRightWords, AreSameWords}
-use Rattle.board_space.specs.Rows.{Extends, Grows}
+use Rattle.board_space.specs.{Carried.{AreLearned, AreRightWords, AreSameWords}, Rows.{Extends, Grows}}
 use Rattle.board_space.proofs.carrying.carry_segments.Given as goal
 
 abbrev pub invariant-loop-place : goal.invariant-loop-place

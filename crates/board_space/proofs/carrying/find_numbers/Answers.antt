@@ -1,8 +1,5 @@
 use Rattle.std.proofs.Common.{rules, List, ℕ, [], ◌∷◌, ◌++◌, ◌≡◌, ◌+◌, length, sym, subst}
-use Rattle.board_space.specs.Carried.{AreFound}
-use Rattle.board_space.specs.Rows.{Extends}
-use Rattle.board_space.proofs.Numbers.{extends_more}
-use Rattle.board_space.proofs.Remembered.{found_more}
+use Rattle.board_space.{specs.{Carried.AreFound, Rows.Extends}, proofs.{Numbers.extends_more, Remembered.found_more}}
 use Rattle.board_space.proofs.carrying.find_numbers.Goals as goal
 
 pub loop-place-preserved : goal.loop-place-preserved

@@ -1,6 +1,5 @@
 use Rattle.std.specs.Prelude.{length}
-use Rattle.board_space.specs.Carried.{AreFound}
-use Rattle.board_space.specs.Rows.{Extends}
+use Rattle.board_space.specs.{Carried.AreFound, Rows.Extends}
 use Rattle.board_space.proofs.carrying.find_numbers.Given as goal
 
 abbrev pub invariant-loop-place : goal.invariant-loop-place

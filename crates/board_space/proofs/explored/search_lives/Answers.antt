@@ -1,14 +1,7 @@
 use Rattle.std.proofs.Common.{◌≡◌, ◌∙◌, ℕ, IfOk, ap, sym, subst}
-use Rattle.state_space.specs.Counted.{StandsCounted}
-use Rattle.state_space.specs.Graphs.{IsSearched}
-use Rattle.board_space.specs.Few.{life_rules}
-use Rattle.board_space.specs.Mapped.{map_in}
-use Rattle.board_space.specs.Covering.{StandsAll}
-use Rattle.board_space.specs.Searches.{IsSearchOf}
-use Rattle.board_space.specs.Settings.{asked_of}
-use Rattle.board_space.specs.declared.bounds.Bound.TheVariants.{PowerOns}
-use Rattle.board_space.specs.declared.space.BoardSpace.{BoardSpace}
-use Rattle.board_space.proofs.Answered.{ok_on}
+use Rattle.state_space.specs.{Counted.StandsCounted, Graphs.IsSearched}
+use Rattle.board_space.specs.{Few.life_rules, Mapped.map_in, Covering.StandsAll, Searches.IsSearchOf, Settings.asked_of}
+use Rattle.board_space.{specs.declared.{bounds.Bound.TheVariants.PowerOns, space.BoardSpace.BoardSpace}, proofs.Answered.ok_on}
 use Rattle.board_space.proofs.Searching.{search_lives}
 use Rattle.board_space.proofs.explored.search_lives.Goals as goal
 

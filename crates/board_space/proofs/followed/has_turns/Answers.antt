@@ -1,5 +1,4 @@
-use Rattle.board_space.specs.Searches.{HasTurn}
-use Rattle.board_space.proofs.Searching.{each_below}
+use Rattle.board_space.{specs.Searches.HasTurn, proofs.Searching.each_below}
 use Rattle.board_space.proofs.followed.has_turns.Goals as goal
 
 pub loop-hart-preserved : goal.loop-hart-preserved

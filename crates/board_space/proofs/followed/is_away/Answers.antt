@@ -1,9 +1,6 @@
 use Rattle.std.proofs.Common.{ℕ, List, sym, subst}
 use Rattle.model_board.specs.Boards.{Board}
-use Rattle.board_space.specs.Covering.{StandsAll}
-use Rattle.board_space.specs.Few.{IsAwayBy}
-use Rattle.board_space.specs.declared.bounds.Bound.{Bound}
-use Rattle.board_space.proofs.Searching.{part_stands}
+use Rattle.board_space.{specs.{Covering.StandsAll, Few.IsAwayBy, declared.bounds.Bound.Bound}, proofs.Searching.part_stands}
 use Rattle.board_space.proofs.followed.is_away.Goals as goal
 
 pub returns-in-PowerOns-clause-other : goal.returns-in-PowerOns-clause-other

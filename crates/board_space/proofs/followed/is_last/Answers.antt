@@ -1,6 +1,5 @@
 use Rattle.std.proofs.Common.{ℕ, List, sym, subst}
-use Rattle.board_space.specs.Covering.{StandsAll}
-use Rattle.board_space.specs.Searches.{StandsBy}
+use Rattle.board_space.specs.{Covering.StandsAll, Searches.StandsBy}
 use Rattle.board_space.proofs.followed.is_last.Goals as goal
 
 pub is_away-requires : goal.is_away-requires

@@ -1,10 +1,7 @@
 use Rattle.std.proofs.Common.{◌∙◌, ℕ, Bool, List, false, get_or, ap, sym, subst, arith}
 use Rattle.model_board.specs.Boards.{Board}
-use Rattle.state_space.specs.Graphs.{row_at}
-use Rattle.state_space.proofs.Dead.{marked_more}
-use Rattle.board_space.specs.Covering.{StandsAll}
-use Rattle.board_space.specs.Few.{IsLastBy}
-use Rattle.board_space.specs.Searches.{StandsBy}
+use Rattle.state_space.{specs.Graphs.row_at, proofs.Dead.marked_more}
+use Rattle.board_space.specs.{Covering.StandsAll, Few.IsLastBy, Searches.StandsBy}
 use Rattle.board_space.proofs.followed.last_rows.Goals as goal
 
 pub loop-row-preserved : goal.loop-row-preserved

@@ -1,10 +1,7 @@
 use Rattle.std.proofs.Common.{◌≡◌, ℕ, length}
 use Rattle.model_board.specs.Boards.{Board}
-use Rattle.state_space.specs.Deads.{IsMarked}
-use Rattle.state_space.specs.Graphs.{row_at}
-use Rattle.board_space.specs.Covering.{StandsAll}
-use Rattle.board_space.specs.Few.{IsLastBy}
-use Rattle.board_space.specs.Searches.{StandsBy}
+use Rattle.state_space.specs.{Deads.IsMarked, Graphs.row_at}
+use Rattle.board_space.specs.{Covering.StandsAll, Few.IsLastBy, Searches.StandsBy}
 use Rattle.board_space.proofs.followed.last_rows.Given as goal
 
 abbrev pub invariant-loop-row : goal.invariant-loop-row

@@ -1,9 +1,6 @@
-use Rattle.std.proofs.Common.{◌≡◌, ◌+◌, ℕ, Bool, List, true, false, length, refl, sym, subst, arith}
-use Rattle.std.specs.Prelude.{not}
+use Rattle.std.{proofs.Common.{◌≡◌, ◌+◌, ℕ, Bool, List, true, false, length, refl, sym, subst, arith}, specs.Prelude.not}
 use Rattle.state_space.specs.Deads.{IsMarked}
-use Rattle.board_space.specs.Covering.{StandsAll}
-use Rattle.board_space.specs.Searches.{IsFollowed}
-use Rattle.board_space.proofs.Searching.{others_more}
+use Rattle.board_space.{specs.{Covering.StandsAll, Searches.IsFollowed}, proofs.Searching.others_more}
 use Rattle.board_space.proofs.followed.open_rows.Goals as goal
 
 of_not : (x : Bool) → not x ≡ false → x ≡ true

@@ -1,7 +1,6 @@
 use Rattle.std.proofs.Common.{◌≡◌, ℕ, ◌<◌, length}
 use Rattle.state_space.specs.Deads.{IsMarked}
-use Rattle.board_space.specs.Covering.{StandsAll}
-use Rattle.board_space.specs.Searches.{IsFollowed}
+use Rattle.board_space.specs.{Covering.StandsAll, Searches.IsFollowed}
 use Rattle.board_space.proofs.followed.open_rows.Given as goal
 
 abbrev pub invariant-loop-row : goal.invariant-loop-row

@@ -1,5 +1,4 @@
-use Rattle.std.proofs.Common.{sym, ◌∙◌, arith}
-use Rattle.std.proofs.lemmas.List.{ext_get_or}
+use Rattle.std.proofs.{Common.{sym, ◌∙◌, arith}, lemmas.List.ext_get_or}
 use Rattle.hsm.specs.declared.standings.Standing.TheVariants.{Stopped}
 use Rattle.board_space.proofs.keys.are_same_states.Goals as goal
 

@@ -1,5 +1,4 @@
-use Rattle.std.proofs.Common.{ℕ, ◌≡◌, ◌<◌}
-use Rattle.std.specs.Prelude.{get_or}
+use Rattle.std.{proofs.Common.{ℕ, ◌≡◌, ◌<◌}, specs.Prelude.get_or}
 use Rattle.hsm.specs.declared.standings.Standing.TheVariants.{Stopped}
 use Rattle.board_space.proofs.keys.are_same_states.Given as goal
 

@@ -1,11 +1,8 @@
 use Rattle.std.proofs.Common.{◌≡◌, ◌∙◌, ◌<◌, ℕ, length, ap, sym, subst}
 use Rattle.hart.specs.State.{ArchState}
 use Rattle.machine.specs.Machine.{Machine, hart_at}
-use Rattle.model_board.specs.Held.{with_hart}
-use Rattle.model_board.specs.LeftOut.{StandsFor}
-use Rattle.model_board.specs.Plain.{Sized, with_machine}
-use Rattle.board_space.specs.Leaving.{IsLeft}
-use Rattle.board_space.proofs.LeftHarts.{left_sized}
+use Rattle.model_board.specs.{Held.with_hart, LeftOut.StandsFor, Plain.{Sized, with_machine}}
+use Rattle.board_space.{specs.Leaving.IsLeft, proofs.LeftHarts.left_sized}
 use Rattle.board_space.proofs.leaving.leave_out.Goals as goal
 
 pub returns-else-not-has_more-clause-stands : goal.returns-else-not-has_more-clause-stands

@@ -1,9 +1,8 @@
 use Rattle.std.proofs.Common.{◌<◌, ◌∙◌, ap, sym, subst, arith}
 use Rattle.hart.specs.State.{ArchState}
-use Rattle.board_space.specs.Leaving.{IsLeft}
-use Rattle.board_space.proofs.LeftHarts.{left_more, put_id}
-use Rattle.board_space.proofs.leaving.left_out.Goals as goal
+use Rattle.board_space.{specs.Leaving.IsLeft, proofs.LeftHarts.{left_more, put_id}}
 use Rattle.board_space.proofs.leaving.left_out.Goals.{then-live-number-eq0, else-live-number-eq0}
+use Rattle.board_space.proofs.leaving.left_out.Goals as goal
 
 pub loop-number-preserved : goal.loop-number-preserved
 loop-number-preserved c =

@@ -1,6 +1,5 @@
 use Rattle.std.proofs.Common.{rules, List, ℕ, [], ◌∷◌, ◌++◌, ◌≡◌, inl, sym, subst}
-use Rattle.board_space.specs.Tracked.{IsKept}
-use Rattle.board_space.proofs.Kept.{kept_more, kept_last}
+use Rattle.board_space.{specs.Tracked.IsKept, proofs.Kept.{kept_more, kept_last}}
 use Rattle.board_space.proofs.row_layout.add.Goals as goal
 
 pub returns-in_ok-close-clause-keeps : goal.returns-in_ok-close-clause-keeps

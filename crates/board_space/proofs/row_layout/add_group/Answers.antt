@@ -1,10 +1,7 @@
-use Rattle.std.proofs.Common.{rules, ℕ, ◌≡◌, ◌<◌, ⊎_elim, inl, inr, length, subst, arith}
-use Rattle.std.specs.Prelude.{slice_index}
-use Rattle.std.proofs.lemmas.Bool.{cases_lt}
-use Rattle.std.proofs.lemmas.Result.{IfOk-weaker}
-use Rattle.board_space.specs.Tracked.{IsKept}
+use Rattle.std.{proofs.Common.{rules, ℕ, ◌≡◌, ◌<◌, ⊎_elim, inl, inr, length, subst, arith}, specs.Prelude.slice_index}
+use Rattle.std.proofs.lemmas.{Bool.cases_lt, Result.IfOk-weaker}
+use Rattle.board_space.{specs.Tracked.IsKept, proofs.row_layout.add_group.Goals.{then-groups-word+in_ok-add, else-groups-word}}
 use Rattle.board_space.proofs.row_layout.add_group.Goals as goal
-use Rattle.board_space.proofs.row_layout.add_group.Goals.{then-groups-word+in_ok-add, else-groups-word}
 
 pub loop-word-preserved : goal.loop-word-preserved
 loop-word-preserved c =

@@ -1,5 +1,4 @@
-use Rattle.std.proofs.Common.{ℕ, List, ◌≡◌, ◌<◌, ◌⊎◌, ⊎_elim, inl, inr, length, subst, arith}
-use Rattle.std.specs.Prelude.{slice_index}
+use Rattle.std.{proofs.Common.{ℕ, List, ◌≡◌, ◌<◌, ◌⊎◌, ⊎_elim, inl, inr, length, subst, arith}, specs.Prelude.slice_index}
 use Rattle.std.proofs.lemmas.Bool.{cases_lt}
 use Rattle.board_space.specs.Tracked.{IsTracked}
 use Rattle.board_space.proofs.row_layout.tracked.Goals as goal

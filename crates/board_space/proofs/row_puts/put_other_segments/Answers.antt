@@ -1,12 +1,8 @@
-use Rattle.std.proofs.Common.{rules, ℕ, List, ◌+◌, ◌*◌, ◌<◌, ◌≤◌, ◌≡◌, length, sym, subst, arith}
-use Rattle.std.specs.Prelude.{slice_index}
-use Rattle.board_space.specs.Layouts.{tracked_of}
-use Rattle.board_space.specs.Tracked.{segment_count}
-use Rattle.board_space.proofs.Kept.{segment_within}
-use Rattle.board_space.proofs.Putting.{framed_shown, segments_hold}
-use Rattle.board_space.proofs.PutOver.{other_segments_none, other_segments_by, other_segments_same}
-use Rattle.board_space.proofs.row_puts.put_other_segments.Goals as goal
+use Rattle.std.{proofs.Common.{rules, ℕ, List, ◌+◌, ◌*◌, ◌<◌, ◌≤◌, ◌≡◌, length, sym, subst, arith}, specs.Prelude.slice_index}
+use Rattle.board_space.{specs.{Layouts.tracked_of, Tracked.segment_count}, proofs.Kept.segment_within}
+use Rattle.board_space.proofs.{Putting.{framed_shown, segments_hold}, PutOver.{other_segments_none, other_segments_by, other_segments_same}}
 use Rattle.board_space.proofs.row_puts.put_other_segments.Goals.{then-from-at, else-from-at}
+use Rattle.board_space.proofs.row_puts.put_other_segments.Goals as goal
 
 pub loop-segment-init : goal.loop-segment-init
 loop-segment-init c = other_segments_none c.args.layout.now c.args.words.now c.args.at c.args.row.now c.args.board.now c.requires.shown

@@ -1,7 +1,5 @@
 use Rattle.std.proofs.Common.{subst}
-use Rattle.model_board.specs.Maps.{Local}
-use Rattle.model_board.specs.Plain.{Sized}
-use Rattle.model_board.specs.Registers.{MovesPc}
+use Rattle.model_board.specs.{Maps.Local, Plain.Sized, Registers.MovesPc}
 use Rattle.board_space.specs.Mapped.{map_in}
 use Rattle.board_space.proofs.settling.move_on.Goals as goal
 

@@ -1,8 +1,6 @@
 use Rattle.std.proofs.Common.{◌∙◌, subst}
 use Rattle.board_model.specs.Shapes.{Size}
-use Rattle.board_space.specs.Mapped.{map_in}
-use Rattle.board_space.specs.Space.{IsSureTurn}
-use Rattle.board_space.proofs.Chains.{settles_by, outside_on}
+use Rattle.board_space.{specs.{Mapped.map_in, Space.IsSureTurn}, proofs.Chains.{settles_by, outside_on}}
 use Rattle.board_space.proofs.settling.run.Goals as goal
 
 pub loop-turn-preserved : goal.loop-turn-preserved

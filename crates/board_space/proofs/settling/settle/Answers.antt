@@ -1,10 +1,8 @@
 use Rattle.std.proofs.Common.{◌∙◌, subst}
 use Rattle.board_model.specs.Shapes.{Size}
-use Rattle.board_space.specs.Mapped.{map_in}
-use Rattle.board_space.specs.Space.{SettlesSure}
-use Rattle.board_space.proofs.Chains.{settles_on, outside_on}
-use Rattle.board_space.proofs.settling.settle.Goals as goal
+use Rattle.board_space.{specs.{Mapped.map_in, Space.SettlesSure}, proofs.Chains.{settles_on, outside_on}}
 use Rattle.board_space.proofs.settling.settle.Goals.{in-Some, in_default}
+use Rattle.board_space.proofs.settling.settle.Goals as goal
 
 pub loop-number-preserved : goal.loop-number-preserved
 loop-number-preserved c =

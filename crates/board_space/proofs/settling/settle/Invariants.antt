@@ -1,7 +1,6 @@
 use Rattle.std.proofs.Common.{◌≡◌}
 use Rattle.model_board.specs.Maps.{SameOutside}
-use Rattle.board_space.specs.Mapped.{map_in}
-use Rattle.board_space.specs.Space.{SettlesSure}
+use Rattle.board_space.specs.{Mapped.map_in, Space.SettlesSure}
 use Rattle.board_space.proofs.settling.settle.Given as goal
 
 abbrev pub invariant-loop-number : goal.invariant-loop-number

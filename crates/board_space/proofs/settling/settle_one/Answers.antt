@@ -1,8 +1,6 @@
 use Rattle.std.proofs.Common.{◌∙◌, subst}
 use Rattle.board_model.specs.Shapes.{Size}
-use Rattle.board_space.specs.Mapped.{map_in}
-use Rattle.board_space.specs.Space.{SettlesSure}
-use Rattle.board_space.proofs.Chains.{settles_on}
+use Rattle.board_space.{specs.{Mapped.map_in, Space.SettlesSure}, proofs.Chains.settles_on}
 use Rattle.board_space.proofs.settling.settle_one.Goals as goal
 
 pub returns-clause-settles : goal.returns-clause-settles

@@ -1,10 +1,6 @@
 use Rattle.std.proofs.Common.{ℕ, List, sym, subst}
 use Rattle.model_board.specs.Boards.{Board}
-use Rattle.board_space.specs.Covering.{StandsAll}
-use Rattle.board_space.specs.Searches.{StandsBy}
-use Rattle.board_space.specs.Shown.{Shows}
-use Rattle.board_space.proofs.Answered.{ok_some}
-use Rattle.board_space.proofs.Searching.{part_stands}
+use Rattle.board_space.{specs.{Covering.StandsAll, Searches.StandsBy, Shown.Shows}, proofs.{Answered.ok_some, Searching.part_stands}}
 use Rattle.board_space.proofs.showing.shown_at.Goals as goal
 
 pub shown-requires-clause-known : goal.shown-requires-clause-known

@@ -1,15 +1,10 @@
 use Rattle.std.proofs.Common.{ℕ, List, true, false, ◌≡◌, ◌∙◌, ◌<◌, Option, IfSome, sym, subst, arith}
 use Rattle.model_board.specs.Boards.{Board}
 use Rattle.state_space.specs.Graphs.{count_of, expanded_of}
-use Rattle.board_space.specs.Covering.{StandsAll}
-use Rattle.board_space.specs.Settings.{Setting}
-use Rattle.board_space.specs.Searches.{StandsBy}
-use Rattle.board_space.specs.Shown.{Shows}
-use Rattle.board_space.specs.declared.outcomes.Outcome.{Outcome}
-use Rattle.board_space.specs.declared.board_rows.BoardRows.{BoardRows}
-use Rattle.board_space.proofs.AllShown.{show_other, show_next, show_all}
-use Rattle.board_space.proofs.showing.shown_by_all.Goals as goal
+use Rattle.board_space.specs.{Covering.StandsAll, Settings.Setting, Searches.StandsBy, Shown.Shows, declared.outcomes.Outcome.Outcome}
+use Rattle.board_space.{specs.declared.board_rows.BoardRows.BoardRows, proofs.AllShown.{show_other, show_next, show_all}}
 use Rattle.board_space.proofs.showing.shown_by_all.Goals.{then-is_end+in_ok-outcome+in-Some+else-not-agrees, else-is_end}
+use Rattle.board_space.proofs.showing.shown_by_all.Goals as goal
 
 pub shown_at-requires-clause-known : goal.shown_at-requires-clause-known
 shown_at-requires-clause-known c =

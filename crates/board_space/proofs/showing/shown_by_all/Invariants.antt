@@ -1,8 +1,5 @@
 use Rattle.std.proofs.Common.{◌≡◌}
-use Rattle.board_space.specs.Covering.{StandsAll}
-use Rattle.board_space.specs.Searches.{StandsBy}
-use Rattle.board_space.specs.Settings.{setting_of}
-use Rattle.board_space.specs.Shown.{AllShow}
+use Rattle.board_space.specs.{Covering.StandsAll, Searches.StandsBy, Settings.setting_of, Shown.AllShow}
 use Rattle.board_space.proofs.showing.shown_by_all.Given as goal
 
 abbrev pub invariant-loop-row : goal.invariant-loop-row

@@ -1,11 +1,6 @@
-use Rattle.std.proofs.Common.{ℕ, List, ◌≢◌, ◌∙◌, ◌<◌, length, ap, subst}
-use Rattle.std.specs.Prelude.{slice_index}
-use Rattle.std.proofs.lemmas.Result.{IfOk-weaker}
+use Rattle.std.{proofs.{Common.{ℕ, List, ◌≢◌, ◌∙◌, ◌<◌, length, ap, subst}, lemmas.Result.IfOk-weaker}, specs.Prelude.slice_index}
 use Rattle.board_model.specs.Shapes.{ram_bytes_of}
-use Rattle.board_space.specs.Layouts.{base_of, size_of, tracked_of}
-use Rattle.board_space.specs.Mapped.{map_in}
-use Rattle.board_space.specs.Tracked.{IsTracked}
-use Rattle.board_space.specs.declared.row_layout.Layout.{Layout}
+use Rattle.board_space.specs.{Layouts.{base_of, size_of, tracked_of}, Mapped.map_in, Tracked.IsTracked, declared.row_layout.Layout.Layout}
 use Rattle.board_space.proofs.Ready.{tracks_by}
 use Rattle.board_space.proofs.space.rows_of.Goals as goal
 

@@ -1,6 +1,5 @@
 use Rattle.std.proofs.Common.{◌≡◌, length}
-use Rattle.board_space.specs.Mapped.{map_in}
-use Rattle.board_space.specs.Ready.{MasksOf}
+use Rattle.board_space.specs.{Mapped.map_in, Ready.MasksOf}
 use Rattle.board_space.proofs.space.writers.Given as goal
 
 abbrev pub invariant-loop-word : goal.invariant-loop-word

@@ -1,7 +1,5 @@
 use Rattle.std.proofs.Common.{◌≡◌, ◌∙◌, Bool, Some, ap}
-use Rattle.clap.specs.Words.{Rule, new_rule, rule_of}
-use Rattle.clap.specs.declared.builder.action.ArgAction.TheVariants.{Set}
-use Rattle.clap.specs.declared.builder.arg.Arg.{Arg}
+use Rattle.clap.specs.{Words.{Rule, new_rule, rule_of}, declared.builder.{action.ArgAction.TheVariants.Set, arg.Arg.Arg}}
 use Rattle.command_line.proofs.options.option.Goals as goal
 
 abbrev is_global : Arg → Bool

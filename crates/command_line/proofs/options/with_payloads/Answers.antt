@@ -1,5 +1,4 @@
-use Rattle.std.proofs.Common.{◌∙◌, ap, ap₂, codes}
-use Rattle.std.proofs.lemmas.Result.{IfOk-weaker}
+use Rattle.std.proofs.{Common.{◌∙◌, ap, ap₂, codes}, lemmas.Result.IfOk-weaker}
 use Rattle.clap.specs.Words.{App, app_of}
 use Rattle.command_line.specs.Options.{path_rule, with_rules}
 use Rattle.command_line.proofs.options.with_payloads.Goals as goal

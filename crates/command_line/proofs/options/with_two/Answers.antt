@@ -1,5 +1,4 @@
-use Rattle.std.proofs.Common.{◌∙◌, ap}
-use Rattle.std.proofs.lemmas.Result.{IfOk-weaker}
+use Rattle.std.proofs.{Common.{◌∙◌, ap}, lemmas.Result.IfOk-weaker}
 use Rattle.clap.specs.Words.{App, rule_of, with_rule}
 use Rattle.command_line.proofs.options.with_two.Goals as goal
 

@@ -1,6 +1,5 @@
 use Rattle.std.proofs.Common.{◌≡◌, ◌∙◌, true, ap}
-use Rattle.clap.specs.Simple.{app_of_fields}
-use Rattle.clap.specs.Words.{App, app_of}
+use Rattle.clap.specs.{Simple.app_of_fields, Words.{App, app_of}}
 use Rattle.command_line.specs.Programs.{named_app}
 use Rattle.command_line.proofs.programs.program.Goals as goal
 

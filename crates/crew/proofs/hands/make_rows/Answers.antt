@@ -1,5 +1,4 @@
-use Rattle.std.proofs.Common.{◌∙◌, ◌<◌, ℕ, Some, subst, sym, length}
-use Rattle.std.proofs.lemmas.List.Elements.{All-pop}
+use Rattle.std.proofs.{Common.{◌∙◌, ◌<◌, ℕ, Some, subst, sym, length}, lemmas.List.Elements.All-pop}
 use Rattle.crew.specs.Handed.{IsPlaced}
 use Rattle.crew.proofs.hands.make_rows.Goals as goal
 

@@ -1,6 +1,5 @@
 use Rattle.std.proofs.Common.{is_ok, arith}
-use Rattle.crew.specs.Handed.{IsPlaced}
-use Rattle.crew.proofs.Placing.{pushed_each}
+use Rattle.crew.{specs.Handed.IsPlaced, proofs.Placing.pushed_each}
 use Rattle.crew.proofs.hands.make_some.Goals as goal
 
 pub loop-init : goal.loop-init

@@ -1,6 +1,5 @@
 use Rattle.std.proofs.Common.{◌+◌, Some}
-use Rattle.crew.specs.Handed.{MayBeMade}
-use Rattle.crew.proofs.Placing.{set_each}
+use Rattle.crew.{specs.Handed.MayBeMade, proofs.Placing.set_each}
 use Rattle.crew.proofs.hands.place_one.Goals as goal
 
 pub returns-clause-slots : goal.returns-clause-slots

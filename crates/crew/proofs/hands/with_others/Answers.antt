@@ -1,6 +1,5 @@
 use Rattle.std.proofs.Common.{is_ok}
-use Rattle.crew.specs.Handed.{IsPlaced}
-use Rattle.crew.proofs.Placing.{joined_each}
+use Rattle.crew.{specs.Handed.IsPlaced, proofs.Placing.joined_each}
 use Rattle.crew.proofs.hands.with_others.Goals as goal
 
 pub returns : goal.returns

@@ -1,8 +1,5 @@
-use Rattle.std.proofs.Common.{◌∙◌, ◌+◌, [], refl, sym, subst, arith}
-use Rattle.std.proofs.lemmas.List.{get_or-set_other, length-set}
-use Rattle.crew.specs.Handed.{MayBeMade}
-use Rattle.crew.proofs.HandedOn.{handed_more}
-use Rattle.std.proofs.lemmas.Result.{IfOk-from_err}
+use Rattle.std.proofs.{Common.{◌∙◌, ◌+◌, [], refl, sym, subst, arith}, lemmas.{List.{get_or-set_other, length-set}, Result.IfOk-from_err}}
+use Rattle.crew.{specs.Handed.MayBeMade, proofs.HandedOn.handed_more}
 use Rattle.crew.proofs.windows.hand_on.Goals as goal
 
 pub loop-i-init : goal.loop-i-init

@@ -1,6 +1,5 @@
-use Rattle.std.proofs.Common.{◌≡◌, ◌+◌, subst, arith}
+use Rattle.std.proofs.{Common.{◌≡◌, ◌+◌, subst, arith}, lemmas.Result.IfOk-from_err}
 use Rattle.crew.proofs.HandedOn.{handed_both}
-use Rattle.std.proofs.lemmas.Result.{IfOk-from_err}
 use Rattle.crew.proofs.windows.hand_on_all.Goals as goal
 
 pub run_window-requires-clause-has : goal.run_window-requires-clause-has

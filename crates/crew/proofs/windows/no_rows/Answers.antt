@@ -1,7 +1,5 @@
-use Rattle.std.proofs.Common.{◌≡◌, ◌∙◌, ◌+◌, ℕ, [], ◌∷◌, ◌++◌, None, length, refl, ap, arith}
-use Rattle.std.proofs.lemmas.List.{length_push}
-use Rattle.std.proofs.lemmas.List.Elements.{All-same, All-nil, All-push}
-use Rattle.std.proofs.lemmas.Result.{IfOk-from_err}
+use Rattle.std.proofs.{Common.{◌≡◌, ◌∙◌, ◌+◌, ℕ, [], ◌∷◌, ◌++◌, None, length, refl, ap, arith}, lemmas.List.length_push}
+use Rattle.std.proofs.lemmas.{List.Elements.{All-same, All-nil, All-push}, Result.IfOk-from_err}
 use Rattle.crew.proofs.windows.no_rows.Goals as goal
 
 pub loop-init : goal.loop-init

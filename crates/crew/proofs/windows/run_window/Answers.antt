@@ -1,9 +1,7 @@
-use Rattle.std.proofs.Common.{◌≡◌, ◌∙◌, ◌+◌, ◌<◌, ◌^◌, ℕ, OnOk, length, ap, subst, sym, arith}
-use Rattle.std.proofs.lemmas.Result.{IfOk-from_err}
-use Rattle.crew.specs.Handed.{Handed}
-use Rattle.crew.proofs.Windowed.{now_new, now_length, still_length, none_made, some_made}
-use Rattle.crew.proofs.windows.run_window.Goals as goal
+use Rattle.std.proofs.{Common.{◌≡◌, ◌∙◌, ◌+◌, ◌<◌, ◌^◌, ℕ, OnOk, length, ap, subst, sym, arith}, lemmas.Result.IfOk-from_err}
+use Rattle.crew.{specs.Handed.Handed, proofs.Windowed.{now_new, now_length, still_length, none_made, some_made}}
 use Rattle.crew.proofs.windows.run_window.Goals.{then-threads-gt1, else-threads-gt1}
+use Rattle.crew.proofs.windows.run_window.Goals as goal
 
 -- how many slots there are before and after the threads
 pub make_rows-requires-clause-some : goal.make_rows-requires-clause-some

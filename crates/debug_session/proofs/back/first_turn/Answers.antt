@@ -1,9 +1,6 @@
-use Rattle.std.proofs.Common.{List, All, sym, ◌∙◌, subst, arith}
-use Rattle.std.proofs.lemmas.List.{take_all}
+use Rattle.std.proofs.{Common.{List, All, sym, ◌∙◌, subst, arith}, lemmas.List.take_all}
 use Rattle.script_lang.specs.declared.line.Line.{Line}
-use Rattle.debug_session.proofs.Histories.{place_at, row_some}
-use Rattle.debug_session.specs.Steps.{MakesNone}
-use Rattle.debug_session.proofs.RowPlaces.{makes_none, more_none}
+use Rattle.debug_session.{proofs.{Histories.{place_at, row_some}, RowPlaces.{makes_none, more_none}}, specs.Steps.MakesNone}
 use Rattle.debug_session.proofs.back.first_turn.Goals as goal
 
 pub returns-in-Turn-clause-some : goal.returns-in-Turn-clause-some

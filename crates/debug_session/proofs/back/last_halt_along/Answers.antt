@@ -1,17 +1,9 @@
-use Rattle.std.proofs.Common.{◌+◌, List, Option, take, refl, sym, subst}
-use Rattle.std.specs.Prelude.{IfSome}
-use Rattle.std.proofs.lemmas.List.{take_all}
-use Rattle.std.proofs.lemmas.List.Elements.{All-get_or}
-use Rattle.debug_session.specs.Pasts.{moments, singles}
+use Rattle.std.{proofs.{Common.{◌+◌, List, Option, take, refl, sym, subst}, lemmas.List.take_all}, specs.Prelude.IfSome}
+use Rattle.std.proofs.lemmas.{List.Elements.All-get_or, Result.IfOk-from_err}
+use Rattle.debug_session.specs.{Pasts.{moments, singles}, Notes.AreInRange, Ats.IsPlace, declared.back.TurnPlace.TurnPlace}
+use Rattle.debug_session.{specs.Backs.{FoundIn, FoundOf, IsRowPast}, proofs.Backs.{found_line, later_at}}
 use Rattle.bench_report.specs.Bench.{bench_with}
-use Rattle.debug_session.specs.Notes.{AreInRange}
-use Rattle.script_lang.specs.Lines.{IsLineInRange}
-use Rattle.script_lang.specs.declared.line.Line.{Line}
-use Rattle.debug_session.specs.Ats.{IsPlace}
-use Rattle.debug_session.specs.declared.back.TurnPlace.{TurnPlace}
-use Rattle.debug_session.specs.Backs.{FoundIn, FoundOf, IsRowPast}
-use Rattle.debug_session.proofs.Backs.{found_line, later_at}
-use Rattle.std.proofs.lemmas.Result.{IfOk-from_err}
+use Rattle.script_lang.specs.{Lines.IsLineInRange, declared.line.Line.Line}
 use Rattle.debug_session.proofs.back.last_halt_along.Goals as goal
 
 pub loop-number-init : goal.loop-number-init

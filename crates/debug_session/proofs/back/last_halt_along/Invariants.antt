@@ -1,10 +1,6 @@
-use Rattle.std.proofs.Common.{take}
-use Rattle.std.specs.Prelude.{IfSome}
-use Rattle.debug_session.specs.Pasts.{moments}
-use Rattle.bench_report.specs.Bench.{Bench, bench_with}
-use Rattle.debug_session.specs.Ats.{IsPlace}
-use Rattle.bench_report.specs.Lives.{IsSound, Shows}
-use Rattle.debug_session.specs.Backs.{FoundOf}
+use Rattle.std.{proofs.Common.take, specs.Prelude.IfSome}
+use Rattle.debug_session.specs.{Pasts.moments, Ats.IsPlace, Backs.FoundOf}
+use Rattle.bench_report.specs.{Bench.{Bench, bench_with}, Lives.{IsSound, Shows}}
 use Rattle.debug_session.proofs.back.last_halt_along.Given as goal
 
 abbrev pub invariant-loop-number : goal.invariant-loop-number

@@ -1,12 +1,7 @@
-use Rattle.std.proofs.Common.{◌≡◌, ◌+◌, ◌<◌, ℕ, Option, refl, sym, subst, arith}
-use Rattle.std.specs.Prelude.{IfSome, replicate}
-use Rattle.bench_report.specs.Bench.{Bench}
-use Rattle.bench_report.specs.Lives.{Shows}
-use Rattle.debug_session.specs.declared.halts.Stop.{Stop}
-use Rattle.debug_session.specs.Backs.{FoundIn}
-use Rattle.debug_session.specs.Firsts.{one_turn}
-use Rattle.debug_session.proofs.Backs.{found_turn, later_within}
+use Rattle.std.{proofs.Common.{◌≡◌, ◌+◌, ◌<◌, ℕ, Option, refl, sym, subst, arith}, specs.Prelude.{IfSome, replicate}}
 use Rattle.std.proofs.lemmas.Result.{IfOk-from_err}
+use Rattle.bench_report.specs.{Bench.Bench, Lives.Shows}
+use Rattle.debug_session.{specs.{declared.halts.Stop.Stop, Backs.FoundIn, Firsts.one_turn}, proofs.Backs.{found_turn, later_within}}
 use Rattle.debug_session.proofs.back.last_halt_in.Goals as goal
 
 pub loop-k-init : goal.loop-k-init

@@ -1,10 +1,7 @@
-use Rattle.std.proofs.Common.{◌≡◌, ◌<◌}
-use Rattle.std.specs.Prelude.{IfSome, replicate}
+use Rattle.std.{proofs.Common.{◌≡◌, ◌<◌}, specs.Prelude.{IfSome, replicate}}
 use Rattle.board_model.specs.Shapes.{Size}
-use Rattle.bench_report.specs.Bench.{Bench}
-use Rattle.bench_report.specs.Lives.{IsSound, Shows}
-use Rattle.debug_session.specs.Backs.{FoundIn}
-use Rattle.debug_session.specs.Firsts.{one_turn}
+use Rattle.bench_report.specs.{Bench.Bench, Lives.{IsSound, Shows}}
+use Rattle.debug_session.specs.{Backs.FoundIn, Firsts.one_turn}
 use Rattle.debug_session.proofs.back.last_halt_in.Given as goal
 
 abbrev pub invariant-loop-k : goal.invariant-loop-k

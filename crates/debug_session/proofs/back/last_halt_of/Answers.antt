@@ -1,15 +1,9 @@
-use Rattle.std.proofs.Common.{◌≡◌, ◌<◌, ℕ, Option, sym, subst}
-use Rattle.std.specs.Prelude.{IfSome, replicate}
+use Rattle.std.{proofs.Common.{◌≡◌, ◌<◌, ℕ, Option, sym, subst}, specs.Prelude.{IfSome, replicate}}
 use Rattle.board_model.specs.Shapes.{Size}
-use Rattle.debug_session.specs.Pasts.{singles}
-use Rattle.bench_report.specs.Bench.{Bench}
+use Rattle.debug_session.specs.{Pasts.singles, declared.halts.Stop.Stop, Backs.{FoundIn, IsRowPast}, Firsts.one_turn}
+use Rattle.debug_session.proofs.{Backs.{other_passed, row_past}, Firsts.ok_more}
+use Rattle.bench_report.specs.{Bench.Bench, Lives.Shows}
 use Rattle.script_lang.specs.declared.line.Line.{Line}
-use Rattle.bench_report.specs.Lives.{Shows}
-use Rattle.debug_session.specs.declared.halts.Stop.{Stop}
-use Rattle.debug_session.specs.Backs.{FoundIn, IsRowPast}
-use Rattle.debug_session.specs.Firsts.{one_turn}
-use Rattle.debug_session.proofs.Backs.{other_passed, row_past}
-use Rattle.debug_session.proofs.Firsts.{ok_more}
 use Rattle.debug_session.proofs.back.last_halt_of.Goals as goal
 
 pub returns-in-Turn-clause-row : goal.returns-in-Turn-clause-row

@@ -1,14 +1,8 @@
-use Rattle.std.proofs.Common.{◌≡◌, ℕ, List, take, subst}
-use Rattle.std.specs.Prelude.{All, IfSome}
-use Rattle.bench_report.specs.Bench.{bench_with}
-use Rattle.bench_report.specs.Lives.{Shows}
+use Rattle.std.{proofs.{Common.{◌≡◌, ℕ, List, take, subst}, lemmas.Result.IfOk-from_err}, specs.Prelude.{All, IfSome}}
+use Rattle.bench_report.specs.{Bench.bench_with, Lives.Shows}
 use Rattle.script_lang.specs.declared.line.Line.{Line}
-use Rattle.debug_session.specs.Ats.{IsPlace}
+use Rattle.debug_session.{specs.{Ats.IsPlace, Backs.IsEnd, Steps.MakesNone}, proofs.Backs.{end_first, end_found, some_more}}
 use Rattle.debug_session.specs.declared.halts.HaltReason.TheVariants as halts
-use Rattle.debug_session.specs.Backs.{IsEnd}
-use Rattle.debug_session.specs.Steps.{MakesNone}
-use Rattle.debug_session.proofs.Backs.{end_first, end_found, some_more}
-use Rattle.std.proofs.lemmas.Result.{IfOk-from_err}
 use Rattle.debug_session.proofs.back.place_back.Goals as goal
 
 pub returns-in-Some-clause-end : goal.returns-in-Some-clause-end

@@ -1,17 +1,8 @@
-use Rattle.std.proofs.Common.{◌≡◌, List, ℕ, Option, sym, ap, ◌∙◌, subst, arith}
+use Rattle.std.proofs.{Common.{◌≡◌, List, ℕ, Option, sym, ap, ◌∙◌, subst, arith}, lemmas.Result.IfOk-from_err}
 use Rattle.machine.specs.Machine.{Machine}
-use Rattle.bench_report.specs.Rows.{row_answer}
-use Rattle.bench_report.specs.Lives.{Shows}
-use Rattle.debug_session.specs.Lives.{machine_of, pc_in, stands_in}
-use Rattle.debug_session.specs.Loads.{LoadsNext}
-use Rattle.bench_report.specs.declared.live.LiveBench.{LiveBench}
-use Rattle.debug_session.specs.Passes.{machine_left}
-use Rattle.debug_session.proofs.Passed.{shown_machine}
-use Rattle.debug_session.specs.declared.halts.HaltReason.{HaltReason}
-use Rattle.debug_session.specs.Backs.{IsSeen}
-use Rattle.debug_session.proofs.Backs.{is_seen}
-use Rattle.debug_session.proofs.Firsts.{touched_along}
-use Rattle.std.proofs.lemmas.Result.{IfOk-from_err}
+use Rattle.bench_report.specs.{Rows.row_answer, Lives.Shows, declared.live.LiveBench.LiveBench}
+use Rattle.debug_session.{specs.{Lives.{machine_of, pc_in, stands_in}, Loads.LoadsNext, Passes.machine_left}, proofs.Passed.shown_machine}
+use Rattle.debug_session.{specs.{declared.halts.HaltReason.HaltReason, Backs.IsSeen}, proofs.{Backs.is_seen, Firsts.touched_along}}
 use Rattle.debug_session.proofs.back.seen_back.Goals as goal
 
 pub returns-clause-seen : goal.returns-clause-seen

@@ -1,5 +1,4 @@
-use Rattle.debug_session.specs.Replies.{pair_of}
-use Rattle.debug_session.proofs.Written.{written_more}
+use Rattle.debug_session.{specs.Replies.pair_of, proofs.Written.written_more}
 use Rattle.debug_session.proofs.bytes.put_hex.Goals as goal
 
 pub loop-byte-preserved : goal.loop-byte-preserved

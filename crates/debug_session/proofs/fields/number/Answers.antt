@@ -1,6 +1,5 @@
 use Rattle.std.proofs.Common.{◌+◌, ◌∙◌, ℕ, Option, Some, ap, drop, sym}
-use Rattle.debug_session.specs.Fields.{with_digits}
-use Rattle.debug_session.proofs.Written.{front_here}
+use Rattle.debug_session.{specs.Fields.with_digits, proofs.Written.front_here}
 use Rattle.debug_session.proofs.fields.number.Goals as goal
 
 pub loop-digit-preserved : goal.loop-digit-preserved

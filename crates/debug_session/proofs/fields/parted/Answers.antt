@@ -1,8 +1,6 @@
 use Rattle.std.proofs.Common.{◌≡◌, ◌+◌, ◌∙◌, ℕ, List, [], ◌∷◌, ◌++◌, Option, None, Some, ap, append_assoc, drop, get_or, refl, sym, take}
-use Rattle.std.proofs.lemmas.Bool.{ne_eqb}
-use Rattle.std.proofs.lemmas.List.{take_more}
-use Rattle.debug_session.specs.Fields.{parted_at, parted_behind}
-use Rattle.debug_session.proofs.Written.{front_here}
+use Rattle.std.proofs.lemmas.{Bool.ne_eqb, List.take_more}
+use Rattle.debug_session.{specs.Fields.{parted_at, parted_behind}, proofs.Written.front_here}
 use Rattle.debug_session.proofs.fields.parted.Goals as goal
 
 behind_both : (a b : List ℕ) (parts : Option (List ℕ × List ℕ)) → parted_behind (a ++ b) parts ≡ parted_behind a (parted_behind b parts)

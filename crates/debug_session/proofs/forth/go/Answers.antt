@@ -1,9 +1,7 @@
 use Rattle.std.proofs.Common.{None, Some, ◌≡◌, ◌≤◌, ◌<◌, ℕ, Bool, List, Option, true, false, slice_index_or, refl, sym, ap, ◌∙◌, add-zero, subst, arith}
-use Rattle.std.specs.Prelude.{IfSome}
-use Rattle.debug_session.specs.declared.rounds.NextPart.{NextPart}
-use Rattle.debug_session.proofs.Firsts.{halt_then, no_halt, none_along, other_halt}
+use Rattle.std.{specs.Prelude.IfSome, proofs.lemmas.Result.IfOk-from_err}
+use Rattle.debug_session.{specs.declared.rounds.NextPart.NextPart, proofs.Firsts.{halt_then, no_halt, none_along, other_halt}}
 use Rattle.debug_session.proofs.Wents.{left_went, part_more, went_none, left_same}
-use Rattle.std.proofs.lemmas.Result.{IfOk-from_err}
 use Rattle.debug_session.proofs.forth.go.Goals as goal
 
 pub parts-init : goal.parts-init

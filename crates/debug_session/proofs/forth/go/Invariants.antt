@@ -1,6 +1,5 @@
 use Rattle.std.proofs.Common.{◌≡◌, ◌+◌, ℕ, None, true, false, slice_index_or}
-use Rattle.debug_session.specs.Firsts.{ToHalt}
-use Rattle.debug_session.specs.Steps.{Went}
+use Rattle.debug_session.specs.{Firsts.ToHalt, Steps.Went}
 use Rattle.debug_session.proofs.forth.go.Given as goal
 
 abbrev pub invariant-parts : goal.invariant-parts

@@ -1,9 +1,7 @@
 use Rattle.std.proofs.Common.{List, ℕ, subst}
-use Rattle.debug_session.specs.declared.forth.RoundPart.{RoundPart}
-use Rattle.debug_session.specs.Firsts.{Stretched, ToHalt}
-use Rattle.debug_session.proofs.Firsts.{ok_more, stretch_halts}
-use Rattle.board_model.proofs.Exits.{ok_with}
+use Rattle.debug_session.{specs.{declared.forth.RoundPart.RoundPart, Firsts.{Stretched, ToHalt}}, proofs.Firsts.{ok_more, stretch_halts}}
 use Rattle.debug_session.proofs.Wents.{went_of, few_of}
+use Rattle.board_model.proofs.Exits.{ok_with}
 use Rattle.debug_session.proofs.forth.run_part.Goals as goal
 
 pub returns-else-watch-clause-first : goal.returns-else-watch-clause-first

@@ -1,10 +1,7 @@
-use Rattle.std.proofs.Common.{None, ◌≡◌, arith, subst}
-use Rattle.debug_session.specs.Firsts.{TellsTouched, seen_in}
-use Rattle.debug_session.specs.Lives.{machine_of}
-use Rattle.bench_report.specs.declared.live.LiveBench.{LiveBench}
+use Rattle.std.proofs.{Common.{None, ◌≡◌, arith, subst}, lemmas.Result.IfOk-from_err}
+use Rattle.debug_session.{specs.{Firsts.{TellsTouched, seen_in}, Lives.machine_of}, proofs.Wents.{went_more, went_none}}
 use Rattle.debug_session.proofs.Firsts.{halt_more, halt_then, no_halt, none_of, tells_seen}
-use Rattle.debug_session.proofs.Wents.{went_more, went_none}
-use Rattle.std.proofs.lemmas.Result.{IfOk-from_err}
+use Rattle.bench_report.specs.declared.live.LiveBench.{LiveBench}
 use Rattle.debug_session.proofs.forth.watched_part.Goals as goal
 
 pub loop-sum-init : goal.loop-sum-init

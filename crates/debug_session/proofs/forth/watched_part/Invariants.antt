@@ -1,7 +1,5 @@
 use Rattle.std.proofs.Common.{None, ◌≡◌, ◌≤◌, ◌-◌}
-use Rattle.debug_session.specs.Firsts.{TellsTouched, ToHalt, seen_in}
-use Rattle.debug_session.specs.Lives.{machine_of}
-use Rattle.debug_session.specs.Steps.{Went}
+use Rattle.debug_session.specs.{Firsts.{TellsTouched, ToHalt, seen_in}, Lives.machine_of, Steps.Went}
 use Rattle.debug_session.proofs.forth.watched_part.Given as goal
 
 abbrev pub invariant-loop-sum : goal.invariant-loop-sum

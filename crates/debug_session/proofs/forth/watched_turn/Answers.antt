@@ -1,12 +1,6 @@
-use Rattle.std.proofs.Common.{◌∙◌, List, ℕ, ap, subst, sym}
-use Rattle.debug_session.specs.Ats.{IsAt}
-use Rattle.debug_session.specs.Lives.{machine_of}
-use Rattle.debug_session.specs.Firsts.{Stretched, seen_in}
-use Rattle.debug_session.specs.declared.timeline.Timeline.{Timeline}
-use Rattle.debug_session.proofs.Firsts.{tells_on, untouched, watched_halts}
-use Rattle.debug_session.proofs.Wents.{few_of, went_of}
-use Rattle.debug_session.proofs.Withins.{made_one}
-use Rattle.std.proofs.lemmas.Result.{IfOk-from_err}
+use Rattle.std.proofs.{Common.{◌∙◌, List, ℕ, ap, subst, sym}, lemmas.Result.IfOk-from_err}
+use Rattle.debug_session.specs.{Ats.IsAt, Lives.machine_of, Firsts.{Stretched, seen_in}, declared.timeline.Timeline.Timeline}
+use Rattle.debug_session.proofs.{Firsts.{tells_on, untouched, watched_halts}, Wents.{few_of, went_of}, Withins.made_one}
 use Rattle.debug_session.proofs.forth.watched_turn.Goals as goal
 
 pub returns-clause-went : goal.returns-clause-went

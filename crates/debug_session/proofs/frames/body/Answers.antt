@@ -1,5 +1,4 @@
-use Rattle.debug_session.specs.Packets.{escaped}
-use Rattle.debug_session.proofs.Written.{written_more}
+use Rattle.debug_session.{specs.Packets.escaped, proofs.Written.written_more}
 use Rattle.debug_session.proofs.frames.body.Goals as goal
 
 pub loop-byte-preserved : goal.loop-byte-preserved

@@ -1,6 +1,5 @@
 use Rattle.std.proofs.Common.{◌+◌, ◌∙◌, ℕ, List, ap, drop}
-use Rattle.debug_session.specs.Packets.{behind, spelled_by}
-use Rattle.debug_session.proofs.Written.{front_here}
+use Rattle.debug_session.{specs.Packets.{behind, spelled_by}, proofs.Written.front_here}
 use Rattle.debug_session.proofs.frames.unescaped.Goals as goal
 
 pub loop-byte-preserved : goal.loop-byte-preserved

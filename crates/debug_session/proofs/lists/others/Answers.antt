@@ -1,6 +1,5 @@
 use Rattle.std.proofs.Common.{◌∙◌, ◌+◌, [], ◌∷◌, ◌++◌, ap, sym}
-use Rattle.debug_session.specs.Packets.{digit_of}
-use Rattle.debug_session.proofs.Counted.{counted_more}
+use Rattle.debug_session.{specs.Packets.digit_of, proofs.Counted.counted_more}
 use Rattle.debug_session.proofs.lists.others.Goals as goal
 
 pub loop-hart-preserved : goal.loop-hart-preserved

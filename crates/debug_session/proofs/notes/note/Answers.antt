@@ -1,6 +1,5 @@
 use Rattle.std.proofs.Common.{◌∙◌, ℕ, Bool, sym, subst}
-use Rattle.debug_session.specs.Pasts.{IsAdded}
-use Rattle.debug_session.specs.Notes.{Joins}
+use Rattle.debug_session.specs.{Pasts.IsAdded, Notes.Joins}
 use Rattle.debug_session.proofs.Noted.{row_noted, nothing_noted, added_ranges, added_fills, within_made, not_off, off_is}
 use Rattle.debug_session.proofs.notes.note.Goals as goal
 

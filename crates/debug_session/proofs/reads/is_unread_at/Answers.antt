@@ -1,8 +1,7 @@
 use Rattle.std.proofs.Common.{ap, ◌∙◌}
 use Rattle.bench_report.specs.Views.{machine_in}
 use Rattle.hart.specs.State.{ArchState}
-use Rattle.debug_session.specs.Loads.{load_in}
-use Rattle.debug_session.proofs.Unread.{reads_unread}
+use Rattle.debug_session.{specs.Loads.load_in, proofs.Unread.reads_unread}
 use Rattle.debug_session.proofs.reads.is_unread_at.Goals as goal
 
 pub returns : goal.returns

@@ -1,7 +1,5 @@
 use Rattle.std.proofs.Common.{refl}
-use Rattle.debug_session.specs.Lives.{machine_of}
-use Rattle.debug_session.specs.Firsts.{seen_in}
-use Rattle.debug_session.proofs.Unread.{reads_next}
+use Rattle.debug_session.{specs.{Lives.machine_of, Firsts.seen_in}, proofs.Unread.reads_next}
 use Rattle.debug_session.proofs.reads.load_among.Goals as goal
 
 pub returns-then-is_unread_next-clause-same : goal.returns-then-is_unread_next-clause-same

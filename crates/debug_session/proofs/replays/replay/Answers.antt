@@ -1,13 +1,8 @@
-use Rattle.std.proofs.Common.{nat_eq, sym, ◌∙◌, subst, true≢false}
-use Rattle.std.proofs.lemmas.Bool.{eqb-true}
+use Rattle.std.proofs.{Common.{nat_eq, sym, ◌∙◌, subst, true≢false}, lemmas.Bool.eqb-true}
 use Rattle.report_lines.specs.declared.printed.Answer.{Answer}
-use Rattle.bench_report.specs.Bench.{Bench}
-use Rattle.bench_report.specs.Steps.{Moves}
-use Rattle.bench_report.specs.Rows.{row_answer}
+use Rattle.bench_report.specs.{Bench.Bench, Steps.Moves, Rows.row_answer, Lives.Shows}
 use Rattle.script_lang.specs.declared.line.Line.{Line}
-use Rattle.debug_session.specs.Ats.{GoesOnBy}
-use Rattle.bench_report.specs.Lives.{Shows}
-use Rattle.debug_session.proofs.Timelines.{goes_by}
+use Rattle.debug_session.{specs.Ats.GoesOnBy, proofs.Timelines.goes_by}
 use Rattle.debug_session.proofs.replays.replay.Goals as goal
 
 pub returns-then-goes_on-clause-moves : goal.returns-then-goes_on-clause-moves

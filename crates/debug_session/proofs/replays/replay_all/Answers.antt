@@ -1,15 +1,8 @@
-use Rattle.std.proofs.Common.{List, [], get_or, refl, sym, ap, ◌∙◌, subst, arith}
-use Rattle.std.proofs.lemmas.List.{take_all}
+use Rattle.std.proofs.{Common.{List, [], get_or, refl, sym, ap, ◌∙◌, subst, arith}, lemmas.{List.take_all, Result.IfOk-from_err}}
 use Rattle.report_lines.specs.declared.printed.Answer.{Answer}
-use Rattle.bench_report.specs.Agree.{fill_after}
-use Rattle.bench_report.specs.Bench.{Bench, bench_with}
-use Rattle.bench_report.specs.Steps.{Moves}
-use Rattle.bench_report.proofs.RunLines.{fills_more}
+use Rattle.bench_report.{specs.{Agree.fill_after, Bench.{Bench, bench_with}, Steps.Moves, Lives.Shows}, proofs.RunLines.fills_more}
 use Rattle.script_lang.specs.declared.line.Line.{Line}
-use Rattle.debug_session.specs.Ats.{GoesOnBy}
-use Rattle.bench_report.specs.Lives.{Shows}
-use Rattle.debug_session.proofs.Timelines.{Left, again_more}
-use Rattle.std.proofs.lemmas.Result.{IfOk-from_err}
+use Rattle.debug_session.{specs.Ats.GoesOnBy, proofs.Timelines.{Left, again_more}}
 use Rattle.debug_session.proofs.replays.replay_all.Goals as goal
 
 pub loop-line-init : goal.loop-line-init

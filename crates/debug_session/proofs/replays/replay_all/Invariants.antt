@@ -1,7 +1,5 @@
 use Rattle.std.proofs.Common.{◌≡◌, ℕ, List, take}
-use Rattle.bench_report.specs.Agree.{fills_after}
-use Rattle.bench_report.specs.Bench.{Bench, bench_with}
-use Rattle.bench_report.specs.Lives.{IsSound, Shows}
+use Rattle.bench_report.specs.{Agree.fills_after, Bench.{Bench, bench_with}, Lives.{IsSound, Shows}}
 use Rattle.debug_session.proofs.Timelines.{Left}
 use Rattle.debug_session.proofs.replays.replay_all.Given as goal
 

@@ -1,6 +1,5 @@
-use Rattle.std.proofs.Common.{ap, ◌∙◌}
+use Rattle.std.proofs.{Common.{ap, ◌∙◌}, lemmas.Result.IfOk-from_err}
 use Rattle.bench_report.specs.Agree.{fills_after}
-use Rattle.std.proofs.lemmas.Result.{IfOk-from_err}
 use Rattle.debug_session.proofs.replays.replayed.Goals as goal
 
 pub returns-in-Ok-clause-left : goal.returns-in-Ok-clause-left

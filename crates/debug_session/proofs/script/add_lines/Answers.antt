@@ -1,8 +1,6 @@
-use Rattle.std.proofs.Common.{◌∙◌, ap, List, ◌++◌, sym}
-use Rattle.std.specs.Prelude.{string_bytes}
+use Rattle.std.{proofs.{Common.{◌∙◌, ap, List, ◌++◌, sym}, lemmas.List.{take_all, append-nil}}, specs.Prelude.string_bytes}
 use Rattle.script_lang.specs.declared.line.Line.{Line}
 use Rattle.debug_session.specs.Texts.{lines_text}
-use Rattle.std.proofs.lemmas.List.{take_all, append-nil}
 use Rattle.debug_session.proofs.script.add_lines.Goals as goal
 
 pub returns : goal.returns

@@ -1,5 +1,4 @@
-use Rattle.std.proofs.Common.{◌≡◌, ◌++◌, take}
-use Rattle.std.specs.String.{string_bytes}
+use Rattle.std.{proofs.Common.{◌≡◌, ◌++◌, take}, specs.String.string_bytes}
 use Rattle.debug_session.specs.Texts.{lines_text}
 use Rattle.debug_session.proofs.script.add_lines.Given as goal
 

@@ -1,7 +1,5 @@
-use Rattle.std.proofs.Common.{◌≡◌, List, ℕ, ◌++◌, ap, ◌∙◌}
-use Rattle.std.specs.String.{string_bytes}
-use Rattle.debug_session.specs.Texts.{begins_text, history_text, lines_text}
-use Rattle.debug_session.proofs.Scripts.{history_is_script}
+use Rattle.std.{proofs.Common.{◌≡◌, List, ℕ, ◌++◌, ap, ◌∙◌}, specs.String.string_bytes}
+use Rattle.debug_session.{specs.Texts.{begins_text, history_text, lines_text}, proofs.Scripts.history_is_script}
 use Rattle.script_lang.specs.Scripts.{script_of}
 use Rattle.debug_session.proofs.script.script_of.Goals as goal
 

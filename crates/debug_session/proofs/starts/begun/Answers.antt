@@ -1,5 +1,4 @@
-use Rattle.std.proofs.Common.{◌∙◌}
-use Rattle.std.proofs.lemmas.Result.{IfOk-from_err}
+use Rattle.std.proofs.{Common.{◌∙◌}, lemmas.Result.IfOk-from_err}
 use Rattle.debug_session.proofs.starts.begun.Goals as goal
 
 pub returns-in-Ok-clause-at : goal.returns-in-Ok-clause-at

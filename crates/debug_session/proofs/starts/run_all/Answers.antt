@@ -1,8 +1,7 @@
-use Rattle.std.proofs.Common.{List, [], ◌∷◌, ◌++◌, sym, ap, ◌∙◌, append_assoc}
-use Rattle.std.specs.Vec.Iter.{into_iter_items}
+use Rattle.std.{proofs.Common.{List, [], ◌∷◌, ◌++◌, sym, ap, ◌∙◌, append_assoc}, specs.Vec.Iter.into_iter_items}
+use Rattle.std.proofs.lemmas.Result.{IfOk-from_err}
 use Rattle.script_lang.specs.declared.line.Line.{Line}
 use Rattle.debug_session.proofs.RowPlaces.{noted_more}
-use Rattle.std.proofs.lemmas.Result.{IfOk-from_err}
 use Rattle.debug_session.proofs.starts.run_all.Goals as goal
 
 pub loop-line-preserved : goal.loop-line-preserved

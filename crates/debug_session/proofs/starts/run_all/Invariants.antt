@@ -1,7 +1,5 @@
-use Rattle.std.proofs.Common.{◌≡◌, ◌++◌, []}
-use Rattle.std.specs.Vec.Iter.{into_iter_items}
-use Rattle.debug_session.specs.Ats.{IsAt}
-use Rattle.debug_session.specs.Steps.{AreNoted}
+use Rattle.std.{proofs.Common.{◌≡◌, ◌++◌, []}, specs.Vec.Iter.into_iter_items}
+use Rattle.debug_session.specs.{Ats.IsAt, Steps.AreNoted}
 use Rattle.debug_session.proofs.starts.run_all.Given as goal
 
 abbrev pub invariant-loop-line : goal.invariant-loop-line

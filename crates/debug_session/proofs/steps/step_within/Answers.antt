@@ -1,15 +1,9 @@
-use Rattle.std.proofs.Common.{None, Some, refl, ◌≡◌, ◌≤◌, ◌+◌, arith, subst}
+use Rattle.std.proofs.{Common.{None, Some, refl, ◌≡◌, ◌≤◌, ◌+◌, arith, subst, Option}, lemmas.Result.IfOk-from_err}
 use Rattle.debug_session.specs.declared.halts.HaltReason.TheVariants as halts
-use Rattle.debug_session.specs.declared.halts.HaltReason.{HaltReason}
-use Rattle.debug_session.specs.Firsts.{TellsTouched, seen_in}
-use Rattle.debug_session.specs.Lives.{machine_of}
-use Rattle.debug_session.specs.Withins.{WithinTo}
-use Rattle.bench_report.specs.declared.live.LiveBench.{LiveBench}
-use Rattle.debug_session.proofs.Firsts.{halt_then, no_halt, other_halt, tells_seen}
-use Rattle.debug_session.proofs.Wents.{few_went, step_more, went_none}
+use Rattle.debug_session.specs.{declared.halts.HaltReason.HaltReason, Firsts.{TellsTouched, seen_in}, Lives.machine_of, Withins.WithinTo}
+use Rattle.debug_session.proofs.{Firsts.{halt_then, no_halt, other_halt, tells_seen}, Wents.{few_went, step_more, went_none}}
 use Rattle.debug_session.proofs.Withins.{stayed_none, steps_asked, steps_spent}
-use Rattle.std.proofs.Common.{Option}
-use Rattle.std.proofs.lemmas.Result.{IfOk-from_err}
+use Rattle.bench_report.specs.declared.live.LiveBench.{LiveBench}
 use Rattle.debug_session.proofs.steps.step_within.Goals as goal
 
 pub loop-done-init : goal.loop-done-init

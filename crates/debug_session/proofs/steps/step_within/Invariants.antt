@@ -1,8 +1,5 @@
 use Rattle.std.proofs.Common.{None, ◌≡◌, ◌≤◌, ◌-◌, ℕ}
-use Rattle.debug_session.specs.Firsts.{TellsTouched, ToHalt, seen_in}
-use Rattle.debug_session.specs.Lives.{machine_of}
-use Rattle.debug_session.specs.Steps.{Went}
-use Rattle.debug_session.specs.Withins.{StayedWithin}
+use Rattle.debug_session.specs.{Firsts.{TellsTouched, ToHalt, seen_in}, Lives.machine_of, Steps.Went, Withins.StayedWithin}
 use Rattle.debug_session.proofs.steps.step_within.Given as goal
 
 abbrev pub invariant-loop-done : goal.invariant-loop-done

@@ -1,10 +1,6 @@
-use Rattle.std.proofs.Common.{◌∙◌, Option, refl, sym, subst}
-use Rattle.debug_session.specs.Firsts.{ToHalt}
-use Rattle.debug_session.specs.Withins.{WithinTo}
-use Rattle.debug_session.specs.declared.halts.HaltReason.{HaltReason}
-use Rattle.debug_session.proofs.Firsts.{within_halts}
+use Rattle.std.proofs.{Common.{◌∙◌, Option, refl, sym, subst}, lemmas.Result.IfOk-from_err}
+use Rattle.debug_session.{specs.{Firsts.ToHalt, Withins.WithinTo, declared.halts.HaltReason.HaltReason}, proofs.Firsts.within_halts}
 use Rattle.debug_session.proofs.Withins.{steps_on, turned_within}
-use Rattle.std.proofs.lemmas.Result.{IfOk-from_err}
 use Rattle.debug_session.proofs.steps.turn_within.Goals as goal
 
 pub watched_turn-requires-clause-at : goal.watched_turn-requires-clause-at

@@ -1,8 +1,5 @@
-use Rattle.std.proofs.Common.{suc, ℕ, List, Option, map, drop, sym, ap, ◌∙◌}
-use Rattle.std.proofs.Math.Seq.{drop-cons}
-use Rattle.debug_session.specs.Lives.{machine_of}
-use Rattle.debug_session.specs.declared.stops.SeenBytes.{SeenBytes}
-use Rattle.debug_session.specs.declared.stops.Watchpoint.{Watchpoint}
+use Rattle.std.proofs.{Common.{suc, ℕ, List, Option, map, drop, sym, ap, ◌∙◌}, Math.Seq.drop-cons}
+use Rattle.debug_session.specs.{Lives.machine_of, declared.stops.{SeenBytes.SeenBytes, Watchpoint.Watchpoint}}
 use Rattle.debug_session.specs.Others.{first_other, or_later, other_of}
 use Rattle.debug_session.proofs.stops.first_in.Goals as goal
 

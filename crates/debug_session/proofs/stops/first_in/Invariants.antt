@@ -1,6 +1,5 @@
 use Rattle.std.proofs.Common.{◌≡◌, map, drop}
-use Rattle.debug_session.specs.Lives.{machine_of}
-use Rattle.debug_session.specs.Others.{first_other}
+use Rattle.debug_session.specs.{Lives.machine_of, Others.first_other}
 use Rattle.debug_session.proofs.stops.first_in.Given as goal
 
 abbrev pub invariant-loop-was : goal.invariant-loop-was

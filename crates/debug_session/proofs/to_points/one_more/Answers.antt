@@ -1,10 +1,7 @@
 use Rattle.std.proofs.Common.{Option, sym, ap, ◌∙◌, subst}
 use Rattle.machine.specs.Machine.{Machine}
-use Rattle.bench_report.specs.Bench.{Bench}
-use Rattle.bench_report.specs.Lives.{Shows}
-use Rattle.debug_session.specs.Lives.{machine_of, pc_in, stands_in}
-use Rattle.debug_session.proofs.Passed.{more_done, off_row, shown_machine}
-use Rattle.debug_session.proofs.Rests.{idle_stays}
+use Rattle.bench_report.specs.{Bench.Bench, Lives.Shows}
+use Rattle.debug_session.{specs.Lives.{machine_of, pc_in, stands_in}, proofs.{Passed.{more_done, off_row, shown_machine}, Rests.idle_stays}}
 use Rattle.debug_session.proofs.Nexts.{rests_halts, rests_goes, halts_rests, halts_goes, goes_rests, goes_halts, then_fits, then_within, then_busy, then_goes, then_ended, then_stands}
 use Rattle.debug_session.proofs.to_points.one_more.Goals as goal
 

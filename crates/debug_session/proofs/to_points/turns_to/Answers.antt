@@ -1,6 +1,5 @@
 use Rattle.std.proofs.Common.{◌<◌, ℕ, ◌∙◌, subst, refl, true≢false, arith, inr, inl}
-use Rattle.debug_session.proofs.Passed.{within_less}
-use Rattle.debug_session.proofs.Nexts.{all_made}
+use Rattle.debug_session.proofs.{Passed.within_less, Nexts.all_made}
 use Rattle.debug_session.proofs.to_points.turns_to.Goals as goal
 
 pub returns-in-Rests-clause-range : goal.returns-in-Rests-clause-range

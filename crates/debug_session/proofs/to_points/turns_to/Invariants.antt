@@ -1,10 +1,7 @@
 use Rattle.std.proofs.Common.{◌≡◌, ◌-◌, false}
 use Rattle.board_model.specs.Shapes.{Size}
-use Rattle.bench_report.specs.Bench.{Bench}
-use Rattle.bench_report.specs.Rows.{IsOpenRow, IsWithin, RowMoves, is_idle_row, is_off, made_in}
-use Rattle.bench_report.specs.Lives.{IsSound, Shows}
-use Rattle.debug_session.specs.Lives.{pc_in, stands_in}
-use Rattle.debug_session.specs.Passes.{GoesTo, machine_left}
+use Rattle.bench_report.specs.{Bench.Bench, Rows.{IsOpenRow, IsWithin, RowMoves, is_idle_row, is_off, made_in}, Lives.{IsSound, Shows}}
+use Rattle.debug_session.specs.{Lives.{pc_in, stands_in}, Passes.{GoesTo, machine_left}}
 use Rattle.debug_session.proofs.to_points.turns_to.Given as goal
 
 abbrev pub invariant-loop-made : goal.invariant-loop-made

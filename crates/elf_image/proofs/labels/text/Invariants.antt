@@ -1,5 +1,4 @@
-use Rattle.std.proofs.Common.{◌≡◌, ◌++◌, take, drop, not}
-use Rattle.std.specs.Prelude.{take_while, ◌==◌}
+use Rattle.std.{proofs.Common.{◌≡◌, ◌++◌, take, drop, not}, specs.Prelude.{take_while, ◌==◌}}
 use Rattle.elf_image.proofs.labels.text.Given as goal
 
 abbrev pub invariant-loop-i : goal.invariant-loop-i

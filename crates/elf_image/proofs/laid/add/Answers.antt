@@ -1,9 +1,6 @@
-use Rattle.std.proofs.Common.{◌≡◌, ◌∙◌, ℕ, ◌<◌, ◌≤◌, ◌++◌, replicate, ◌-◌, length, sym, subst, arith}
-use Rattle.std.proofs.lemmas.Bool.{false≢true}
+use Rattle.std.proofs.{Common.{◌≡◌, ◌∙◌, ℕ, ◌<◌, ◌≤◌, ◌++◌, replicate, ◌-◌, length, sym, subst, arith}, lemmas.Bool.false≢true}
 use Rattle.std.proofs.lemmas.Result.{on_ok_weaker}
-use Rattle.elf_image.specs.Fields.{part_of}
-use Rattle.elf_image.specs.Program.{Loads, TakesMemory, segment_at, start_of}
-use Rattle.elf_image.specs.declared.program.Segment.{Segment}
+use Rattle.elf_image.specs.{Fields.part_of, Program.{Loads, TakesMemory, segment_at, start_of}, declared.program.Segment.Segment}
 use Rattle.elf_image.proofs.Laying.{loaded_more, loaded_same, room_before}
 use Rattle.elf_image.proofs.laid.add.Goals as goal
 

@@ -1,5 +1,4 @@
-use Rattle.std.proofs.Common.{◌≡◌, ℕ, ◌<◌, ◌≤◌, ◌+◌}
-use Rattle.std.specs.Prelude.{◌⊎◌}
+use Rattle.std.{proofs.Common.{◌≡◌, ℕ, ◌<◌, ◌≤◌, ◌+◌}, specs.Prelude.{◌⊎◌}}
 use Rattle.elf_image.specs.Program.{Loads, FitsRam, IsAfterAll, segment_at, ram_base}
 use Rattle.elf_image.proofs.reach.check_layout.Given as goal
 

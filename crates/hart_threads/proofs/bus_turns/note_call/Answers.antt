@@ -1,8 +1,6 @@
 use Rattle.std.proofs.Common.{◌+◌, ◌∙◌, ◌∷◌, ap}
-use Rattle.tallies.specs.Books.{keeper_view}
-use Rattle.tallies.specs.declared.book_views.BookView.{BookView}
-use Rattle.hart_threads.specs.Bused.{call_turn, held_call}
-use Rattle.hart_threads.specs.declared.bus_turns.BusTurn.{BusTurn}
+use Rattle.tallies.specs.{Books.keeper_view, declared.book_views.BookView.BookView}
+use Rattle.hart_threads.specs.{Bused.{call_turn, held_call}, declared.bus_turns.BusTurn.BusTurn}
 use Rattle.hart_threads.proofs.bus_turns.note_call.Goals as goal
 
 pub returns-clause-keeper : goal.returns-clause-keeper

@@ -1,9 +1,7 @@
 use Rattle.std.proofs.Common.{ap, inl, inr}
 use Rattle.hart.specs.State.{ArchState}
 use Rattle.sbi_calls.specs.Both.{known}
-use Rattle.hart_threads.specs.Views.{bus_in}
-use Rattle.hart_threads.proofs.Looking.{idle_once, woken_once}
-use Rattle.hart_threads.proofs.Looping.{gives_none}
+use Rattle.hart_threads.{specs.Views.bus_in, proofs.{Looking.{idle_once, woken_once}, Looping.gives_none}}
 use Rattle.hart_threads.proofs.dozes.doze_turn.Goals as goal
 
 pub returns-then-not-woken-clause-gives : goal.returns-then-not-woken-clause-gives

@@ -1,13 +1,9 @@
-use Rattle.std.proofs.Common.{◌∙◌, ℕ, ap, sym, subst}
-use Rattle.std.proofs.Math.Logic.{∥∥₁_map}
+use Rattle.std.proofs.{Common.{◌∙◌, ℕ, ap, sym, subst}, Math.Logic.∥∥₁_map}
 use Rattle.hart.specs.State.{ArchState}
 use Rattle.sbi_calls.specs.Both.{known}
-use Rattle.hart_threads.specs.Begun.{BeginsAs}
-use Rattle.tallies.specs.declared.book_views.PartView.{PartView}
-use Rattle.hart_threads.specs.declared.bus_turns.BusTurn.{BusTurn}
-use Rattle.hart_threads.specs.Seated.{AreOfHart}
-use Rattle.hart_threads.specs.Threads.{seated}
+use Rattle.hart_threads.specs.{Begun.BeginsAs, declared.bus_turns.BusTurn.BusTurn, Seated.AreOfHart, Threads.seated}
 use Rattle.hart_threads.proofs.Looping.{has_gone}
+use Rattle.tallies.specs.declared.book_views.PartView.{PartView}
 use Rattle.hart_threads.proofs.drives.loop_of.Goals as goal
 
 pub at_rest-requires-clause-gone : goal.at_rest-requires-clause-gone

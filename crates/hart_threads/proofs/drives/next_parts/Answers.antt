@@ -1,7 +1,5 @@
-use Rattle.std.proofs.Common.{◌≡◌, [], Some, sym, vec_len}
-use Rattle.std.proofs.lemmas.List.Elements.{All-pop}
-use Rattle.hart_threads.specs.declared.shared.HartParts.{HartParts}
-use Rattle.hart_threads.proofs.Numbered.{last_of}
+use Rattle.std.proofs.{Common.{◌≡◌, [], Some, sym, vec_len}, lemmas.List.Elements.All-pop}
+use Rattle.hart_threads.{specs.declared.shared.HartParts.HartParts, proofs.Numbered.last_of}
 use Rattle.hart_threads.proofs.drives.next_parts.Goals as goal
 
 pub returns-clause-told : goal.returns-clause-told

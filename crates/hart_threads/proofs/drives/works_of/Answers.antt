@@ -1,10 +1,7 @@
-use Rattle.std.proofs.Common.{◌≡◌, ◌∙◌, List, [], sym, subst, vec_len, vec_capacity}
-use Rattle.std.specs.List.{AllZip}
+use Rattle.std.{proofs.Common.{◌≡◌, ◌∙◌, List, [], sym, subst, vec_len, vec_capacity}, specs.List.AllZip}
 use Rattle.std.specs.Vec.Iter.{into_iter_items, into_iter_len}
-use Rattle.hart_threads.specs.Begun.{AreFromLast}
-use Rattle.hart_threads.specs.Seated.{IsSeated}
+use Rattle.hart_threads.specs.{Begun.AreFromLast, Seated.IsSeated, declared.seated.ActingHart.ActingHart}
 use Rattle.hart_threads.proofs.Ending.{all_pushed, one_begun, one_given, one_left, has_room, all_begun, same_number}
-use Rattle.hart_threads.specs.declared.seated.ActingHart.{ActingHart}
 use Rattle.hart_threads.proofs.Promising.{all_taken, one_taken, same_numbers}
 use Rattle.hart_threads.proofs.drives.works_of.Goals as goal
 

@@ -1,9 +1,6 @@
-use Rattle.std.proofs.Common.{◌≡◌, ◌+◌, [], All, map, vec_len, vec_capacity}
-use Rattle.std.specs.Vec.Iter.{into_iter_items, into_iter_len}
+use Rattle.std.{proofs.Common.{◌≡◌, ◌+◌, [], All, map, vec_len, vec_capacity}, specs.Vec.Iter.{into_iter_items, into_iter_len}}
 use Rattle.tallies.specs.Books.{fresh_from}
-use Rattle.hart_threads.specs.Begun.{AreFromLast}
-use Rattle.hart_threads.specs.Seated.{IsSeated}
-use Rattle.hart_threads.proofs.Promising.{IsTaken}
+use Rattle.hart_threads.{specs.{Begun.AreFromLast, Seated.IsSeated}, proofs.Promising.IsTaken}
 use Rattle.hart_threads.proofs.drives.works_of.Given as goal
 
 -- there is room for the harts that are still to come, and each has a part that was told nothing

@@ -1,14 +1,8 @@
-use Rattle.std.proofs.Common.{◌≡◌, ◌∙◌, ℕ, refl, sym, subst}
-use Rattle.std.proofs.Math.Logic.{∥∥₁_map}
-use Rattle.hsm.specs.Calls.{Sits, StandsBy, stage_of, state_in_word}
-use Rattle.hsm.specs.Rule.{HasNoted}
-use Rattle.hsm.specs.declared.view.Action.TheVariants.{Looked}
-use Rattle.hsm.specs.Seating.{harts_in}
-use Rattle.hsm.specs.States.{IsBetweenCalls}
-use Rattle.sbi_calls.specs.Both.{known, views}
-use Rattle.sbi_calls.specs.declared.tables.Seats.{Seats}
-use Rattle.hart_threads.specs.Ends.{IsStateOf}
-use Rattle.hart_threads.proofs.Looping.{between_after, seats_named, sits_after}
+use Rattle.std.proofs.{Common.{◌≡◌, ◌∙◌, ℕ, refl, sym, subst}, Math.Logic.∥∥₁_map}
+use Rattle.hsm.specs.{Calls.{Sits, StandsBy, stage_of, state_in_word}, Rule.HasNoted, declared.view.Action.TheVariants.Looked}
+use Rattle.hsm.specs.{Seating.harts_in, States.IsBetweenCalls}
+use Rattle.sbi_calls.specs.{Both.{known, views}, declared.tables.Seats.Seats}
+use Rattle.hart_threads.{specs.Ends.IsStateOf, proofs.Looping.{between_after, seats_named, sits_after}}
 use Rattle.hart_threads.proofs.ends.at_rest.Goals as goal
 
 pub status-harts-requires-clause-acts : goal.status-harts-requires-clause-acts

@@ -1,5 +1,4 @@
-use Rattle.std.proofs.Common.{refl}
-use Rattle.std.specs.Prelude.{is_some}
+use Rattle.std.{proofs.Common.refl, specs.Prelude.is_some}
 use Rattle.hart_threads.proofs.Told.{told_over}
 use Rattle.hart_threads.proofs.ends.over_by.Goals as goal
 

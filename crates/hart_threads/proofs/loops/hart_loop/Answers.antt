@@ -1,17 +1,12 @@
-use Rattle.std.proofs.Common.{◌≡◌, ℕ, ◌+◌, true, false, arith, ap, refl, sym, ◌∙◌, subst}
-use Rattle.std.specs.Prelude.{None}
+use Rattle.std.{proofs.Common.{◌≡◌, ℕ, ◌+◌, true, false, arith, ap, refl, sym, ◌∙◌, subst}, specs.Prelude.None}
 use Rattle.hart.specs.State.{ArchState}
 use Rattle.sbi_calls.specs.Both.{GivesBack, known}
-use Rattle.hart_threads.specs.Bused.{part_of_hart}
-use Rattle.hart_threads.specs.Noted.{part_after}
-use Rattle.turns.proofs.Begun.{gives_then}
-use Rattle.hart_threads.specs.Seated.{IsSeated, StandsAfterTurn, StandsAfter}
-use Rattle.hart_threads.specs.Threads.{seated, TurnsOn}
-use Rattle.hart_threads.specs.declared.loops.Why.TheVariants as whys
+use Rattle.hart_threads.{specs.{Bused.part_of_hart, Noted.part_after, Seated.{IsSeated, StandsAfterTurn, StandsAfter}}, proofs.Told.equals}
+use Rattle.hart_threads.{specs.Threads.{seated, TurnsOn}, proofs.Whose.turn_whose}
 use Rattle.hart_threads.proofs.Looping.{gives_none, rests_on, stands_over, one_more, ended_life, kept_part}
 use Rattle.hart_threads.proofs.Ending.{few_asked, as_often, once_more, asked_before, as_it_was, as_both_were, seated_as, said_so, turn_told, none_noted, one_noted}
-use Rattle.hart_threads.proofs.Told.{equals}
-use Rattle.hart_threads.proofs.Whose.{turn_whose}
+use Rattle.turns.proofs.Begun.{gives_then}
+use Rattle.hart_threads.specs.declared.loops.Why.TheVariants as whys
 use Rattle.hart_threads.proofs.loops.hart_loop.Goals as goal
 
 pub loop-made-init : goal.loop-made-init

@@ -1,8 +1,7 @@
 use Rattle.std.proofs.Common.{refl}
 use Rattle.sbi_abi.specs.Calls.{call_of}
 use Rattle.sbi_calls.specs.Both.{known}
-use Rattle.hart_threads.specs.Threads.{seated}
-use Rattle.hart_threads.proofs.Looping.{gives_none, held_comes, made_comes, stands_told}
+use Rattle.hart_threads.{specs.Threads.seated, proofs.Looping.{gives_none, held_comes, made_comes, stands_told}}
 use Rattle.hart_threads.proofs.turn.came_of.Goals as goal
 
 pub returns-in-Durable-clause-stands : goal.returns-in-Durable-clause-stands

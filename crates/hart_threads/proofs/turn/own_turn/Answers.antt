@@ -1,16 +1,11 @@
-use Rattle.std.proofs.Common.{ℕ, ◌<◌, ◌∙◌, refl, sym, ap, subst}
+use Rattle.std.{proofs.Common.{ℕ, ◌<◌, ◌∙◌, refl, sym, ap, subst}, specs.Prelude.None}
 use Rattle.hsm.specs.declared.view.Stage.TheVariants.{Running}
 use Rattle.sbi_calls.specs.Both.{GivesBack, Acts, known}
 use Rattle.machine.specs.Held.{RestsBy}
-use Rattle.std.specs.Prelude.{None}
 use Rattle.turns.proofs.Begun.{gives_then}
-use Rattle.hart_threads.specs.Seated.{StandsAfterTurn}
-use Rattle.hart_threads.specs.Threads.{seated}
+use Rattle.hart_threads.{specs.{Seated.StandsAfterTurn, Threads.seated, Bused.{TurnsBus, part_in, part_of_hart}}, proofs.Bussing.turned_bus}
+use Rattle.hart_threads.{specs.declared.bus_turns.BusTurn.BusTurn, proofs.Whose.steps_whose}
 use Rattle.tallies.specs.declared.book_views.PartView.{PartView}
-use Rattle.hart_threads.specs.Bused.{TurnsBus, part_in, part_of_hart}
-use Rattle.hart_threads.specs.declared.bus_turns.BusTurn.{BusTurn}
-use Rattle.hart_threads.proofs.Bussing.{turned_bus}
-use Rattle.hart_threads.proofs.Whose.{steps_whose}
 use Rattle.hart_threads.proofs.turn.own_turn.Goals as goal
 
 pub turn_by_bus-seats-requires-clause-hart : goal.turn_by_bus-seats-requires-clause-hart

@@ -1,10 +1,7 @@
 use Rattle.std.proofs.Common.{◌∙◌, Option, ap, sym, subst}
 use Rattle.sbi_calls.specs.Both.{known}
-use Rattle.hart_threads.specs.Noted.{part_after}
+use Rattle.hart_threads.{specs.{Noted.part_after, Seated.IsSeated, Threads.seated}, proofs.Looping.{dozed, undozed}}
 use Rattle.susp.specs.declared.buses.Doze.{Doze}
-use Rattle.hart_threads.specs.Seated.{IsSeated}
-use Rattle.hart_threads.specs.Threads.{seated}
-use Rattle.hart_threads.proofs.Looping.{dozed, undozed}
 use Rattle.hart_threads.proofs.turn.whole_turn.Goals as goal
 
 pub dozing_turn-end-requires-clause-seated : goal.dozing_turn-end-requires-clause-seated

@@ -1,9 +1,6 @@
 use Rattle.std.proofs.Common.{◌≡◌, ◌∙◌, ◌+◌, ◌-◌, ◌≤◌, ℕ, List, get_or, refl, ap, arith, subst, subst₂, sym}
-use Rattle.board_model.specs.Views.{change_in}
-use Rattle.board_model.specs.declared.durable.Entry.{Entry}
-use Rattle.tallies.specs.Logs.{Log}
-use Rattle.tallies.specs.declared.book_views.BookView.{BookView}
-use Rattle.tallies.specs.declared.book_views.PartView.{PartView}
+use Rattle.board_model.specs.{Views.change_in, declared.durable.Entry.Entry}
+use Rattle.tallies.specs.{Logs.Log, declared.book_views.{BookView.BookView, PartView.PartView}}
 use Rattle.store.specs.Views.{journal_of, receipts}
 use Rattle.hart_threads.proofs.Booted.{AreNoted, all_counted, all_told, all_tied, none_left, none_noted, one_noted}
 use Rattle.hart_threads.proofs.unshared.note_journal.Goals as goal

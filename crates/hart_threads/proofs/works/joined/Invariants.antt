@@ -1,5 +1,4 @@
-use Rattle.std.proofs.Common.{◌≡◌, ◌≤◌, ◌+◌, vec_len, vec_capacity}
-use Rattle.std.specs.Vec.Iter.{into_iter_items, into_iter_len}
+use Rattle.std.{proofs.Common.{◌≡◌, ◌≤◌, ◌+◌, vec_len, vec_capacity}, specs.Vec.Iter.{into_iter_items, into_iter_len}}
 use Rattle.hart_threads.proofs.Promising.{IsTaken}
 use Rattle.hart_threads.proofs.works.joined.Given as goal
 

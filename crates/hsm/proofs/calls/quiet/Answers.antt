@@ -1,7 +1,5 @@
 use Rattle.std.proofs.Common.{◌≡◌, Bool, ◌%◌, ◌^◌, ◌∙◌, refl, arith}
-use Rattle.hsm.specs.Outcomes.{is_alone}
-use Rattle.hsm.proofs.Bits.{low_bits}
-use Rattle.hsm.proofs.Quieting.{quiet_alone, quiet_stands, quiet_keeps}
+use Rattle.hsm.{specs.Outcomes.is_alone, proofs.{Bits.low_bits, Quieting.{quiet_alone, quiet_stands, quiet_keeps}}}
 use Rattle.hsm.proofs.calls.quiet.Goals.{After-eq}
 use Rattle.hsm.proofs.calls.quiet.Goals as goal
 

@@ -1,12 +1,9 @@
-use Rattle.std.proofs.Common.{◌≡◌, ◌≢◌, ◌+◌, ◌*◌, ◌<◌, sym, eq-eqb, ne_eqb, arith}
-use Rattle.std.specs.Int.{bit_at}
-use Rattle.hsm.specs.declared.view.Stage.TheVariants.{Claiming, Half, Stored, Running}
-use Rattle.hsm.specs.declared.view.Action.TheVariants.{Claimed, Wrote, Armed}
-use Rattle.tallies.specs.Notes.{HasNoted}
-use Rattle.hsm.proofs.Alone.{Goes, goes, goes_on}
-use Rattle.hsm.proofs.Bits.{set_bit, clear_bit}
+use Rattle.std.{proofs.Common.{◌≡◌, ◌≢◌, ◌+◌, ◌*◌, ◌<◌, sym, eq-eqb, ne_eqb, arith}, specs.Int.bit_at}
+use Rattle.hsm.specs.declared.view.{Stage.TheVariants.{Claiming, Half, Stored, Running}, Action.TheVariants.{Claimed, Wrote, Armed}}
+use Rattle.hsm.proofs.{Alone.{Goes, goes, goes_on}, Bits.{set_bit, clear_bit}}
 use Rattle.hsm.proofs.Starting.{stays_running, claims_it, start_refused, start_granted}
 use Rattle.hsm.proofs.calls.start.Goals.{Then-contains, Else-contains, After-put_address, After-put_opaque, After-arm}
+use Rattle.tallies.specs.Notes.{HasNoted}
 use Rattle.hsm.proofs.calls.start.Goals as goal
 
 -- ---- the claim found the target claimed

@@ -1,14 +1,9 @@
 use Rattle.std.proofs.Common.{ℕ, rules, refl, sym, ◌∙◌, subst}
 use mathlib.Core.Logic.{dite}
 use native.Mathlib.Decide.{ℕ_discrete}
-use Rattle.hsm.specs.declared.view.Stage.{Stage}
-use Rattle.hsm.specs.declared.view.Action.TheVariants.{Looked}
-use Rattle.hsm.specs.Rule.{stands}
-use Rattle.hsm.specs.Calls.{stage_of, IsOwnStatus}
-use Rattle.hsm.proofs.Stand.{stands_after, stands_own, stands_stage, stands_by}
+use Rattle.hsm.specs.{declared.view.{Stage.Stage, Action.TheVariants.Looked}, Rule.stands, Calls.{stage_of, IsOwnStatus}}
+use Rattle.hsm.proofs.{Stand.{stands_after, stands_own, stands_stage, stands_by}, Alone.{others, shows_same}, Stages.named_is}
 use Rattle.tallies.proofs.Noted.{numbered}
-use Rattle.hsm.proofs.Alone.{others, shows_same}
-use Rattle.hsm.proofs.Stages.{named_is}
 use Rattle.hsm.proofs.calls.status.Goals as goal
 
 pub look-found-requires-clause-acts : goal.look-found-requires-clause-acts

@@ -1,10 +1,6 @@
 use Rattle.std.proofs.Common.{refl}
-use Rattle.hsm.specs.declared.view.Stage.TheVariants.{Running, Out}
-use Rattle.hsm.specs.declared.view.Action.TheVariants.{Stopped}
-use Rattle.hsm.proofs.Stand.{stands_after}
-use Rattle.hsm.specs.States.{stopped}
-use Rattle.hsm.proofs.Alone.{keeps, shows_turned}
-use Rattle.hsm.proofs.Stages.{runs_settled}
+use Rattle.hsm.{specs.declared.view.{Stage.TheVariants.{Running, Out}, Action.TheVariants.Stopped}, proofs.Stand.stands_after}
+use Rattle.hsm.{specs.States.stopped, proofs.{Alone.{keeps, shows_turned}, Stages.runs_settled}}
 use Rattle.hsm.proofs.calls.stop.Goals as goal
 
 pub returns-clause-stands : goal.returns-clause-stands

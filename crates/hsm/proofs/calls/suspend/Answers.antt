@@ -1,10 +1,6 @@
 use Rattle.std.proofs.Common.{refl}
-use Rattle.hsm.specs.declared.view.Stage.TheVariants.{Running, Suspended}
-use Rattle.hsm.specs.declared.view.Action.TheVariants.{Suspended as DidSuspend}
-use Rattle.hsm.proofs.Stand.{stands_after}
-use Rattle.hsm.specs.States.{suspended}
-use Rattle.hsm.proofs.Alone.{keeps, shows_turned}
-use Rattle.hsm.proofs.Stages.{runs_settled}
+use Rattle.hsm.specs.{declared.{view.{Stage.TheVariants.{Running, Suspended}, Action.{TheVariants.{Suspended as DidSuspend}}}}}
+use Rattle.hsm.{proofs.{Stand.stands_after, Alone.{keeps, shows_turned}, Stages.runs_settled}, specs.States.suspended}
 use Rattle.hsm.proofs.calls.suspend.Goals as goal
 
 pub returns-clause-stands : goal.returns-clause-stands

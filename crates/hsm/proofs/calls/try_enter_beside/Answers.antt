@@ -1,15 +1,10 @@
-use Rattle.std.proofs.Common.{◌≡◌, refl, sym, subst, ℕ, ◌+◌, ◌*◌, ◌<◌, false, None, arith}
-use Rattle.std.specs.Int.{bit_at}
-use Rattle.hsm.specs.declared.view.Stage.TheVariants.{Out, Ready, Addressed, Loaded, Running}
-use Rattle.hsm.specs.declared.view.Action.TheVariants.{Looked, Read, Entered}
-use Rattle.tallies.specs.Notes.{HasNoted}
-use Rattle.hsm.specs.States.{HartState, Shows, change_at, entry, begin}
-use Rattle.hsm.specs.Calls.{is_ready, FindsNone, EntersAs}
-use Rattle.hsm.proofs.Alone.{Goes, goes, goes_on}
-use Rattle.hsm.proofs.Bits.{set_bit, clear_bit}
+use Rattle.std.{proofs.Common.{◌≡◌, refl, sym, subst, ℕ, ◌+◌, ◌*◌, ◌<◌, false, None, arith}, specs.Int.bit_at}
+use Rattle.hsm.specs.declared.view.{Stage.TheVariants.{Out, Ready, Addressed, Loaded, Running}, Action.TheVariants.{Looked, Read, Entered}}
+use Rattle.hsm.specs.{States.{HartState, Shows, change_at, entry, begin}, Calls.{is_ready, FindsNone, EntersAs}}
+use Rattle.hsm.proofs.{Alone.{Goes, goes, goes_on}, Bits.{set_bit, clear_bit}, calls.try_enter_beside.Given.Over}
 use Rattle.hsm.proofs.Entering.{unarmed, armed_ready, gone_in, stays_out, gets_ready, enters_none, enters_some}
-use Rattle.hsm.proofs.calls.try_enter_beside.Given.{Over}
 use Rattle.hsm.proofs.calls.try_enter_beside.Goals.{After-poll-found, Then-not-contains, Then-contains, Else-contains, After-read_address-site, After-read_opaque-opaque, After-enter}
+use Rattle.tallies.specs.Notes.{HasNoted}
 use Rattle.hsm.proofs.calls.try_enter_beside.Goals as goal
 
 -- ---- the look did not find the hart ready

@@ -1,8 +1,5 @@
-use Rattle.hsm.specs.declared.view.Stage.TheVariants.{Running, Quiet}
-use Rattle.hsm.specs.declared.view.Action.TheVariants.{Unquieted}
-use Rattle.hsm.proofs.Stand.{stands_after}
-use Rattle.hsm.proofs.Alone.{keeps}
-use Rattle.hsm.proofs.Quieting.{unquiet_alone}
+use Rattle.hsm.{specs.declared.view.{Stage.TheVariants.{Running, Quiet}, Action.TheVariants.Unquieted}, proofs.Stand.stands_after}
+use Rattle.hsm.proofs.{Alone.keeps, Quieting.unquiet_alone}
 use Rattle.hsm.proofs.calls.unquiet.Goals as goal
 
 pub returns-clause-stands : goal.returns-clause-stands

@@ -1,10 +1,6 @@
 use Rattle.std.proofs.Common.{refl}
-use Rattle.hsm.specs.declared.view.Stage.TheVariants.{Running, Suspended}
-use Rattle.hsm.specs.declared.view.Action.TheVariants.{Woke}
-use Rattle.hsm.proofs.Stand.{stands_after}
-use Rattle.hsm.specs.States.{started}
-use Rattle.hsm.proofs.Alone.{keeps, shows_turned}
-use Rattle.hsm.proofs.Stages.{suspends_settled}
+use Rattle.hsm.{specs.declared.view.{Stage.TheVariants.{Running, Suspended}, Action.TheVariants.Woke}, proofs.Stand.stands_after}
+use Rattle.hsm.{specs.States.started, proofs.{Alone.{keeps, shows_turned}, Stages.suspends_settled}}
 use Rattle.hsm.proofs.calls.wake.Goals as goal
 
 pub returns-clause-stands : goal.returns-clause-stands

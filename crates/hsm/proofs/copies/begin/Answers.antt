@@ -1,6 +1,5 @@
 use Rattle.std.proofs.Common.{ap, ◌∙◌}
-use Rattle.hsm.specs.States.{started, entry, begin}
-use Rattle.hsm.proofs.Copying.{comes, entered, stood}
+use Rattle.hsm.{specs.States.{started, entry, begin}, proofs.Copying.{comes, entered, stood}}
 use Rattle.hsm.proofs.copies.begin.Goals as goal
 
 pub try_enter-seat-requires-clause-acts : goal.try_enter-seat-requires-clause-acts

@@ -1,13 +1,7 @@
-use Rattle.std.specs.Option.{IfSome}
-use Rattle.std.proofs.Common.{ℕ, ◌<◌, sym, subst, ◌∙◌, ap}
+use Rattle.std.{specs.Option.IfSome, proofs.Common.{ℕ, ◌<◌, sym, subst, ◌∙◌, ap}}
 use Rattle.tallies.specs.Seats.{numbers_from}
-use Rattle.hsm.specs.Words.{HartSeatView}
-use Rattle.hsm.specs.declared.view.Stage.TheVariants.{Quiet}
-use Rattle.hsm.specs.Rule.{stands}
-use Rattle.hsm.specs.Seating.{harts_in}
-use Rattle.hsm.specs.Views.{state_in}
-use Rattle.hsm.specs.Copies.{IsShown, IsAtRest, IsSettled, stage_by}
-use Rattle.hsm.proofs.Copying.{opens, shown_of, copied_states}
+use Rattle.hsm.specs.{Words.HartSeatView, declared.view.Stage.TheVariants.Quiet, Rule.stands, Seating.harts_in, Views.state_in}
+use Rattle.hsm.{specs.Copies.{IsShown, IsAtRest, IsSettled, stage_by}, proofs.Copying.{opens, shown_of, copied_states}}
 use Rattle.hsm.proofs.copies.copy.Goals as goal
 
 pub settled_hart-first-requires-clause-shown : goal.settled_hart-first-requires-clause-shown

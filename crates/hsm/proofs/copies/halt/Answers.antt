@@ -1,6 +1,5 @@
 use Rattle.std.proofs.Common.{refl}
-use Rattle.hsm.specs.States.{stopped}
-use Rattle.hsm.proofs.Copying.{comes, stood}
+use Rattle.hsm.{specs.States.stopped, proofs.Copying.{comes, stood}}
 use Rattle.hsm.proofs.copies.halt.Goals as goal
 
 pub stop-requires-clause-acts : goal.stop-requires-clause-acts

@@ -1,11 +1,6 @@
 use Rattle.std.proofs.Common.{ℕ, ◌<◌, ◌∙◌, Option, IfSome, sym, subst, inl}
-use Rattle.hsm.specs.declared.view.Stage.TheVariants.{Quiet}
-use Rattle.hsm.specs.States.{Shows}
-use Rattle.hsm.specs.Rule.{stands}
-use Rattle.hsm.specs.Seating.{harts_in}
-use Rattle.hsm.specs.Views.{state_in}
-use Rattle.hsm.specs.Copies.{IsShown, stage_by}
-use Rattle.hsm.proofs.Computed.{seat_determines_states, shows_seen}
+use Rattle.hsm.specs.{declared.view.Stage.TheVariants.Quiet, States.Shows, Rule.stands, Seating.harts_in, Views.state_in}
+use Rattle.hsm.{specs.Copies.{IsShown, stage_by}, proofs.Computed.{seat_determines_states, shows_seen}}
 use Rattle.hsm.proofs.Copying.{quiet_runs, stands_by_one, stands_by_none, stood, found_alone, then_quiet}
 use Rattle.hsm.proofs.copies.quiet_as.Goals.{After-quiet-own}
 use Rattle.hsm.proofs.copies.quiet_as.Goals as goal

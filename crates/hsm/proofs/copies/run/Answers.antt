@@ -1,7 +1,5 @@
 use Rattle.std.proofs.Common.{refl, ◌∙◌}
-use Rattle.hsm.specs.States.{started, start_pending}
-use Rattle.hsm.specs.Views.{state_in}
-use Rattle.hsm.proofs.Copying.{here, both}
+use Rattle.hsm.{specs.{States.{started, start_pending}, Views.state_in}, proofs.Copying.{here, both}}
 use Rattle.hsm.proofs.copies.run.Goals as goal
 
 pub begin-requires-clause-pends : goal.begin-requires-clause-pends

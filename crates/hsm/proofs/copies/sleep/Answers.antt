@@ -1,6 +1,5 @@
 use Rattle.std.proofs.Common.{refl}
-use Rattle.hsm.specs.States.{suspended}
-use Rattle.hsm.proofs.Copying.{comes, stood}
+use Rattle.hsm.{specs.States.suspended, proofs.Copying.{comes, stood}}
 use Rattle.hsm.proofs.copies.sleep.Goals as goal
 
 pub suspend-requires-clause-acts : goal.suspend-requires-clause-acts

@@ -1,8 +1,5 @@
-use Rattle.std.proofs.Common.{ℕ, ◌<◌, refl, sym, subst, ◌∙◌, arith}
-use Rattle.std.proofs.lemmas.Bool.{eqb-true, eqb-false}
-use Rattle.hsm.specs.Views.{state_in}
-use Rattle.hsm.specs.Copies.{IsAtRest}
-use Rattle.hsm.proofs.Copying.{so_far_first, so_far_above, passes_first, made_next}
+use Rattle.std.proofs.{Common.{ℕ, ◌<◌, refl, sym, subst, ◌∙◌, arith}, lemmas.Bool.{eqb-true, eqb-false}}
+use Rattle.hsm.{specs.{Views.state_in, Copies.IsAtRest}, proofs.Copying.{so_far_first, so_far_above, passes_first, made_next}}
 use Rattle.hsm.proofs.copies.take_after.Goals as goal
 
 pub returns-then-eq-clause-seat : goal.returns-then-eq-clause-seat

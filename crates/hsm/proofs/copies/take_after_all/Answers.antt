@@ -1,10 +1,7 @@
 use Rattle.std.proofs.Common.{◌≡◌, ℕ, ◌+◌, ◌<◌, ◌≤◌, ◌∙◌, refl, sym, subst, ap, arith}
 use Rattle.tallies.specs.Seats.{numbers_from}
-use Rattle.hsm.specs.Words.{HartSeatView}
-use Rattle.hsm.specs.Views.{state_in}
-use Rattle.hsm.specs.Copies.{IsShown, IsAtRest, IsSettled}
-use Rattle.hsm.proofs.Copying.{so_far_first, made_at, made_last}
-use Rattle.hsm.proofs.copies.take_after_all.Goals.{After-unwrap-hart}
+use Rattle.hsm.specs.{Words.HartSeatView, Views.state_in, Copies.{IsShown, IsAtRest, IsSettled}}
+use Rattle.hsm.proofs.{Copying.{so_far_first, made_at, made_last}, copies.take_after_all.Goals.After-unwrap-hart}
 use Rattle.hsm.proofs.copies.take_after_all.Goals as goal
 
 pub take_after-own-requires-clause-shown : goal.take_after-own-requires-clause-shown

@@ -1,6 +1,5 @@
 use Rattle.std.proofs.Common.{◌≡◌}
-use Rattle.hsm.specs.Seating.{IsSeatOf, hart_view_of_seat}
-use Rattle.hsm.specs.Copies.{IsMade}
+use Rattle.hsm.specs.{Seating.{IsSeatOf, hart_view_of_seat}, Copies.IsMade}
 use Rattle.hsm.proofs.copies.take_after_all.Given as goal
 
 abbrev pub invariant-loop-number : goal.invariant-loop-number

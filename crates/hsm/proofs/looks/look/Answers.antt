@@ -1,7 +1,5 @@
 use Rattle.std.proofs.Common.{ℕ, subst, arith}
-use Rattle.hsm.proofs.Allowed.{looks_as}
-use Rattle.hsm.specs.States.{Tells}
-use Rattle.hsm.specs.Seating.{hart_view_of_seat}
+use Rattle.hsm.{proofs.Allowed.looks_as, specs.{States.Tells, Seating.hart_view_of_seat}}
 use Rattle.hsm.proofs.looks.look.Goals as goal
 
 pub load-requires : goal.load-requires

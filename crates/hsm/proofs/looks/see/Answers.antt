@@ -1,7 +1,5 @@
 use Rattle.std.proofs.Common.{ℕ, ◌<◌, subst, arith}
-use Rattle.hsm.specs.States.{HartState, IsBetweenCalls, Shows}
-use Rattle.hsm.specs.Rule.{HasSteps}
-use Rattle.hsm.specs.Seating.{hart_view_of_seat, harts_in}
+use Rattle.hsm.specs.{States.{HartState, IsBetweenCalls, Shows}, Rule.HasSteps, Seating.{hart_view_of_seat, harts_in}}
 use Rattle.hsm.proofs.Later.{sees_as}
 use Rattle.hsm.proofs.looks.see.Goals as goal
 

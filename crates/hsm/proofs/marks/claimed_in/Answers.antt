@@ -1,5 +1,4 @@
-use Rattle.std.proofs.Common.{◌≡◌, ◌+◌, ap, ◌∙◌, arith}
-use Rattle.std.specs.Int.{bit_at}
+use Rattle.std.{proofs.Common.{◌≡◌, ◌+◌, ap, ◌∙◌, arith}, specs.Int.bit_at}
 use Rattle.hsm.proofs.marks.claimed_in.Goals as goal
 
 pub returns-clause-bits : goal.returns-clause-bits

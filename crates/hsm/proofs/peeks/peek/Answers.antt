@@ -1,8 +1,5 @@
 use Rattle.std.proofs.Common.{ℕ, subst, arith}
-use Rattle.hsm.specs.States.{Tells}
-use Rattle.hsm.specs.Outcomes.{HasSettled, IsAloneIn}
-use Rattle.hsm.specs.Seating.{hart_view_of_seat, harts_in}
-use Rattle.hsm.proofs.Later.{peeks_as}
+use Rattle.hsm.{specs.{States.Tells, Outcomes.{HasSettled, IsAloneIn}, Seating.{hart_view_of_seat, harts_in}}, proofs.Later.peeks_as}
 use Rattle.hsm.proofs.peeks.peek.Goals as goal
 
 pub load-requires : goal.load-requires

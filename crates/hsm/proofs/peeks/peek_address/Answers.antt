@@ -1,7 +1,5 @@
 use Rattle.std.proofs.Common.{ℕ, subst, arith}
-use Rattle.hsm.specs.Outcomes.{IsStartAddress}
-use Rattle.hsm.specs.Seating.{hart_view_of_seat}
-use Rattle.hsm.proofs.Later.{peeks_address_as}
+use Rattle.hsm.{specs.{Outcomes.IsStartAddress, Seating.hart_view_of_seat}, proofs.Later.peeks_address_as}
 use Rattle.hsm.proofs.peeks.peek_address.Goals as goal
 
 pub load-requires : goal.load-requires

@@ -1,13 +1,8 @@
-use Rattle.std.proofs.Common.{◌≡◌, ℕ, ◌+◌, ◌-◌, ◌*◌, ◌==◌, if◌then◌else◌, eqb, refl, arith}
-use Rattle.std.specs.Prelude.{slice_index}
-use Rattle.std.specs.Int.{bit_at}
+use Rattle.std.{proofs.Common.{◌≡◌, ℕ, ◌+◌, ◌-◌, ◌*◌, ◌==◌, if◌then◌else◌, eqb, refl, arith}, specs.{Prelude.slice_index, Int.bit_at}}
 use mathlib.Core.Logic.{dite}
 use native.Mathlib.Decide.{ℕ_discrete}
-use Rattle.hsm.specs.Words.{word_bits}
-use Rattle.hsm.specs.declared.view.Stage.TheVariants.{Quiet}
-use Rattle.hsm.specs.Rule.{HartInvariant, first_word, is_pending, reading}
-use Rattle.hsm.specs.States.{StartsLedger, QuietLaw, stopped, start_pending, started, suspended}
-use Rattle.hsm.proofs.Next.{place, mine}
+use Rattle.hsm.specs.{Words.word_bits, declared.view.Stage.TheVariants.Quiet, Rule.{HartInvariant, first_word, is_pending, reading}}
+use Rattle.hsm.{specs.States.{StartsLedger, QuietLaw, stopped, start_pending, started, suspended}, proofs.Next.{place, mine}}
 use Rattle.hsm.proofs.Whole.{unpended}
 use Rattle.tallies.proofs.Laws.{changes_noted, earlier_stand, steps_true}
 use Rattle.hsm.proofs.promises.laws.Goals as goal

@@ -1,5 +1,4 @@
-use Rattle.hsm.specs.Views.{state_in}
-use Rattle.hsm.proofs.Stages.{stopped_of}
+use Rattle.hsm.{specs.Views.state_in, proofs.Stages.stopped_of}
 use Rattle.hsm.proofs.standings.find_alone.Goals as goal
 
 pub returns-clause-alone : goal.returns-clause-alone

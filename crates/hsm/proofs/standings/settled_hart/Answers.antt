@@ -1,6 +1,5 @@
 use Rattle.std.proofs.Common.{◌<◌, arith, refl, sym, ◌∙◌}
-use Rattle.hsm.specs.Views.{state_in}
-use Rattle.hsm.proofs.Copying.{read_as, settled_is}
+use Rattle.hsm.{specs.Views.state_in, proofs.Copying.{read_as, settled_is}}
 use Rattle.hsm.proofs.standings.settled_hart.Goals as goal
 
 pub returns-in_default : goal.returns-in_default

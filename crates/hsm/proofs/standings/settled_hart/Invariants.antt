@@ -1,6 +1,5 @@
 use Rattle.std.proofs.Common.{[], ◌≡◌, ℕ, ◌<◌}
-use Rattle.hsm.specs.declared.view.Stage.TheVariants.{Running}
-use Rattle.hsm.specs.Calls.{state_in_word}
+use Rattle.hsm.specs.{declared.view.Stage.TheVariants.Running, Calls.state_in_word}
 use Rattle.hsm.specs.declared.state.State.TheVariants as codes
 use Rattle.hsm.proofs.standings.settled_hart.Given as goal
 

@@ -1,9 +1,7 @@
 use Rattle.std.proofs.Common.{◌≡◌, sym, ◌∙◌}
-use Rattle.hsm.specs.Rule.{IsSite}
-use Rattle.hsm.specs.States.{start_pending}
-use Rattle.hsm.specs.Views.{state_in}
-use Rattle.hsm.specs.declared.state.State.TheVariants as codes
+use Rattle.hsm.specs.{Rule.IsSite, States.start_pending, Views.state_in}
 use Rattle.hsm.proofs.Copying.{read_as, started_is, stopped_is, suspended_is, pending_of, some_of, address_is, opaque_is}
+use Rattle.hsm.specs.declared.state.State.TheVariants as codes
 use Rattle.hsm.proofs.standings.standing_of.Goals as goal
 
 pub returns-in-Started-clause-standing : goal.returns-in-Started-clause-standing

@@ -1,7 +1,5 @@
 use Rattle.std.proofs.Common.{ℕ, subst, arith}
-use Rattle.hsm.proofs.Allowed.{claims_as}
-use Rattle.hsm.specs.States.{Tells}
-use Rattle.hsm.specs.Seating.{hart_view_of_seat}
+use Rattle.hsm.{proofs.Allowed.claims_as, specs.{States.Tells, Seating.hart_view_of_seat}}
 use Rattle.hsm.proofs.starts.claim.Goals as goal
 
 pub fetch_or-requires : goal.fetch_or-requires

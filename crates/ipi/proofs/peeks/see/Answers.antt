@@ -1,7 +1,5 @@
 use Rattle.std.proofs.Common.{ℕ, subst, arith}
-use Rattle.ipi.specs.Ledger.{HasSteps}
-use Rattle.ipi.specs.Seating.{pending_views_in}
-use Rattle.ipi.proofs.Keeps.{sees}
+use Rattle.ipi.{specs.{Ledger.HasSteps, Seating.pending_views_in}, proofs.Keeps.sees}
 use Rattle.ipi.proofs.peeks.see.Goals as goal
 
 pub load-requires : goal.load-requires

@@ -1,5 +1,4 @@
-use Rattle.kernel_check.specs.Asks.{asked_in}
-use Rattle.kernel_check.specs.Says.{SaysAs}
+use Rattle.kernel_check.specs.{Asks.asked_in, Says.SaysAs}
 use Rattle.kernel_check.proofs.checks.followed_few.Given as goal
 
 abbrev pub invariant-loop-switches : goal.invariant-loop-switches

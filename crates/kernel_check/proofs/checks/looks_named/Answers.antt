@@ -1,10 +1,6 @@
-use Rattle.std.proofs.Common.{◌≡◌, ◌∙◌, ◌+◌, [], ◌∷◌, ◌++◌, ap, sym, take, arith}
-use Rattle.std.proofs.lemmas.List.{take_more}
-use Rattle.std.proofs.lemmas.List.Elements.{All-push}
+use Rattle.std.proofs.{Common.{◌≡◌, ◌∙◌, ◌+◌, [], ◌∷◌, ◌++◌, ap, sym, take, arith}, lemmas.List.{take_more, Elements.All-push}}
 use Rattle.board_model.specs.Shapes.{ram_bytes_of}
-use Rattle.kernel_check.specs.Shown.{IsIn}
-use Rattle.kernel_check.specs.declared.given.LookWord.{LookWord}
-use Rattle.kernel_check.proofs.Naming.{one_more}
+use Rattle.kernel_check.{specs.{Shown.IsIn, declared.given.LookWord.LookWord}, proofs.Naming.one_more}
 use Rattle.kernel_check.proofs.checks.looks_named.Goals as goal
 
 pub loop-word-preserved : goal.loop-word-preserved

@@ -1,7 +1,6 @@
 use Rattle.std.proofs.Common.{take}
 use Rattle.board_model.specs.Shapes.{ram_bytes_of}
-use Rattle.kernel_check.specs.Looks.{AreLooksOf}
-use Rattle.kernel_check.specs.Shown.{AreIn}
+use Rattle.kernel_check.specs.{Looks.AreLooksOf, Shown.AreIn}
 use Rattle.kernel_check.proofs.checks.looks_named.Given as goal
 
 abbrev pub invariant-loop-word : goal.invariant-loop-word

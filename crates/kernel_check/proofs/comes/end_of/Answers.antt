@@ -1,6 +1,5 @@
 use Rattle.std.proofs.Common.{◌∙◌, ℕ, ap, subst, sym}
-use Rattle.kernel_check.specs.Shown.{AreIn, looked}
-use Rattle.kernel_check.proofs.Ending.{rests_found}
+use Rattle.kernel_check.{specs.Shown.{AreIn, looked}, proofs.Ending.rests_found}
 use Rattle.kernel_check.proofs.comes.end_of.Goals as goal
 
 pub returns-in_ok-bytes-in-Ok-Some-Rests-clause-ends : goal.returns-in_ok-bytes-in-Ok-Some-Rests-clause-ends

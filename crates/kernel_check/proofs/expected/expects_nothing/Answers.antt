@@ -1,6 +1,4 @@
-use Rattle.std.proofs.Common.{◌≡◌, All, List, None, arith, rules, subst}
-use Rattle.std.proofs.lemmas.List.{take_all}
-use Rattle.std.proofs.lemmas.List.Elements.{All-more}
+use Rattle.std.proofs.{Common.{◌≡◌, All, List, None, arith, rules, subst}, lemmas.List.{take_all, Elements.All-more}}
 use Rattle.kernel_check.specs.declared.looks.Look.{Look}
 use Rattle.kernel_check.proofs.expected.expects_nothing.Goals as goal
 

@@ -1,5 +1,4 @@
-use Rattle.std.proofs.Common.{◌∙◌, ap, codes}
-use Rattle.std.proofs.lemmas.Result.{IfOk-weaker}
+use Rattle.std.proofs.{Common.{◌∙◌, ap, codes}, lemmas.Result.IfOk-weaker}
 use Rattle.clap.specs.Words.{Rule, with_rule}
 use Rattle.command_line.specs.Programs.{named_app}
 use Rattle.kernel_check.specs.Usage.{with_board, with_looks, with_orders, with_bounds, with_writing}

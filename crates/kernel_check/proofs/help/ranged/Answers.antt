@@ -1,7 +1,5 @@
 use Rattle.std.proofs.Common.{◌∙◌, Bool, ap, ap₂, Option}
-use Rattle.clap.specs.Words.{Rule, rule_of}
-use Rattle.clap.specs.declared.builder.arg.Arg.{Arg}
-use Rattle.clap.specs.declared.builder.value_parser.ValueParser.{ValueParser}
+use Rattle.clap.specs.{Words.{Rule, rule_of}, declared.builder.{arg.Arg.Arg, value_parser.ValueParser.ValueParser}}
 use Rattle.command_line.specs.Options.{value_rule}
 use Rattle.kernel_check.proofs.help.ranged.Goals as goal
 

@@ -1,6 +1,5 @@
 use Rattle.std.proofs.Common.{◌∙◌, Bool, [], ◌∷◌, ap, codes}
-use Rattle.clap.specs.Words.{Rule, rule_of}
-use Rattle.clap.specs.declared.builder.arg.Arg.{Arg}
+use Rattle.clap.specs.{Words.{Rule, rule_of}, declared.builder.arg.Arg.Arg}
 use Rattle.kernel_check.proofs.help.reason.Goals as goal
 
 abbrev is_global : Arg → Bool

@@ -1,7 +1,5 @@
 use Rattle.std.proofs.Common.{◌∙◌, Bool, Some, ap}
-use Rattle.clap.specs.Words.{Rule, rule_of}
-use Rattle.clap.specs.declared.builder.action.ArgAction.TheVariants.{Append}
-use Rattle.clap.specs.declared.builder.arg.Arg.{Arg}
+use Rattle.clap.specs.{Words.{Rule, rule_of}, declared.builder.{action.ArgAction.TheVariants.Append, arg.Arg.Arg}}
 use Rattle.kernel_check.proofs.help.several.Goals as goal
 
 abbrev is_global : Arg → Bool

@@ -1,5 +1,4 @@
-use Rattle.std.proofs.Common.{arith}
-use Rattle.std.proofs.lemmas.Grind.{common_steps}
+use Rattle.std.proofs.{Common.arith, lemmas.Grind.common_steps}
 use Rattle.kernel_check.proofs.Looking.{looked_more}
 use Rattle.kernel_check.proofs.looks.bytes_shown.Goals as goal
 

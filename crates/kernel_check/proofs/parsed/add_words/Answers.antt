@@ -1,6 +1,5 @@
 use Rattle.std.proofs.Common.{arith}
-use Rattle.kernel_check.specs.Looks.{IsWordOf}
-use Rattle.kernel_check.proofs.Naming.{forms_on}
+use Rattle.kernel_check.{specs.Looks.IsWordOf, proofs.Naming.forms_on}
 use Rattle.kernel_check.proofs.parsed.add_words.Goals as goal
 
 pub loop-word-preserved : goal.loop-word-preserved

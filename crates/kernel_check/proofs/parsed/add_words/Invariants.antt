@@ -1,7 +1,5 @@
 use Rattle.std.proofs.Common.{◌≡◌, ◌++◌, List, map, take}
-use Rattle.kernel_check.specs.Looks.{IsWordOf}
-use Rattle.kernel_check.specs.Options.{AreForms}
-use Rattle.kernel_check.specs.declared.given.LookWord.{LookWord}
+use Rattle.kernel_check.specs.{Looks.IsWordOf, Options.AreForms, declared.given.LookWord.LookWord}
 use Rattle.kernel_check.proofs.parsed.add_words.Given as goal
 
 abbrev pub invariant-loop-word : goal.invariant-loop-word

@@ -1,12 +1,7 @@
-use Rattle.std.proofs.Common.{◌≡◌, ◌∙◌, ◌+◌, ◌++◌, ℕ, List, ap, arith, subst, sym, take}
-use Rattle.std.proofs.lemmas.Grind.{common_steps}
-use Rattle.std.proofs.lemmas.List.{take-append-drop}
-use Rattle.std.specs.Prelude.{slice_range}
+use Rattle.std.proofs.{Common.{◌≡◌, ◌∙◌, ◌+◌, ◌++◌, ℕ, List, ap, arith, subst, sym, take}, lemmas.Grind.common_steps}
+use Rattle.std.{proofs.lemmas.List.take-append-drop, specs.Prelude.slice_range}
 use Rattle.board_space.specs.Few.{AskedOrders}
-use Rattle.kernel_check.specs.Shown.{looked}
-use Rattle.kernel_check.specs.Tells.{EveryOrder, IsOnWith}
-use Rattle.kernel_check.proofs.Looking.{told_more}
-use Rattle.kernel_check.proofs.Telling.{both_told}
+use Rattle.kernel_check.{specs.{Shown.looked, Tells.{EveryOrder, IsOnWith}}, proofs.{Looking.told_more, Telling.both_told}}
 use Rattle.kernel_check.proofs.told.are_rests.Goals as goal
 
 pub loop-look-preserved : goal.loop-look-preserved

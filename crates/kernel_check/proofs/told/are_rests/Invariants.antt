@@ -1,6 +1,5 @@
 use Rattle.std.proofs.Common.{◌≡◌, ◌++◌, take}
-use Rattle.kernel_check.specs.Shown.{looked}
-use Rattle.kernel_check.specs.Tells.{EveryOrder, IsOnWith}
+use Rattle.kernel_check.specs.{Shown.looked, Tells.{EveryOrder, IsOnWith}}
 use Rattle.kernel_check.proofs.told.are_rests.Given as goal
 
 abbrev pub invariant-loop-look : goal.invariant-loop-look

@@ -1,6 +1,5 @@
 use Rattle.std.proofs.Common.{IfOk, IfSome, subst, sym}
-use Rattle.kernel_check.specs.Looks.{IsWordOf}
-use Rattle.kernel_check.specs.declared.given.LookOption.{LookOption}
+use Rattle.kernel_check.specs.{Looks.IsWordOf, declared.given.LookOption.LookOption}
 use Rattle.kernel_check.proofs.words.word_named.Goals as goal
 
 pub returns-in-Look : goal.returns-in-Look

@@ -1,5 +1,4 @@
-use Rattle.std.proofs.Common.{◌∙◌, ◌≤◌, ◌-◌, length, ap, drop, arith, length-drop}
-use Rattle.std.proofs.lemmas.List.{take_all}
+use Rattle.std.proofs.{Common.{◌∙◌, ◌≤◌, ◌-◌, length, ap, drop, arith, length-drop}, lemmas.List.take_all}
 use Rattle.byteorder.specs.Endian.{little_number}
 use Rattle.layout.specs.Fields.{number_at}
 use Rattle.layout.proofs.fields.u32_at.Goals as goal

@@ -1,6 +1,5 @@
 use Rattle.std.proofs.Common.{◌∙◌, ◌++◌, ℕ, List, sym, ap, append_assoc}
-use Rattle.layout.specs.Fields.{fields_bytes, sector_of}
-use Rattle.layout.specs.Records.{head_fields, image_fields, trial_fields}
+use Rattle.layout.specs.{Fields.{fields_bytes, sector_of}, Records.{head_fields, image_fields, trial_fields}}
 use Rattle.layout.proofs.Spellings.{fields_bytes-append}
 use Rattle.layout.proofs.records.record_bytes.Goals as goal
 

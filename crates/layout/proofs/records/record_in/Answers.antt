@@ -1,8 +1,7 @@
 use Rattle.std.proofs.Common.{◌≡◌, ◌∙◌, ℕ, Some, ap, sym, subst, arith}
-use Rattle.layout.specs.Records.{IsSaved}
+use Rattle.layout.{specs.Records.IsSaved, proofs.records.record_in.Goals.{in-0, in-1+in_ok-saved_in-in-1}}
 use Rattle.layout.proofs.SpelledRecords.{version_in, slot_in, reason_in, presence_in, next_in, image_in, record_is, absent, present, presence_few, never_none, same_some}
 use Rattle.layout.proofs.records.record_in.Goals as goal
-use Rattle.layout.proofs.records.record_in.Goals.{in-0, in-1+in_ok-saved_in-in-1}
 
 pub returns-in_err-version-clause-exact : goal.returns-in_err-version-clause-exact
 returns-in_err-version-clause-exact c r is =

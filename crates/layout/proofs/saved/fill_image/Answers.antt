@@ -1,8 +1,5 @@
 use Rattle.std.proofs.Common.{◌∙◌, ◌++◌, ℕ, List, Option, sym, ap}
-use Rattle.layout.specs.Fields.{fields_bytes}
-use Rattle.layout.specs.Records.{image_fields}
-use Rattle.layout.specs.declared.saved.Saved.{Saved}
-use Rattle.layout.proofs.SpelledRecords.{filled_no_image}
+use Rattle.layout.{specs.{Fields.fields_bytes, Records.image_fields, declared.saved.Saved.Saved}, proofs.SpelledRecords.filled_no_image}
 use Rattle.layout.proofs.saved.fill_image.Goals as goal
 
 pub returns-in-None-clause-value : goal.returns-in-None-clause-value

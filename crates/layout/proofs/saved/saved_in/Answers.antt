@@ -1,8 +1,7 @@
 use Rattle.std.proofs.Common.{◌≡◌, ◌∙◌, ◌<◌, ℕ, zero, suc, List, Some, length, slice_index, true≢false, sym, ap, subst, arith}
 use Rattle.std.proofs.lemmas.List.{ext_get_or}
 use Rattle.board_model.specs.Shapes.{IsValidAddress}
-use Rattle.layout.specs.Records.{AreCounts}
-use Rattle.layout.specs.declared.saved.Saved.{Saved}
+use Rattle.layout.specs.{Records.AreCounts, declared.saved.Saved.Saved}
 use Rattle.layout.proofs.saved.saved_in.Goals.{then-next-serial-via-then-next-serial, then-next-serial-via-else-next-serial+then-not-are_counts}
 use Rattle.layout.proofs.saved.saved_in.Goals as goal
 

@@ -1,6 +1,5 @@
 use Rattle.std.proofs.Common.{◌≡◌, arith}
-use Rattle.layout.specs.Superblocks.{superblock_of}
-use Rattle.layout.proofs.Spellings.{filled_superblock}
+use Rattle.layout.{specs.Superblocks.superblock_of, proofs.Spellings.filled_superblock}
 use Rattle.layout.proofs.superblocks.superblock_bytes.Goals as goal
 
 pub returns : goal.returns

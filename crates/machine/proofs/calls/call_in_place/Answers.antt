@@ -1,13 +1,9 @@
 use Rattle.std.proofs.Common.{◌≡◌, ℕ, refl, sym, ap, ◌∙◌, subst}
 use Rattle.hart.specs.State.{ArchState}
-use Rattle.hsm.specs.Seating.{harts_in}
-use Rattle.hsm.specs.declared.view.Stage.TheVariants.{Running}
-use Rattle.hsm.specs.Rule.{stands}
-use Rattle.hsm.specs.Calls.{Sits}
+use Rattle.hsm.specs.{Seating.harts_in, declared.view.Stage.TheVariants.Running, Rule.stands, Calls.Sits}
 use Rattle.ipi.specs.Pairs.{Sits as SitsIn}
 use Rattle.sbi_calls.specs.Both.{GivesBack, views, pair_crew}
-use Rattle.turns.specs.Turns.{RestsAt}
-use Rattle.turns.proofs.Begun.{sits, runs}
+use Rattle.turns.{specs.Turns.RestsAt, proofs.Begun.{sits, runs}}
 use Rattle.machine.proofs.Calling.{rests_kept, with_harts, made_alone, not_made_alone, as_was, given_then}
 use Rattle.machine.proofs.calls.call_in_place.Goals as goal
 

@@ -1,8 +1,5 @@
-use Rattle.std.proofs.Common.{◌∙◌}
-use Rattle.std.proofs.lemmas.List.{get_or_read}
-use Rattle.std.proofs.lemmas.Result.{err_from_is_err_and}
-use Rattle.machine.proofs.Refused.{is_memory, nothing_made}
-use Rattle.machine.proofs.Rows.{copied_more}
+use Rattle.std.proofs.{Common.{◌∙◌}, lemmas.{List.get_or_read, Result.err_from_is_err_and}}
+use Rattle.machine.proofs.{Refused.{is_memory, nothing_made}, Rows.copied_more}
 use Rattle.machine.proofs.copies.copy_harts.Goals as goal
 
 pub loop-hart-init : goal.loop-hart-init

@@ -1,13 +1,7 @@
-use Rattle.std.proofs.Common.{ℕ, ◌<◌, Option, IfSome, refl, sym, ◌∙◌, subst}
-use Rattle.std.proofs.lemmas.Result.{err_from_is_err_and}
-use Rattle.hsm.specs.declared.view.Stage.TheVariants.{Quiet}
-use Rattle.hsm.specs.Rule.{stands}
-use Rattle.sbi_calls.specs.declared.tables.Seats.{Seats}
-use Rattle.sbi_calls.specs.Both.{views, harts_known}
-use Rattle.hsm.specs.Copies.{stage_by}
-use Rattle.hsm.specs.Views.{state_in}
-use Rattle.machine.proofs.Refused.{is_memory, nothing_made}
-use Rattle.machine.proofs.Copying.{stays_whole, stays_shown, quiet_stands, copy_whole}
+use Rattle.std.proofs.{Common.{ℕ, ◌<◌, Option, IfSome, refl, sym, ◌∙◌, subst}, lemmas.Result.err_from_is_err_and}
+use Rattle.hsm.specs.{declared.view.Stage.TheVariants.Quiet, Rule.stands, Copies.stage_by, Views.state_in}
+use Rattle.sbi_calls.specs.{declared.tables.Seats.Seats, Both.{views, harts_known}}
+use Rattle.machine.proofs.{Refused.{is_memory, nothing_made}, Copying.{stays_whole, stays_shown, quiet_stands, copy_whole}}
 use Rattle.machine.proofs.copies.copy_tables.Goals as goal
 
 pub copy-requires-clause-quiet : goal.copy-requires-clause-quiet

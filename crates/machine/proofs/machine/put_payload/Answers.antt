@@ -1,5 +1,4 @@
-use Rattle.std.proofs.Common.{◌≡◌, ◌∙◌, ◌++◌, ◌-◌, ℕ, List, [], ◌∷◌, ap, length, replicate, arith}
-use Rattle.std.proofs.lemmas.Bool.Decides.{nat_tests}
+use Rattle.std.proofs.{Common.{◌≡◌, ◌∙◌, ◌++◌, ◌-◌, ℕ, List, [], ◌∷◌, ap, length, replicate, arith}, lemmas.Bool.Decides.nat_tests}
 use Rattle.board_model.specs.Shapes.{ram_bytes_of}
 use Rattle.machine.proofs.machine.put_payload.Goals as goal
 

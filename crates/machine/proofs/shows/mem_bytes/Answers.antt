@@ -1,5 +1,4 @@
-use Rattle.std.proofs.Common.{rules, ◌≡◌, ◌∙◌, drop, length, replicate, refl}
-use Rattle.std.proofs.lemmas.List.{drop-replicate}
+use Rattle.std.proofs.{Common.{rules, ◌≡◌, ◌∙◌, drop, length, replicate, refl}, lemmas.List.drop-replicate}
 use Rattle.machine.proofs.shows.mem_bytes.Goals as goal
 
 pub returns : goal.returns

@@ -1,8 +1,6 @@
 use Rattle.std.proofs.Common.{ℕ, List, subst}
-use Rattle.hart.specs.Means.{Steps}
-use Rattle.hart.specs.declared.Outcome.TheVariants.{Next}
-use Rattle.model_board.specs.Masks.{map_of, IsAloneBy}
-use Rattle.model_board.proofs.ByMap.{alone_by}
+use Rattle.hart.specs.{Means.Steps, declared.Outcome.TheVariants.Next}
+use Rattle.model_board.{specs.Masks.{map_of, IsAloneBy}, proofs.ByMap.alone_by}
 use Rattle.model_board.proofs.alone.step_alone.Goals as goal
 
 pub returns-clause-alone : goal.returns-clause-alone

@@ -1,8 +1,7 @@
 use Rattle.std.proofs.Common.{ℕ, IsTrue, refl, subst, inl, inr}
-use Rattle.model_board.specs.Masks.{map_of}
-use Rattle.model_board.proofs.ByMap.{keeps_by}
-use Rattle.model_board.proofs.alone.step_keeps.Goals as goal
+use Rattle.model_board.{specs.Masks.map_of, proofs.ByMap.keeps_by}
 use Rattle.model_board.proofs.alone.step_keeps.Goals.{then-footprint+in_ok-check_call, else-footprint}
+use Rattle.model_board.proofs.alone.step_keeps.Goals as goal
 
 pub returns-clause-keeps : goal.returns-clause-keeps
 returns-clause-keeps c = λ _. keeps_by (map_of c.args.map.now) c.args.hart.now.id c.args.shape.now c.args.pending c.args.hart.now c.args.ram.now c.footprint_of-footprint.result c.footprint_of-footprint.ensures.covers

@@ -1,5 +1,4 @@
-use Rattle.std.proofs.Common.{◌≡◌, ◌<◌, ℕ}
-use Rattle.std.specs.Prelude.{length, get_or}
+use Rattle.std.{proofs.Common.{◌≡◌, ◌<◌, ℕ}, specs.Prelude.{length, get_or}}
 use Rattle.hart.specs.State.{never_started}
 use Rattle.model_board.proofs.plain.stop_all.Given as goal
 

@@ -1,5 +1,4 @@
-use Rattle.std.proofs.Common.{◌∙◌}
-use Rattle.std.proofs.lemmas.Bool.{eqb-true}
+use Rattle.std.proofs.{Common.{◌∙◌}, lemmas.Bool.eqb-true}
 use Rattle.model_board.proofs.Masked.{one_alone}
 use Rattle.model_board.proofs.touches.is_alone.Goals as goal
 

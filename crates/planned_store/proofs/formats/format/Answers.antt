@@ -1,6 +1,5 @@
 use Rattle.std.proofs.Common.{◌∙◌}
-use Rattle.planned_store.proofs.Begins.{format_task}
-use Rattle.planned_store.proofs.FormatEnds.{formats_to}
+use Rattle.planned_store.proofs.{Begins.format_task, FormatEnds.formats_to}
 use Rattle.planned_store.proofs.formats.format.Goals as goal
 
 pub returns-clause-formats : goal.returns-clause-formats

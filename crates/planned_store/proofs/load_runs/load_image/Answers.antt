@@ -1,10 +1,6 @@
-use Rattle.std.proofs.Common.{◌≡◌, ◌∙◌, length, replicate, sym, ap, subst, arith}
-use Rattle.std.proofs.lemmas.Result.{err_from_is_err_and}
+use Rattle.std.proofs.{Common.{◌≡◌, ◌∙◌, length, replicate, sym, ap, subst, arith}, lemmas.Result.err_from_is_err_and}
 use Rattle.board_model.specs.Shapes.{Size, ram_bytes_of}
-use Rattle.planned_store.specs.Loads.{HasPlace}
-use Rattle.planned_store.specs.declared.loads.Loading.{Loading}
-use Rattle.planned_store.specs.declared.loads.LoadStep.TheVariants.{ReadHead}
-use Rattle.planned_store.proofs.LoadSteps.{begins}
+use Rattle.planned_store.{specs.{Loads.HasPlace, declared.loads.{Loading.Loading, LoadStep.TheVariants.ReadHead}}, proofs.LoadSteps.begins}
 use Rattle.planned_store.proofs.LoadEnds.{refused, ended}
 use Rattle.planned_store.proofs.load_runs.load_image.Goals as goal
 

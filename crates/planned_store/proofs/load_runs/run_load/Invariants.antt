@@ -1,7 +1,6 @@
 use Rattle.std.proofs.Common.{◌≡◌, ◌≤◌, length}
 use Rattle.board_model.specs.Shapes.{sectors_of}
-use Rattle.planned_store.specs.Loads.{HasPlace, loads_left}
-use Rattle.planned_store.specs.LoadReached.{LoadReached}
+use Rattle.planned_store.specs.{Loads.{HasPlace, loads_left}, LoadReached.LoadReached}
 use Rattle.planned_store.proofs.load_runs.run_load.Given as goal
 
 abbrev pub invariant-loop : goal.invariant-loop

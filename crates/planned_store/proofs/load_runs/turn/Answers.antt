@@ -1,9 +1,6 @@
 use Rattle.std.proofs.Common.{◌≡◌, ◌∙◌, rules, subst}
-use Rattle.planned_store.specs.LoadServed.{IsLoadServed}
-use Rattle.planned_store.specs.declared.requests.ImageRequest.{ImageRequest}
-use Rattle.planned_store.specs.declared.requests.ImageRequest.TheVariants.{Done}
-use Rattle.planned_store.proofs.LoadBounds.{goes_fewer}
-use Rattle.planned_store.proofs.LoadSteps.{goes_on}
+use Rattle.planned_store.specs.{LoadServed.IsLoadServed, declared.requests.ImageRequest.{ImageRequest, TheVariants.Done}}
+use Rattle.planned_store.proofs.{LoadBounds.goes_fewer, LoadSteps.goes_on}
 use Rattle.planned_store.proofs.load_runs.turn.Goals as goal
 
 pub returns-clause-goes : goal.returns-clause-goes

@@ -1,13 +1,7 @@
-use Rattle.std.proofs.Common.{◌≡◌, ◌∙◌, Result, Ok, Err}
-use Rattle.std.specs.Prelude.{IfOk}
+use Rattle.std.{proofs.Common.{◌≡◌, ◌∙◌, Result, Ok, Err}, specs.Prelude.IfOk}
 use Rattle.board_model.specs.declared.refusal.Refusal.{Refusal}
-use Rattle.planned_store.specs.Opens.{opened_by, OpensTo}
-use Rattle.planned_store.specs.Stores.{begun, Holds}
-use Rattle.planned_store.specs.declared.stores.OpenStore.{OpenStore}
-use Rattle.planned_store.proofs.opens.open.Given.{Over}
-use Rattle.planned_store.proofs.opens.open.Goals.{After-opened}
-use Rattle.planned_store.proofs.Begins.{open_task}
-use Rattle.planned_store.proofs.Opening.{opens_to}
+use Rattle.planned_store.specs.{Opens.{opened_by, OpensTo}, Stores.{begun, Holds}, declared.stores.OpenStore.OpenStore}
+use Rattle.planned_store.proofs.{opens.open.{Given.Over, Goals.After-opened}, Begins.open_task, Opening.opens_to}
 use Rattle.planned_store.proofs.opens.open.Goals as goal
 
 opens_so : (g : Over) (c : After-opened g) → OpensTo g.D.Disk.facts g.D.Disk.fault_state c.args.disk.now (opened_by c.run.new.plan) c.run.new.disk

@@ -1,7 +1,6 @@
 use Rattle.std.proofs.Common.{◌≡◌, ◌∙◌, ℕ, ◌+◌, ◌*◌, ◌^◌, ◌<◌, ◌≤◌, sym, ap, subst, arith}
 use Rattle.board_model.specs.Shapes.{Size, places_of, area_sectors_of}
-use Rattle.image.proofs.Lanes.{lane_there}
-use Rattle.image.proofs.Lists.{place_at}
+use Rattle.image.proofs.{Lanes.lane_there, Lists.place_at}
 use Rattle.planned_store.proofs.Counting.{located, located_within, few_sectors}
 use Rattle.planned_store.proofs.places.place_of.Goals as goal
 

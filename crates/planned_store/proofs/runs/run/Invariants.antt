@@ -1,6 +1,5 @@
 use Rattle.std.proofs.Common.{◌≡◌}
-use Rattle.planned_store.specs.Plans.{calls_left, task_of}
-use Rattle.planned_store.specs.Reached.{Reached}
+use Rattle.planned_store.specs.{Plans.{calls_left, task_of}, Reached.Reached}
 use Rattle.planned_store.proofs.runs.run.Given as goal
 
 abbrev pub invariant-loop-sector : goal.invariant-loop-sector

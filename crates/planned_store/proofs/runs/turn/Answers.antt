@@ -1,9 +1,6 @@
 use Rattle.std.proofs.Common.{◌≡◌, ◌∙◌, rules, subst}
-use Rattle.planned_store.specs.Served.{IsServed}
-use Rattle.planned_store.specs.declared.plans.Request.{Request}
-use Rattle.planned_store.specs.declared.plans.Request.TheVariants.{Done}
+use Rattle.planned_store.{specs.{Served.IsServed, declared.plans.Request.{Request, TheVariants.Done}}, proofs.Steps.goes_on}
 use Rattle.planned_store.proofs.Bounds.{goes_fewer, goes_task}
-use Rattle.planned_store.proofs.Steps.{goes_on}
 use Rattle.planned_store.proofs.runs.turn.Goals as goal
 
 pub returns-clause-goes : goal.returns-clause-goes

@@ -1,7 +1,6 @@
 use Rattle.std.proofs.Common.{◌≡◌, ◌≤◌, length}
 use Rattle.board_model.specs.Shapes.{sectors_of}
-use Rattle.planned_store.specs.Saves.{HasPage, saves_left}
-use Rattle.planned_store.specs.SaveReached.{SaveReached}
+use Rattle.planned_store.specs.{Saves.{HasPage, saves_left}, SaveReached.SaveReached}
 use Rattle.planned_store.proofs.save_runs.run_saving.Given as goal
 
 abbrev pub invariant-loop : goal.invariant-loop

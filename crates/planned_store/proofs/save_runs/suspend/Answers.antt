@@ -1,21 +1,11 @@
-use Rattle.std.proofs.Common.{◌≡◌, ◌∙◌, ◌^◌, ◌<◌, true, Some, None, refl, sym, ap, subst, arith, rules}
-use Rattle.std.proofs.lemmas.Result.{err_from_is_err_and}
+use Rattle.std.proofs.{Common.{◌≡◌, ◌∙◌, ◌^◌, ◌<◌, true, Some, None, refl, sym, ap, subst, arith, rules}, lemmas.Result.err_from_is_err_and}
 use Rattle.board_model.specs.Shapes.{ram_bytes_of}
 use Rattle.store.specs.Follows.{durable_after, suspended}
-use Rattle.planned_store.specs.Plans.{Commits, task_of}
-use Rattle.planned_store.specs.Reached.{Reached}
-use Rattle.planned_store.specs.Stores.{receipt_of, store_after}
-use Rattle.planned_store.specs.declared.commits.Commit.{Commit}
-use Rattle.planned_store.specs.declared.commits.Selected.{Selected}
-use Rattle.planned_store.specs.declared.plans.Plan.TheVariants.{Committing}
-use Rattle.planned_store.proofs.Applying.{answered_by}
-use Rattle.planned_store.specs.Saves.{free_side, counts_of, saved_record, commit_of}
-use Rattle.planned_store.specs.Suspends.{suspension}
-use Rattle.planned_store.specs.declared.saves.Saving.{Saving}
-use Rattle.planned_store.proofs.SaveSteps.{begins}
+use Rattle.planned_store.specs.{Plans.{Commits, task_of}, Reached.Reached, Stores.{receipt_of, store_after}, declared.commits.Commit.Commit}
+use Rattle.planned_store.{specs.declared.{commits.Selected.Selected, plans.Plan.TheVariants.Committing}, proofs.Applying.answered_by}
+use Rattle.planned_store.specs.{Saves.{free_side, counts_of, saved_record, commit_of}, Suspends.suspension, declared.saves.Saving.Saving}
+use Rattle.planned_store.proofs.{SaveSteps.begins, save_runs.suspend.{Given.Over, Goals.After-run_saving}}
 use Rattle.planned_store.proofs.SaveEnds.{refused, not_written, next_is, makes, holds_then, allowed, range, begins_commit, suspends, failed, saved_so, receipt_few}
-use Rattle.planned_store.proofs.save_runs.suspend.Given.{Over}
-use Rattle.planned_store.proofs.save_runs.suspend.Goals.{After-run_saving}
 use Rattle.planned_store.proofs.save_runs.suspend.Goals as goal
 
 pub returns-in_err-saving : goal.returns-in_err-saving

@@ -1,9 +1,6 @@
 use Rattle.std.proofs.Common.{◌≡◌, ◌∙◌, rules, subst}
-use Rattle.planned_store.specs.SaveServed.{IsSaveServed}
-use Rattle.planned_store.specs.declared.requests.ImageRequest.{ImageRequest}
-use Rattle.planned_store.specs.declared.requests.ImageRequest.TheVariants.{Done}
-use Rattle.planned_store.proofs.SaveBounds.{goes_fewer}
-use Rattle.planned_store.proofs.SaveSteps.{goes_on}
+use Rattle.planned_store.specs.{SaveServed.IsSaveServed, declared.requests.ImageRequest.{ImageRequest, TheVariants.Done}}
+use Rattle.planned_store.proofs.{SaveBounds.goes_fewer, SaveSteps.goes_on}
 use Rattle.planned_store.proofs.save_runs.turn.Goals as goal
 
 pub returns-clause-goes : goal.returns-clause-goes

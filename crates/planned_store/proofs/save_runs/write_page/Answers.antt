@@ -1,6 +1,5 @@
 use Rattle.std.proofs.Common.{ℕ, subst}
-use Rattle.disk.specs.Calls.{MakesCalls}
-use Rattle.disk.specs.Facts.{Torn}
+use Rattle.disk.specs.{Calls.MakesCalls, Facts.Torn}
 use Rattle.planned_store.proofs.Chunks.{eight_chunks, page_written}
 use Rattle.planned_store.proofs.save_runs.write_page.Goals as goal
 

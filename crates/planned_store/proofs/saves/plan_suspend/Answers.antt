@@ -1,6 +1,5 @@
 use Rattle.std.proofs.Common.{ℕ, ap, arith}
-use Rattle.planned_store.specs.declared.saves.Saving.{Saving}
-use Rattle.planned_store.specs.declared.saves.SaveStep.TheVariants.{WriteHead}
+use Rattle.planned_store.specs.declared.saves.{Saving.Saving, SaveStep.TheVariants.WriteHead}
 use Rattle.planned_store.proofs.saves.plan_suspend.Goals as goal
 
 pub returns-clause-ok : goal.returns-clause-ok

@@ -1,11 +1,7 @@
-use Rattle.std.proofs.Common.{◌∙◌, [], ap}
-use Rattle.std.proofs.lemmas.Result.{err_from_is_err_and}
+use Rattle.std.proofs.{Common.{◌∙◌, [], ap}, lemmas.Result.err_from_is_err_and}
 use Rattle.board_model.specs.Views.{change_of}
-use Rattle.planned_store.specs.Plans.{task_of}
-use Rattle.planned_store.specs.Stores.{Asked, receipt_of, store_after}
-use Rattle.planned_store.proofs.stores.apply.Given.{Over}
-use Rattle.planned_store.proofs.stores.apply.Goals.{After-ended}
-use Rattle.planned_store.proofs.Applying.{refused, answered_by}
+use Rattle.planned_store.{specs.{Plans.task_of, Stores.{Asked, receipt_of, store_after}}, proofs.stores.apply.Given.Over}
+use Rattle.planned_store.proofs.{stores.apply.Goals.After-ended, Applying.{refused, answered_by}}
 use Rattle.planned_store.proofs.stores.apply.Goals as goal
 
 pub returns-in_err-plan-clause-asked : goal.returns-in_err-plan-clause-asked

@@ -1,7 +1,6 @@
 use Rattle.std.proofs.Common.{◌≡◌, rules, sym, subst}
 use Rattle.board_model.specs.declared.refusal.Refusal.TheVariants.{Memory}
-use Rattle.store.specs.Leaves.{IsSettled}
-use Rattle.store.specs.Views.{disk_of, view_of}
+use Rattle.store.specs.{Leaves.IsSettled, Views.{disk_of, view_of}}
 use Rattle.report_lines.proofs.Recalling.{not_opened, no_room, read_later}
 use Rattle.report_lines.proofs.memory.image_memory.Goals as goal
 

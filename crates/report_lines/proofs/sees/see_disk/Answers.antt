@@ -1,7 +1,6 @@
 use Rattle.std.proofs.Common.{rules}
-use Rattle.report_lines.specs.Sights.{SeeRefused}
+use Rattle.report_lines.{specs.Sights.SeeRefused, proofs.Seeing.refused_later}
 use Rattle.store.proofs.Renewing.{read_settled, settled_after}
-use Rattle.report_lines.proofs.Seeing.{refused_later}
 use Rattle.report_lines.proofs.sees.see_disk.Goals as goal
 
 pub returns-in-Ok-found-clause-settles : goal.returns-in-Ok-found-clause-settles

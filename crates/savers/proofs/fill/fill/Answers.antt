@@ -1,6 +1,5 @@
 use Rattle.std.proofs.Common.{◌∙◌, ◌≡◌, ◌++◌, ◌∷◌, [], ℕ, ap, subst, refl, arith}
-use Rattle.savers.specs.declared.view.TicketView.{TicketView}
-use Rattle.savers.specs.Saved.{PageStands}
+use Rattle.savers.specs.{declared.view.TicketView.TicketView, Saved.PageStands}
 use Rattle.savers.proofs.Filling.{one_more, one_fewer, share_kept, calls_more, calls_made, none_done, counts_failed, calls_failed, filled_more, ends_past, ends_full}
 use Rattle.savers.proofs.fill.fill.Goals as goal
 

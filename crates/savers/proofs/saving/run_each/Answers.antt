@@ -1,8 +1,5 @@
 use Rattle.std.proofs.Common.{ℕ, ◌<◌, length, get_or, arith}
-use Rattle.savers.specs.Jobs.{JobDone}
-use Rattle.savers.specs.declared.saver.Saver.{Saver}
-use Rattle.savers.proofs.HandedOn.{at_both}
-use Rattle.savers.proofs.saving.run_each.Given.{Over}
+use Rattle.savers.{specs.{Jobs.JobDone, declared.saver.Saver.Saver}, proofs.{HandedOn.at_both, saving.run_each.Given.Over}}
 use Rattle.savers.proofs.saving.run_each.Goals.{After-each}
 use Rattle.savers.proofs.saving.run_each.Goals as goal
 

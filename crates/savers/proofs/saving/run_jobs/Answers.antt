@@ -1,8 +1,6 @@
-use Rattle.std.proofs.Common.{◌≡◌, ◌≤◌, List, length, sym, subst}
-use Rattle.std.specs.Prelude.{All}
+use Rattle.std.{proofs.Common.{◌≡◌, ◌≤◌, List, length, sym, subst}, specs.Prelude.All}
 use Rattle.layout.specs.Sizes.{lane_sectors}
-use Rattle.savers.specs.Jobs.{IsReady, IsSeated, JobDone, lane_of}
-use Rattle.savers.specs.declared.saver.Saver.{Saver}
+use Rattle.savers.specs.{Jobs.{IsReady, IsSeated, JobDone, lane_of}, declared.saver.Saver.Saver}
 use Rattle.savers.proofs.HandedOn.{put_back, put_back_length, put_back_each}
 use Rattle.savers.proofs.saving.run_jobs.Goals as goal
 

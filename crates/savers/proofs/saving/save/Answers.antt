@@ -1,7 +1,6 @@
 use Rattle.std.proofs.Common.{List, map, ap, arith}
 use Rattle.disk.specs.Facts.{lane_failures}
-use Rattle.savers.proofs.HandedOn.{some_left, none_left}
-use Rattle.savers.proofs.Jobs.{stay_put}
+use Rattle.savers.proofs.{HandedOn.{some_left, none_left}, Jobs.stay_put}
 use Rattle.savers.proofs.saving.save.Goals as goal
 
 pub returns-in_default-clause-places : goal.returns-in_default-clause-places

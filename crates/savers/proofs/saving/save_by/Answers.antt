@@ -1,17 +1,9 @@
-use Rattle.std.proofs.Common.{◌≡◌, ◌∙◌, ◌<◌, ℕ, length, map, slice_index, sym, ap, subst, arith, List}
-use Rattle.std.proofs.lemmas.List.{length-map}
+use Rattle.std.proofs.{Common.{◌≡◌, ◌∙◌, ◌<◌, ℕ, length, map, slice_index, sym, ap, subst, arith, List}, lemmas.List.length-map}
 use Rattle.disk.specs.Facts.{LaneFacts, lane_at, lane_failures}
 use Rattle.layout.specs.Sizes.{lane_sectors}
-use Rattle.savers.specs.Saved.{SamePlaces}
-use Rattle.savers.specs.Pages.{DrawnPages}
-use Rattle.savers.specs.Calls.{IsFilledBy}
-use Rattle.savers.specs.Jobs.{lane_of}
-use Rattle.savers.proofs.Calls.{all_filled}
-use Rattle.savers.proofs.EachOnce.{lanes_hold}
-use Rattle.savers.proofs.Jobs.{all_of_lanes, same_places, drawn_by_all, filled_by_all, failures_at}
-use Rattle.savers.specs.Ended.{numbers_of}
-use Rattle.savers.proofs.saving.save_by.Given.{Over}
-use Rattle.savers.proofs.saving.save_by.Goals.{After-end-drawn}
+use Rattle.savers.{specs.{Saved.SamePlaces, Pages.DrawnPages, Calls.IsFilledBy, Jobs.lane_of, Ended.numbers_of}, proofs.Calls.all_filled}
+use Rattle.savers.proofs.{EachOnce.lanes_hold, Jobs.{all_of_lanes, same_places, drawn_by_all, filled_by_all, failures_at}}
+use Rattle.savers.proofs.saving.save_by.{Given.Over, Goals.After-end-drawn}
 use Rattle.savers.proofs.saving.save_by.Goals as goal
 
 pub hand_out-requires-clause-few : goal.hand_out-requires-clause-few

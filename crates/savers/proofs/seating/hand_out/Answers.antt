@@ -1,7 +1,5 @@
 use Rattle.std.proofs.Common.{◌∙◌, length, ap, refl, arith}
-use Rattle.savers.specs.Jobs.{IsReady, lane_of}
-use Rattle.savers.specs.declared.saver.Saver.{Saver}
-use Rattle.savers.specs.declared.view.TicketView.{TicketView}
+use Rattle.savers.specs.{Jobs.{IsReady, lane_of}, declared.{saver.Saver.Saver, view.TicketView.TicketView}}
 use Rattle.savers.proofs.HandedOn.{some_left, first_and_rest, one_less, pushed_one, all_pushed, facts_moved}
 use Rattle.savers.proofs.seating.hand_out.Goals as goal
 

@@ -1,8 +1,5 @@
-use Rattle.std.proofs.Common.{◌≡◌, ◌≤◌, ◌+◌, ◌*◌, ◌++◌, [], length, map, vec_capacity}
-use Rattle.std.specs.Prelude.{All}
-use Rattle.savers.specs.Jobs.{IsReady, lane_of}
-use Rattle.savers.specs.Draws.{all_draws, draws_each}
-use Rattle.savers.specs.Seats.{IsSeatOf, ticket_view_of}
+use Rattle.std.{proofs.Common.{◌≡◌, ◌≤◌, ◌+◌, ◌*◌, ◌++◌, [], length, map, vec_capacity}, specs.Prelude.All}
+use Rattle.savers.specs.{Jobs.{IsReady, lane_of}, Draws.{all_draws, draws_each}, Seats.{IsSeatOf, ticket_view_of}}
 use Rattle.savers.proofs.seating.hand_out.Given as goal
 
 abbrev pub invariant-loop-lanes : goal.invariant-loop-lanes

@@ -1,8 +1,6 @@
 use Rattle.std.proofs.Common.{◌≡◌, ◌<◌, ◌≤◌, ◌+◌, ◌*◌, ◌++◌, ℕ, length, map, flat_map, vec_capacity, slice_index, slice_index_or}
 use Rattle.std.specs.Prelude.{All}
-use Rattle.savers.specs.Jobs.{IsSeated, drawn_by, lane_of}
-use Rattle.savers.specs.Draws.{share_of, all_draws, draws_each}
-use Rattle.savers.specs.Seats.{IsSeatOf, ticket_view_of}
+use Rattle.savers.specs.{Jobs.{IsSeated, drawn_by, lane_of}, Draws.{share_of, all_draws, draws_each}, Seats.{IsSeatOf, ticket_view_of}}
 use Rattle.savers.proofs.seating.take_back.Given as goal
 
 abbrev pub invariant-loop-savers : goal.invariant-loop-savers

@@ -2,12 +2,8 @@ use Rattle.std.proofs.Common.{◌≡◌, ℕ, ap, sym, ◌∙◌, subst}
 use Rattle.board_model.specs.Shapes.{Size}
 use Rattle.hart.specs.State.{ArchState}
 use Rattle.sbi_abi.specs.Calls.{call_of}
-use Rattle.sbi_calls.specs.declared.tables.Seats.{Seats}
-use Rattle.sbi_calls.specs.declared.endings.Ending.{Ending}
-use Rattle.sbi_calls.specs.declared.words.Turned.{Turned}
-use Rattle.sbi_calls.specs.Both.{IsTable}
-use Rattle.sbi_calls.specs.Requests.{Checked, request_of}
-use Rattle.sbi_calls.specs.Answers.{CallRow, row, answer, Ends, DoesAlone, CallsAlone}
+use Rattle.sbi_calls.specs.{declared.{tables.Seats.Seats, endings.Ending.Ending, words.Turned.Turned}, Both.IsTable}
+use Rattle.sbi_calls.specs.{Requests.{Checked, request_of}, Answers.{CallRow, row, answer, Ends, DoesAlone, CallsAlone}}
 use Rattle.sbi_calls.proofs.dispatches.dispatch.Goals as goal
 
 -- with the numbers by other names

@@ -1,8 +1,6 @@
 use Rattle.std.proofs.Common.{◌<◌, ℕ, List, Bool, refl, sym, subst}
-use Rattle.ipi.specs.Seating.{pending_view_of_seat, pending_views_in}
-use Rattle.ipi.specs.Views.{ArePairs}
-use Rattle.sbi_calls.specs.Answers.{pairs_sent}
-use Rattle.sbi_calls.specs.Steps.{Sends}
+use Rattle.ipi.specs.{Seating.{pending_view_of_seat, pending_views_in}, Views.ArePairs}
+use Rattle.sbi_calls.specs.{Answers.pairs_sent, Steps.Sends}
 use Rattle.sbi_calls.proofs.sends.send.Goals as goal
 
 pub send_all-pending-requires-clause-by : goal.send_all-pending-requires-clause-by

@@ -1,7 +1,6 @@
 use Rattle.std.proofs.Common.{◌≡◌, ℕ, subst, arith}
 use Rattle.ipi.specs.Seating.{harts_of, pending_view_of_seat, pending_views_in}
-use Rattle.sbi_calls.specs.Steps.{Sends}
-use Rattle.sbi_calls.proofs.Raised.{sent_next, sends_next, sent_last, same_then}
+use Rattle.sbi_calls.{specs.Steps.Sends, proofs.Raised.{sent_next, sends_next, sent_last, same_then}}
 use Rattle.sbi_calls.proofs.sends.send_all.Goals as goal
 
 pub loop-number-preserved : goal.loop-number-preserved

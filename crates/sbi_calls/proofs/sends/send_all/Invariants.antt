@@ -1,7 +1,5 @@
-use Rattle.ipi.specs.Seating.{IsSeatOf, harts_of, pending_view_of_seat, pending_views_in}
-use Rattle.ipi.specs.Pairs.{SameHarts}
-use Rattle.sbi_calls.specs.Steps.{Sends}
-use Rattle.sbi_calls.proofs.Raised.{Sent}
+use Rattle.ipi.specs.{Seating.{IsSeatOf, harts_of, pending_view_of_seat, pending_views_in}, Pairs.SameHarts}
+use Rattle.sbi_calls.{specs.Steps.Sends, proofs.Raised.Sent}
 use Rattle.sbi_calls.proofs.sends.send_all.Given as goal
 
 abbrev pub invariant-loop-number : goal.invariant-loop-number

@@ -1,5 +1,4 @@
-use Rattle.std.proofs.Common.{◌∙◌, refl, sym, true≢false, eq-eqb}
-use Rattle.std.specs.Int.{bit_at}
+use Rattle.std.{proofs.Common.{◌∙◌, refl, sym, true≢false, eq-eqb}, specs.Int.bit_at}
 use Rattle.ipi.specs.Views.{pair_at}
 use Rattle.sbi_calls.proofs.sends.send_one.Goals as goal
 

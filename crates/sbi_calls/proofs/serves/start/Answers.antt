@@ -1,8 +1,6 @@
 use Rattle.std.proofs.Common.{Bool, ap, sym, ◌∙◌}
-use Rattle.hsm.specs.States.{grant}
-use Rattle.hsm.specs.Views.{listed}
-use Rattle.sbi_calls.specs.declared.endings.Ending.TheVariants.{Answers}
-use Rattle.sbi_calls.specs.Answers.{start_answer}
+use Rattle.hsm.specs.{States.grant, Views.listed}
+use Rattle.sbi_calls.specs.{declared.endings.Ending.TheVariants.Answers, Answers.start_answer}
 use Rattle.sbi_calls.proofs.serves.start.Goals as goal
 
 pub returns-then-granted-clause-alone : goal.returns-then-granted-clause-alone

@@ -1,8 +1,6 @@
 use Rattle.std.proofs.Common.{ℕ, Ok, ap, refl, ◌∙◌}
-use Rattle.hsm.specs.Calls.{code_of}
-use Rattle.hsm.specs.Views.{listed}
-use Rattle.sbi_calls.specs.declared.endings.Ending.{Ending}
-use Rattle.sbi_calls.specs.declared.endings.Ending.TheVariants.{Answers}
+use Rattle.hsm.specs.{Calls.code_of, Views.listed}
+use Rattle.sbi_calls.specs.declared.endings.Ending.{Ending, TheVariants.Answers}
 use Rattle.sbi_calls.proofs.serves.status.Goals as goal
 
 abbrev answers : ℕ → Ending

@@ -1,6 +1,5 @@
 use Rattle.std.proofs.Common.{refl}
-use Rattle.hsm.specs.States.{HartState, suspended}
-use Rattle.hsm.specs.Views.{listed}
+use Rattle.hsm.specs.{States.{HartState, suspended}, Views.listed}
 use Rattle.sbi_calls.proofs.serves.suspend.Goals as goal
 
 pub returns-clause-does : goal.returns-clause-does

@@ -1,10 +1,6 @@
-use Rattle.std.proofs.Common.{subst, sym}
-use Rattle.std.specs.Prelude.{IfOk}
-use Rattle.std.proofs.lemmas.Result.{IfOk-weaker}
+use Rattle.std.{proofs.{Common.{subst, sym}, lemmas.Result.IfOk-weaker}, specs.Prelude.IfOk}
 use Rattle.script_lang.specs.Views.{view}
-use Rattle.sbigdb.specs.declared.given.Begin.{Begin}
-use Rattle.sbigdb.specs.Begins.{BeginsAt}
-use Rattle.sbigdb.proofs.Founds.{begins_cut, begins_end, begins_failure}
+use Rattle.sbigdb.{specs.{declared.given.Begin.Begin, Begins.BeginsAt}, proofs.Founds.{begins_cut, begins_end, begins_failure}}
 use Rattle.sbigdb.proofs.begins.begun.Goals as goal
 
 pub returns-in-End-clause-begins : goal.returns-in-End-clause-begins

@@ -1,5 +1,4 @@
-use Rattle.std.proofs.Common.{◌++◌, ◌∙◌, ℕ, List, ap, ap₂, drop, take}
-use Rattle.std.proofs.lemmas.Result.{IfOk-weaker}
+use Rattle.std.proofs.{Common.{◌++◌, ◌∙◌, ℕ, List, ap, ap₂, drop, take}, lemmas.Result.IfOk-weaker}
 use Rattle.script_lang.specs.declared.line.Line.{Line}
 use Rattle.sbigdb.proofs.Partings.{both_rest, parts_there, stands_ranged}
 use Rattle.sbigdb.proofs.begins.lines_to.Goals as goal

@@ -1,12 +1,9 @@
-use Rattle.std.proofs.Common.{◌∙◌, ap, ◌++◌, ◌∷◌, [], List, ℕ, inl}
-use Rattle.std.proofs.lemmas.Result.{IfErr-weaker, IfOk-weaker, err_from_is_err_and}
-use Rattle.script_lang.specs.Scripts.{Script}
-use Rattle.script_lang.specs.Spellings.{script_text}
-use Rattle.script_lang.specs.Views.{view}
+use Rattle.std.proofs.{Common.{◌∙◌, ap, ◌++◌, ◌∷◌, [], List, ℕ, inl}, lemmas.Result.{IfErr-weaker, IfOk-weaker, err_from_is_err_and}}
+use Rattle.std.proofs.Common.{drop, take}
+use Rattle.script_lang.specs.{Scripts.Script, Spellings.script_text, Views.view}
 use Rattle.bench_sweep.specs.Shown.{arming, row_lines}
 use Rattle.sbigdb.proofs.Founds.{row_refused, row_shown, row_text}
 use Rattle.sbigdb.proofs.begins.row_found.Goals as goal
-use Rattle.std.proofs.Common.{drop, take}
 
 pub returns-in_err-show_row-clause-refused : goal.returns-in_err-show_row-clause-refused
 returns-in_err-show_row-clause-refused g c =

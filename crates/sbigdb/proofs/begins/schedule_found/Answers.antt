@@ -1,7 +1,5 @@
-use Rattle.std.proofs.Common.{◌∙◌, ap, List, ◌++◌, ◌∷◌, [], ℕ, inl, subst, sym}
-use Rattle.std.proofs.lemmas.Result.{IfErr-weaker, IfOk-weaker}
-use Rattle.script_lang.specs.Scripts.{Script}
-use Rattle.script_lang.specs.Spellings.{script_text}
+use Rattle.std.proofs.{Common.{◌∙◌, ap, List, ◌++◌, ◌∷◌, [], ℕ, inl, subst, sym}, lemmas.Result.{IfErr-weaker, IfOk-weaker}}
+use Rattle.script_lang.specs.{Scripts.Script, Spellings.script_text}
 use Rattle.bench_schedules.specs.Orders.{IsScheduleOf}
 use Rattle.sbigdb.proofs.begins.schedule_found.Goals as goal
 

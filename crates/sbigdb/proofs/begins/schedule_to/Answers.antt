@@ -1,9 +1,7 @@
 use Rattle.std.proofs.Common.{Ok, subst}
-use Rattle.script_lang.specs.Scripts.{Script}
-use Rattle.script_lang.specs.Views.{view}
+use Rattle.script_lang.specs.{Scripts.Script, Views.view}
 use Rattle.bench_schedules.specs.Orders.{IsScheduleOf}
-use Rattle.sbigdb.proofs.Partings.{same_script}
-use Rattle.sbigdb.proofs.Founds.{begins_schedule}
+use Rattle.sbigdb.proofs.{Partings.same_script, Founds.begins_schedule}
 use Rattle.sbigdb.proofs.begins.schedule_to.Goals as goal
 
 pub script_to-requires-clause-order : goal.script_to-requires-clause-order

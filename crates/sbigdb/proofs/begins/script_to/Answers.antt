@@ -1,8 +1,6 @@
-use Rattle.std.proofs.Common.{List, subst, sym}
-use Rattle.std.specs.Prelude.{All}
+use Rattle.std.{proofs.Common.{List, subst, sym}, specs.Prelude.All}
 use Rattle.board_model.specs.Shapes.{Size}
-use Rattle.script_lang.specs.Lines.{IsLineInRange}
-use Rattle.script_lang.specs.declared.line.Line.{Line}
+use Rattle.script_lang.specs.{Lines.IsLineInRange, declared.line.Line.Line}
 use Rattle.bench_schedules.specs.Orders.{AreOrderOf}
 use Rattle.sbigdb.specs.Begins.{PartsAt}
 use Rattle.sbigdb.proofs.begins.script_to.Goals as goal

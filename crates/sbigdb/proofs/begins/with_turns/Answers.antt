@@ -1,8 +1,5 @@
-use Rattle.std.proofs.Common.{◌++◌, ◌∙◌, ap, sym}
-use Rattle.std.proofs.lemmas.List.{append-nil}
-use Rattle.std.specs.Option.{option_to_list}
+use Rattle.std.{proofs.{Common.{◌++◌, ◌∙◌, ap, sym, List, Option}, lemmas.List.append-nil}, specs.Option.option_to_list}
 use Rattle.script_lang.specs.declared.line.Line.{Line}
-use Rattle.std.proofs.Common.{List, Option}
 use Rattle.sbigdb.proofs.begins.with_turns.Goals as goal
 
 pub returns-in-None : goal.returns-in-None

@@ -1,5 +1,4 @@
-use Rattle.std.proofs.Common.{◌∙◌, ap, ap₂, codes}
-use Rattle.std.proofs.lemmas.Result.{IfOk-weaker}
+use Rattle.std.proofs.{Common.{◌∙◌, ap, ap₂, codes}, lemmas.Result.IfOk-weaker}
 use Rattle.clap.specs.Words.{App, with_rule}
 use Rattle.command_line.specs.Options.{number_rule, with_payloads, with_rules}
 use Rattle.sbigdb.specs.Usage.{with_begins}

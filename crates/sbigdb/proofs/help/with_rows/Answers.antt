@@ -1,5 +1,4 @@
-use Rattle.std.proofs.Common.{◌∙◌, ap₂}
-use Rattle.std.proofs.lemmas.Result.{IfOk-weaker}
+use Rattle.std.proofs.{Common.{◌∙◌, ap₂}, lemmas.Result.IfOk-weaker}
 use Rattle.clap.specs.Words.{app_of, with_rule}
 use Rattle.command_line.specs.Options.{with_rules}
 use Rattle.sbigdb.proofs.help.with_rows.Goals as goal

@@ -1,10 +1,6 @@
-use Rattle.std.proofs.Common.{[], ◌∷◌, ◌++◌, ◌∙◌, ℕ, List, Option, of_calls, ap, refl, sym, subst}
-use Rattle.std.specs.Io.KnownBytes.{Consumes}
-use Rattle.std.specs.Io.Iter.{bytes_remaining}
-use Rattle.std.proofs.KnownBytes.{Consumes-nil, Consumes-trans}
-use Rattle.std.proofs.lemmas.Fn.{FoldsTo-push}
-use Rattle.sbigdb.specs.Hearings.{newly}
-use Rattle.sbigdb.proofs.Hearings.{hears_more}
+use Rattle.std.{proofs.Common.{[], ◌∷◌, ◌++◌, ◌∙◌, ℕ, List, Option, of_calls, ap, refl, sym, subst}, specs.Io.KnownBytes.Consumes}
+use Rattle.std.{specs.Io.Iter.bytes_remaining, proofs.{KnownBytes.{Consumes-nil, Consumes-trans}, lemmas.Fn.FoldsTo-push}}
+use Rattle.sbigdb.{specs.Hearings.newly, proofs.Hearings.hears_more}
 use Rattle.sbigdb.proofs.listening.listen.Goals as goal
 
 pub loop-byte-init : goal.loop-byte-init

@@ -1,9 +1,7 @@
-use Rattle.std.proofs.Common.{subst, sym}
-use Rattle.std.specs.Prelude.{IfSome}
+use Rattle.std.{proofs.Common.{subst, sym}, specs.Prelude.IfSome}
 use Rattle.board_model.specs.Shapes.{Size}
 use Rattle.script_lang.specs.Lines.{IsLineInRange}
-use Rattle.sbigdb.proofs.Lines.{just_ranged}
-use Rattle.sbigdb.proofs.Shapes.{same_shape}
+use Rattle.sbigdb.proofs.{Lines.just_ranged, Shapes.same_shape}
 use Rattle.sbigdb.proofs.monitor.line_of.Goals as goal
 
 pub returns-in-Ok-clause-range : goal.returns-in-Ok-clause-range

@@ -1,8 +1,5 @@
 use Rattle.std.proofs.Common.{◌∙◌, ◌++◌, ap, sym}
-use Rattle.debug_session.specs.Lives.{register_in}
-use Rattle.debug_session.specs.Sessions.{machine_of_session}
-use Rattle.debug_session.proofs.Counted.{counted_more}
-use Rattle.debug_session.specs.Replies.{register_text}
+use Rattle.debug_session.{specs.{Lives.register_in, Sessions.machine_of_session, Replies.register_text}, proofs.Counted.counted_more}
 use Rattle.sbigdb.proofs.replies.registers.Goals as goal
 
 pub loop-number-preserved : goal.loop-number-preserved

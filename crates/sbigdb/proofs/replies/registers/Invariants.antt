@@ -1,7 +1,5 @@
 use Rattle.std.proofs.Common.{◌≡◌}
-use Rattle.debug_session.specs.Lives.{register_in}
-use Rattle.debug_session.specs.Sessions.{machine_of_session}
-use Rattle.debug_session.specs.Replies.{registers_text}
+use Rattle.debug_session.specs.{Lives.register_in, Sessions.machine_of_session, Replies.registers_text}
 use Rattle.sbigdb.proofs.replies.registers.Given as goal
 
 abbrev pub invariant-loop-number : goal.invariant-loop-number

@@ -1,8 +1,7 @@
 use Rattle.std.proofs.Common.{Option, [], ◌++◌, ◌∙◌, sym, subst}
 use Rattle.board_model.proofs.Written.{appended, unwritten}
 use Rattle.debug_session.specs.declared.heard.PacketEvent.{PacketEvent}
-use Rattle.sbigdb.specs.Responses.{next_ack}
-use Rattle.sbigdb.proofs.Responses.{GoesOn, finite_on, goes_none, goes_on, goes_over}
+use Rattle.sbigdb.{specs.Responses.next_ack, proofs.Responses.{GoesOn, finite_on, goes_none, goes_on, goes_over}}
 use Rattle.sbigdb.proofs.streams.answers.Goals as goal
 
 pub loop-next-init : goal.loop-next-init

@@ -1,12 +1,7 @@
-use Rattle.std.proofs.Common.{ℕ, ◌+◌, List}
-use Rattle.std.specs.Prelude.{OnSome}
-use Rattle.std.specs.Option.{option_map_or}
-use Rattle.std.specs.Io.KnownBytes.{Appends}
+use Rattle.std.{proofs.Common.{ℕ, ◌+◌, List}, specs.{Prelude.OnSome, Option.option_map_or, Io.KnownBytes.Appends}}
 use Rattle.std.specs.Iterator.{IsFinite, size}
-use Rattle.debug_session.specs.Ats.{IsAt}
-use Rattle.debug_session.specs.Sessions.{size_of, timeline_of}
-use Rattle.sbigdb.specs.Talks.{session_in}
-use Rattle.sbigdb.proofs.Responses.{GoesOn}
+use Rattle.debug_session.specs.{Ats.IsAt, Sessions.{size_of, timeline_of}}
+use Rattle.sbigdb.{specs.Talks.session_in, proofs.Responses.GoesOn}
 use Rattle.sbigdb.proofs.streams.answers.Given as goal
 
 abbrev pub invariant-loop-next : goal.invariant-loop-next

@@ -1,8 +1,6 @@
-use Rattle.std.proofs.Common.{◌++◌, true, sym}
-use Rattle.std.proofs.lemmas.Result.{on_ok_weaker}
+use Rattle.std.proofs.{Common.{◌++◌, true, sym}, lemmas.Result.on_ok_weaker}
 use Rattle.board_model.proofs.Written.{appended}
-use Rattle.sbigdb.specs.Responses.{next_ack}
-use Rattle.sbigdb.proofs.Responses.{finite_on, from_given}
+use Rattle.sbigdb.{specs.Responses.next_ack, proofs.Responses.{finite_on, from_given}}
 use Rattle.sbigdb.proofs.streams.discuss.Goals as goal
 
 pub answers-requires-clause-ends : goal.answers-requires-clause-ends

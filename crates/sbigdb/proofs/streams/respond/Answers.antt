@@ -1,12 +1,8 @@
-use Rattle.std.proofs.Common.{ℕ, List, [], Vec, Global, ◌∙◌, ap, map, refl, sym, subst}
-use Rattle.std.proofs.lemmas.Result.{on_ok_weaker}
+use Rattle.std.proofs.{Common.{ℕ, List, [], Vec, Global, ◌∙◌, ap, map, refl, sym, subst}, lemmas.Result.on_ok_weaker}
 use Rattle.std.specs.Io.KnownBytes.{Appends}
 use Rattle.board_model.proofs.Written.{unwritten}
-use Rattle.debug_session.specs.declared.heard.PacketEvent.{PacketEvent}
-use Rattle.debug_session.specs.Replies.{packets_of}
-use Rattle.sbigdb.specs.Answers.{IsAnswer}
-use Rattle.sbigdb.specs.Responses.{Says}
-use Rattle.sbigdb.proofs.Responses.{says_nothing}
+use Rattle.debug_session.specs.{declared.heard.PacketEvent.PacketEvent, Replies.packets_of}
+use Rattle.sbigdb.{specs.{Answers.IsAnswer, Responses.Says}, proofs.Responses.says_nothing}
 use Rattle.sbigdb.proofs.streams.respond.Goals as goal
 
 pub returns-in_ok-sent-in-Packet-clause-sent : goal.returns-in_ok-sent-in-Packet-clause-sent

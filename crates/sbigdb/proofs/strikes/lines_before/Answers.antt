@@ -2,8 +2,7 @@ use Rattle.std.proofs.Common.{◌≡◌, ◌∙◌, ◌<◌, ◌+◌, ◌++◌, 
 use Rattle.script_lang.specs.declared.line.Line.{Line}
 use Rattle.script_lang.specs.declared.line.Line.TheVariants as lines
 use Rattle.debug_session.specs.Pasts.{some_turns}
-use Rattle.sbigdb.specs.Strikes.{ArmedBehind, count_in, hart_in}
-use Rattle.sbigdb.proofs.Struck.{stop_ranged, stops_line, stops_turn}
+use Rattle.sbigdb.{specs.Strikes.{ArmedBehind, count_in, hart_in}, proofs.Struck.{stop_ranged, stops_line, stops_turn}}
 use Rattle.sbigdb.proofs.strikes.lines_before.Goals as goal
 
 pub returns-in-None-clause-stops : goal.returns-in-None-clause-stops

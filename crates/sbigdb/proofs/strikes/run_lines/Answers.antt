@@ -1,8 +1,6 @@
-use Rattle.std.proofs.Common.{List, arith, subst}
-use Rattle.std.proofs.lemmas.List.{take_all}
+use Rattle.std.proofs.{Common.{List, arith, subst}, lemmas.List.take_all}
 use Rattle.script_lang.specs.declared.line.Line.{Line}
-use Rattle.sbigdb.specs.Strikes.{RanTo}
-use Rattle.sbigdb.proofs.Struck.{ran_next, ran_none}
+use Rattle.sbigdb.{specs.Strikes.RanTo, proofs.Struck.{ran_next, ran_none}}
 use Rattle.sbigdb.proofs.strikes.run_lines.Goals as goal
 
 pub loop-line-init : goal.loop-line-init

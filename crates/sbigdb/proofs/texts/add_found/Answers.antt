@@ -1,6 +1,4 @@
-use Rattle.std.proofs.Common.{◌≡◌, ◌++◌, Option, sym, subst}
-use Rattle.std.specs.Prelude.{string_bytes}
-use Rattle.std.proofs.lemmas.List.{append-nil}
+use Rattle.std.{proofs.{Common.{◌≡◌, ◌++◌, Option, sym, subst}, lemmas.List.append-nil}, specs.Prelude.string_bytes}
 use Rattle.board_model.specs.declared.durable.Durable.{Durable}
 use Rattle.report_lines.specs.Texts.{found_line}
 use Rattle.sbigdb.proofs.texts.add_found.Goals as goal

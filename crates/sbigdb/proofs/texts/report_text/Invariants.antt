@@ -1,5 +1,4 @@
-use Rattle.std.proofs.Common.{◌≡◌, take}
-use Rattle.std.specs.String.{string_bytes}
+use Rattle.std.{proofs.Common.{◌≡◌, take}, specs.String.string_bytes}
 use Rattle.report_lines.specs.Texts.{report_text}
 use Rattle.sbigdb.proofs.texts.report_text.Given as goal
 

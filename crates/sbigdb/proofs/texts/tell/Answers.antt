@@ -1,8 +1,6 @@
-use Rattle.std.proofs.Common.{ℕ, List, [], ◌∷◌, ◌++◌, Vec, Global, map, ◌∙◌, refl, sym, ap}
+use Rattle.std.{proofs.Common.{ℕ, List, [], ◌∷◌, ◌++◌, Vec, Global, map, ◌∙◌, refl, sym, ap}, specs.Slice.Iter.chunks_rest}
 use Rattle.std.proofs.lemmas.List.{append-nil, map-append, nil_from_length}
-use Rattle.std.specs.Slice.Iter.{chunks_rest}
-use Rattle.sbigdb.specs.Texts.{console_packet}
-use Rattle.sbigdb.proofs.Console.{joined, joined_more, told_more}
+use Rattle.sbigdb.{specs.Texts.console_packet, proofs.Console.{joined, joined_more, told_more}}
 use Rattle.sbigdb.proofs.texts.tell.Goals as goal
 
 pub loop-piece-init : goal.loop-piece-init

@@ -1,7 +1,5 @@
-use Rattle.std.proofs.Common.{◌≡◌, ◌++◌, ℕ, List, map}
-use Rattle.std.specs.Slice.Iter.{chunks_rest}
-use Rattle.sbigdb.specs.Texts.{console_packet}
-use Rattle.sbigdb.proofs.Console.{joined}
+use Rattle.std.{proofs.Common.{◌≡◌, ◌++◌, ℕ, List, map}, specs.Slice.Iter.chunks_rest}
+use Rattle.sbigdb.{specs.Texts.console_packet, proofs.Console.joined}
 use Rattle.sbigdb.proofs.texts.tell.Given as goal
 
 abbrev pub invariant-loop-piece : goal.invariant-loop-piece

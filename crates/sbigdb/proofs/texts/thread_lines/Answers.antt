@@ -1,6 +1,5 @@
 use Rattle.std.proofs.Common.{◌∙◌, ◌++◌, ap, string_bytes, sym}
-use Rattle.debug_session.specs.Sessions.{bench_of}
-use Rattle.debug_session.proofs.Counted.{counted_more}
+use Rattle.debug_session.{specs.Sessions.bench_of, proofs.Counted.counted_more}
 use Rattle.sbigdb.specs.Texts.{thread_line}
 use Rattle.sbigdb.proofs.texts.thread_lines.Goals as goal
 

@@ -1,5 +1,4 @@
-use Rattle.std.proofs.Common.{subst, sym}
-use Rattle.std.specs.Prelude.{All}
+use Rattle.std.{proofs.Common.{subst, sym}, specs.Prelude.All}
 use Rattle.script_lang.specs.Lines.{IsLineInRange}
 use Rattle.sbigdb.proofs.Ranges.{both_ranged, none_ranged}
 use Rattle.sbigdb.proofs.told.tell_all.Goals as goal

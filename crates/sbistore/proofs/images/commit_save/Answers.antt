@@ -1,11 +1,7 @@
 use Rattle.std.proofs.Common.{◌≡◌, ◌∙◌, Option, Some, refl, sym, ap, subst}
 use Rattle.layout.specs.Records.{IsInRange}
-use Rattle.planned_store.specs.declared.commits.Commit.{Commit}
-use Rattle.planned_store.specs.declared.plans.Plan.TheVariants.{Committing}
-use Rattle.planned_store.specs.Saves.{commit_of}
-use Rattle.sbistore.specs.Images.{CommitsOrEnds}
-use Rattle.sbistore.specs.Packed.{IsSelectedSound, IsSound}
-use Rattle.sbistore.proofs.Saves.{commit_is, commit_asks}
+use Rattle.planned_store.specs.{declared.{commits.Commit.Commit, plans.Plan.TheVariants.Committing}, Saves.commit_of}
+use Rattle.sbistore.{specs.{Images.CommitsOrEnds, Packed.{IsSelectedSound, IsSound}}, proofs.Saves.{commit_is, commit_asks}}
 use Rattle.sbistore.proofs.images.commit_save.Goals as goal
 
 pub returns-in-Some : goal.returns-in-Some

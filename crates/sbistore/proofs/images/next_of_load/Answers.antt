@@ -1,9 +1,7 @@
 use Rattle.std.proofs.Common.{◌≡◌, ◌∙◌, Some, sym, ap, subst}
 use Rattle.layout.specs.declared.saved.Saved.{Saved}
-use Rattle.planned_store.specs.Loads.{LoadGoes}
-use Rattle.planned_store.specs.declared.loads.Loading.{Loading}
-use Rattle.sbistore.proofs.Loads.{asked_load}
-use Rattle.sbistore.proofs.Packed.{some_is}
+use Rattle.planned_store.specs.{Loads.LoadGoes, declared.loads.Loading.Loading}
+use Rattle.sbistore.proofs.{Loads.asked_load, Packed.some_is}
 use Rattle.sbistore.proofs.images.next_of_load.Goals as goal
 
 pub returns : goal.returns

@@ -1,8 +1,6 @@
 use Rattle.std.proofs.Common.{◌≡◌, ◌∙◌, ap, subst}
-use Rattle.planned_store.specs.Saves.{SaveGoes}
-use Rattle.planned_store.specs.declared.saves.Saving.{Saving}
-use Rattle.sbistore.proofs.Packed.{some_is}
-use Rattle.sbistore.proofs.Saves.{asked_save, sound_on}
+use Rattle.planned_store.specs.{Saves.SaveGoes, declared.saves.Saving.Saving}
+use Rattle.sbistore.proofs.{Packed.some_is, Saves.{asked_save, sound_on}}
 use Rattle.sbistore.proofs.images.next_of_save.Goals as goal
 
 pub returns : goal.returns

@@ -1,8 +1,7 @@
 use Rattle.std.proofs.Common.{ℕ, ◌<◌, sym, subst, arith}
 use Rattle.board_model.specs.Shapes.{IsValidAddress}
 use Rattle.planned_store.specs.declared.commits.Selected.{Selected}
-use Rattle.sbistore.proofs.Packed.{some_is}
-use Rattle.sbistore.proofs.Saves.{from_known}
+use Rattle.sbistore.proofs.{Packed.some_is, Saves.from_known}
 use Rattle.sbistore.proofs.images.saving_of.Goals as goal
 
 pub returns-in_default-resumption-clause-exact : goal.returns-in_default-resumption-clause-exact

@@ -1,7 +1,6 @@
 use Rattle.std.proofs.Common.{◌∙◌, Some, ap}
 use Rattle.board_model.specs.Shapes.{Size}
-use Rattle.planned_store.specs.declared.formats.FormatStep.{FormatStep}
-use Rattle.planned_store.specs.declared.plans.Plan.TheVariants.{Formatting}
+use Rattle.planned_store.specs.declared.{formats.FormatStep.FormatStep, plans.Plan.TheVariants.Formatting}
 use Rattle.sbistore.proofs.Packed.{some_is}
 use Rattle.sbistore.proofs.packing.formatting.Goals as goal
 

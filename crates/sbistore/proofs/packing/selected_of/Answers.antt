@@ -1,7 +1,6 @@
 use Rattle.std.proofs.Common.{◌≡◌, ◌∙◌, ℕ, Some, sym, ap, subst}
 use Rattle.board_model.specs.Shapes.{Size}
-use Rattle.layout.specs.Records.{IsInRange}
-use Rattle.layout.specs.declared.records.Record.{Record}
+use Rattle.layout.specs.{Records.IsInRange, declared.records.Record.Record}
 use Rattle.sbistore.proofs.Packed.{some_is}
 use Rattle.sbistore.proofs.packing.selected_of.Goals as goal
 

@@ -1,7 +1,6 @@
 use Rattle.std.proofs.Common.{◌∙◌, true, false}
 use Rattle.script_lang.proofs.Classes.{named, seen, ok_at, alone_fits, is_payload, is_format, is_on, is_turn, is_call, is_cut, is_poke, is_inspect, is_wake, is_none}
-use Rattle.script_lang.specs.declared.line.Line.TheVariants.{Format, Inspect, Wake}
-use Rattle.script_lang.specs.Lines.{IsLineInRange}
+use Rattle.script_lang.specs.{declared.line.Line.TheVariants.{Format, Inspect, Wake}, Lines.IsLineInRange}
 use lib.Chars.{codes}
 use Rattle.script_lang.proofs.line.other_said.Goals as goal
 

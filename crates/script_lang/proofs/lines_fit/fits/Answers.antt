@@ -1,6 +1,4 @@
-use Rattle.std.proofs.Common.{take, All, get_or, sym, subst, [], ◌∷◌}
-use Rattle.std.proofs.lemmas.List.{take_more}
-use Rattle.std.proofs.lemmas.List.Elements.{All-append, All-cons, All-nil}
+use Rattle.std.proofs.{Common.{take, All, get_or, sym, subst, [], ◌∷◌}, lemmas.List.{take_more, Elements.{All-append, All-cons, All-nil}}}
 use Rattle.script_lang.specs.Lines.{FitsLine}
 use Rattle.script_lang.proofs.lines_fit.fits.Goals as goal
 

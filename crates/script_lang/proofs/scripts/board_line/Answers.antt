@@ -1,8 +1,6 @@
 use Rattle.std.proofs.Common.{Result, sym, subst, inr}
-use Rattle.board_model.specs.Shapes.{Size}
-use Rattle.board_model.specs.declared.refusal.Refusal.{Refusal}
-use Rattle.script_lang.specs.Scripts.{Gives}
-use Rattle.script_lang.proofs.Classes.{named, first_of, no_board, board_named, other_named}
+use Rattle.board_model.specs.{Shapes.Size, declared.refusal.Refusal.Refusal}
+use Rattle.script_lang.{specs.Scripts.Gives, proofs.Classes.{named, first_of, no_board, board_named, other_named}}
 use Rattle.script_lang.proofs.scripts.board_line.Goals as goal
 
 pub returns-in-empty : goal.returns-in-empty

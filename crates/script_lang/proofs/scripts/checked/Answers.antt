@@ -1,8 +1,6 @@
 use Rattle.std.proofs.Common.{Result, inr, subst}
 use Rattle.board_model.specs.declared.refusal.Refusal.{Refusal}
-use Rattle.script_lang.specs.Scripts.{Gives, Script}
-use Rattle.script_lang.specs.Views.{view}
-use Rattle.script_lang.proofs.Reading.{sound_few, one_past}
+use Rattle.script_lang.{specs.{Scripts.{Gives, Script}, Views.view}, proofs.Reading.{sound_few, one_past}}
 use Rattle.script_lang.proofs.Rest.{next_few, no_board_line, unsound_first, passed_first, board_first}
 use Rattle.script_lang.proofs.scripts.checked.Goals as goal
 

@@ -1,8 +1,5 @@
-use Rattle.std.proofs.Common.{rules, tests}
-use Rattle.std.proofs.lemmas.Iterator.{YieldsList-from_take}
-use Rattle.std.proofs.lemmas.Iterator.Consumers.{map_from_collect}
+use Rattle.std.{proofs.{Common.{rules, tests}, lemmas.Iterator.{YieldsList-from_take, Consumers.map_from_collect}}, specs.Prelude.{◌==◌}}
 use Rattle.std.proofs.lemmas.Iterator.Splits.{YieldsList-from_slice_split}
-use Rattle.std.specs.Prelude.{◌==◌}
 use Rattle.script_lang.proofs.scripts.first_parts.Goals as goal
 
 pub returns : goal.returns

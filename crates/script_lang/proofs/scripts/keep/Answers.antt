@@ -1,7 +1,6 @@
 use Rattle.std.proofs.Common.{inl, inr, refl, length, ap, List}
 use Rattle.board_model.specs.declared.refusal.Refusal.TheVariants.{Memory}
-use Rattle.script_lang.specs.Lines.{IsLineInRange}
-use Rattle.script_lang.specs.declared.line.Line.{Line}
+use Rattle.script_lang.specs.{Lines.IsLineInRange, declared.line.Line.Line}
 use Rattle.script_lang.proofs.Reading.{gives_fault, not_ok, sound_few, one_more, all_more, no_more, read_unsound, read_passed, read_fault, read_line}
 use Rattle.script_lang.proofs.scripts.keep.Goals as goal
 

@@ -1,8 +1,5 @@
-use Rattle.std.proofs.Common.{length}
-use Rattle.std.proofs.lemmas.Result.{IfOk-from_err}
-use Rattle.script_lang.specs.Lines.{IsLineInRange}
-use Rattle.script_lang.proofs.Classes.{seen}
-use Rattle.script_lang.proofs.Reading.{gives_fault}
+use Rattle.std.proofs.{Common.length, lemmas.Result.IfOk-from_err}
+use Rattle.script_lang.{specs.Lines.IsLineInRange, proofs.{Classes.seen, Reading.gives_fault}}
 use Rattle.script_lang.proofs.Rest.{begun, all_of_none, few_begun, few_more, next_few, found_few, ended, one_on, fails_on}
 use Rattle.script_lang.proofs.scripts.rest.Goals as goal
 

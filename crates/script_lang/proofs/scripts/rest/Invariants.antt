@@ -1,6 +1,5 @@
 use Rattle.std.proofs.Common.{All, ◌≡◌, ◌+◌, ◌≤◌, length, map, drop}
-use Rattle.script_lang.specs.Lines.{IsLineInRange}
-use Rattle.script_lang.specs.Scripts.{rest_of, with_front}
+use Rattle.script_lang.specs.{Lines.IsLineInRange, Scripts.{rest_of, with_front}}
 use Rattle.script_lang.proofs.scripts.rest.Given as goal
 
 abbrev pub invariant-loop-bytes : goal.invariant-loop-bytes

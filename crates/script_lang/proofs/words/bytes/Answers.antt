@@ -1,5 +1,4 @@
-use Rattle.std.proofs.Common.{◌≡◌, ◌*◌, length, arith}
-use Rattle.std.proofs.lemmas.Grind.{common_steps}
+use Rattle.std.proofs.{Common.{◌≡◌, ◌*◌, length, arith}, lemmas.Grind.common_steps}
 use Rattle.hex.proofs.HexLemmas.{decode_of-ok}
 use Rattle.script_lang.proofs.words.bytes.Goals as goal
 

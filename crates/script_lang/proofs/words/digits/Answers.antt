@@ -1,5 +1,4 @@
-use Rattle.std.proofs.Common.{◌≡◌, ◌<◌, ◌+◌, ◌*◌, ◌^◌, arith}
-use Rattle.std.proofs.lemmas.Grind.{common_steps}
+use Rattle.std.proofs.{Common.{◌≡◌, ◌<◌, ◌+◌, ◌*◌, ◌^◌, arith}, lemmas.Grind.common_steps}
 use Rattle.script_lang.proofs.Digits.{grown, narrow}
 use Rattle.script_lang.proofs.words.digits.Goals as goal
 

@@ -1,5 +1,4 @@
-use Rattle.std.proofs.Common.{take}
-use Rattle.std.specs.Io.KnownBytes.{Appends}
+use Rattle.std.{proofs.Common.take, specs.Io.KnownBytes.Appends}
 use Rattle.script_lang.specs.Spellings.{lines_text}
 use Rattle.script_lang.proofs.writing.write_lines.Given as goal
 

@@ -1,5 +1,4 @@
-use Rattle.std.proofs.Common.{arith}
-use Rattle.std.proofs.lemmas.Grind.{common_steps}
+use Rattle.std.proofs.{Common.arith, lemmas.Grind.common_steps}
 use Rattle.simdisk.proofs.copies.patches_again.Goals as goal
 
 pub loop-patch-preserved : goal.loop-patch-preserved

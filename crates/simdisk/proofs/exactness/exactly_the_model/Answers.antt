@@ -1,6 +1,5 @@
-use Rattle.simdisk.specs.Views.{lent_of, pieces}
+use Rattle.simdisk.{specs.Views.{lent_of, pieces}, proofs.Notes.lent_written}
 use Rattle.disk.specs.WriteLog.{ranges}
-use Rattle.simdisk.proofs.Notes.{lent_written}
 use Rattle.simdisk.proofs.exactness.exactly_the_model.Goals as goal
 
 pub returns-clause-lent : goal.returns-clause-lent

@@ -1,5 +1,4 @@
-use Rattle.std.proofs.Common.{◌≡◌, ◌∙◌, ℕ, replicate, ap, rules, arith}
-use Rattle.std.proofs.lemmas.List.{places}
+use Rattle.std.proofs.{Common.{◌≡◌, ◌∙◌, ℕ, replicate, ap, rules, arith}, lemmas.List.places}
 use Rattle.simdisk.proofs.laid.fill_range.Goals as goal
 
 pub returns : goal.returns

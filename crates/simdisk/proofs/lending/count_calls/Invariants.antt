@@ -1,7 +1,6 @@
 use Rattle.std.proofs.Common.{◌≡◌, ◌≤◌, ◌<◌, ℕ, length, map, get_or}
 use Rattle.disk.specs.Facts.{counted}
-use Rattle.simdisk.specs.Lanes.{lane_state}
-use Rattle.simdisk.specs.LaneStates.{state_at}
+use Rattle.simdisk.specs.{Lanes.lane_state, LaneStates.state_at}
 use Rattle.simdisk.proofs.lending.count_calls.Given as goal
 
 abbrev pub invariant-loop-i : goal.invariant-loop-i

@@ -1,8 +1,6 @@
-use Rattle.std.proofs.Common.{◌≡◌, ◌∙◌, ◌+◌, ◌<◌, ℕ, length, map, take, sym, ap}
-use Rattle.std.proofs.lemmas.List.{length-map}
+use Rattle.std.proofs.{Common.{◌≡◌, ◌∙◌, ◌+◌, ◌<◌, ℕ, length, map, take, sym, ap}, lemmas.List.length-map}
 use Rattle.disk.specs.Facts.{LaneFacts, lane_at, lane_failures, counted}
-use Rattle.simdisk.specs.Lanes.{lane_view}
-use Rattle.simdisk.proofs.Rows.{failures_more, at_map, counted_more}
+use Rattle.simdisk.{specs.Lanes.lane_view, proofs.Rows.{failures_more, at_map, counted_more}}
 use Rattle.simdisk.proofs.lending.failures_of.Goals as goal
 
 pub loop-lane-preserved : goal.loop-lane-preserved

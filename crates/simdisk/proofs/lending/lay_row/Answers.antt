@@ -1,8 +1,6 @@
-use Rattle.std.proofs.Common.{◌≡◌, ◌∙◌, ap, sym, ◌+◌, ◌*◌, ◌<◌, length, get_or, map, arith, rules}
-use Rattle.std.proofs.lemmas.Nat.{row_fits}
+use Rattle.std.proofs.{Common.{◌≡◌, ◌∙◌, ap, sym, ◌+◌, ◌*◌, ◌<◌, length, get_or, map, arith, rules}, lemmas.Nat.row_fits}
 use Rattle.disk.specs.Facts.{LaneFacts, Written, lane_at}
-use Rattle.simdisk.specs.Lanes.{lane_view_of}
-use Rattle.simdisk.proofs.Rows.{joined_more, at_map}
+use Rattle.simdisk.{specs.Lanes.lane_view_of, proofs.Rows.{joined_more, at_map}}
 use Rattle.simdisk.proofs.lending.lay_row.Goals as goal
 
 pub loop-i-preserved : goal.loop-i-preserved

@@ -1,10 +1,7 @@
 use Rattle.std.proofs.Common.{◌≡◌, ◌∙◌, ◌+◌, ◌-◌, ◌*◌, ◌<◌, ◌++◌, ◌∷◌, [], ℕ, length, map, take, drop, refl, sym, ap, rules, arith, Bool, true}
 use Rattle.std.proofs.lemmas.List.{map-append, places}
 use Rattle.disk.specs.Facts.{Content, LaneFacts, sector}
-use Rattle.simdisk.specs.Lanes.{lane_view, lane_state}
-use Rattle.simdisk.specs.Views.{last_of}
-use Rattle.simdisk.specs.declared.lane.Last.{Last}
-use Rattle.simdisk.specs.LaneStates.{LaneState, IsLent}
+use Rattle.simdisk.specs.{Lanes.{lane_view, lane_state}, Views.last_of, declared.lane.Last.Last, LaneStates.{LaneState, IsLent}}
 use Rattle.simdisk.proofs.Rows.{handed_more, lent_more}
 use Rattle.simdisk.proofs.lending.lend.Goals as goal
 

@@ -1,7 +1,6 @@
 use Rattle.std.proofs.Common.{map}
 use Rattle.disk.specs.Facts.{Handed}
-use Rattle.simdisk.specs.Lanes.{lane_view, lane_state}
-use Rattle.simdisk.specs.LaneStates.{AreLent}
+use Rattle.simdisk.specs.{Lanes.{lane_view, lane_state}, LaneStates.AreLent}
 use Rattle.simdisk.proofs.lending.lend.Given as goal
 
 abbrev pub invariant-loop-lane : goal.invariant-loop-lane

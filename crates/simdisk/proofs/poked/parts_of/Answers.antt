@@ -1,7 +1,5 @@
-use Rattle.std.proofs.Common.{arith, ap}
-use Rattle.std.proofs.lemmas.Grind.{common_steps}
-use Rattle.simdisk.specs.Views.{pieces}
-use Rattle.simdisk.proofs.Parted.{parts_more}
+use Rattle.std.proofs.{Common.{arith, ap}, lemmas.Grind.common_steps}
+use Rattle.simdisk.{specs.Views.pieces, proofs.Parted.parts_more}
 use Rattle.simdisk.proofs.poked.parts_of.Goals as goal
 
 pub loop-patch-preserved : goal.loop-patch-preserved

@@ -1,7 +1,5 @@
-use Rattle.std.proofs.Common.{◌≡◌, take}
-use Rattle.std.specs.List.{flat_map}
-use Rattle.simdisk.specs.Pokes.{parted}
-use Rattle.simdisk.specs.Views.{pieces}
+use Rattle.std.{proofs.Common.{◌≡◌, take}, specs.List.flat_map}
+use Rattle.simdisk.specs.{Pokes.parted, Views.pieces}
 use Rattle.simdisk.proofs.poked.parts_of.Given as goal
 
 abbrev pub invariant-loop-patch : goal.invariant-loop-patch

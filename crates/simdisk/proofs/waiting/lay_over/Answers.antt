@@ -1,9 +1,6 @@
-use Rattle.std.proofs.Common.{inl, inr, subst, [], List}
-use Rattle.std.proofs.lemmas.List.{take_all}
+use Rattle.std.proofs.{Common.{inl, inr, subst, [], List}, lemmas.List.take_all}
 use Rattle.disk.specs.Facts.{AreSectorsAt}
-use Rattle.simdisk.specs.declared.waiting.Waiting.{Waiting}
-use Rattle.simdisk.specs.Cached.{shown}
-use Rattle.simdisk.proofs.Caches.{read_put, read_none}
+use Rattle.simdisk.{specs.{declared.waiting.Waiting.Waiting, Cached.shown}, proofs.Caches.{read_put, read_none}}
 use Rattle.simdisk.proofs.waiting.lay_over.Goals.{then-first-wait+then-wait-first, else-first-wait, else-first-wait-via-then-first-wait+else-wait-first, else-first-wait-via-else-first-wait}
 use Rattle.simdisk.proofs.waiting.lay_over.Goals as goal
 

@@ -1,6 +1,5 @@
 use Rattle.std.proofs.Common.{◌≤◌, ◌+◌, length, take}
-use Rattle.disk.specs.Facts.{Content, AreSectorsAt}
-use Rattle.disk.specs.WriteLog.{ranges, AreWithin}
+use Rattle.disk.specs.{Facts.{Content, AreSectorsAt}, WriteLog.{ranges, AreWithin}}
 use Rattle.simdisk.specs.Cached.{pieces_of, shown}
 use Rattle.simdisk.proofs.waiting.lay_over.Given as goal
 

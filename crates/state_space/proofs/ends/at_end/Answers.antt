@@ -1,6 +1,5 @@
 use Rattle.std.proofs.Common.{◌∙◌, Bool, List, false, get_or, ap, sym, subst, arith}
-use Rattle.state_space.specs.Graphs.{IsEnd}
-use Rattle.state_space.proofs.Dead.{marked_more}
+use Rattle.state_space.{specs.Graphs.IsEnd, proofs.Dead.marked_more}
 use Rattle.state_space.proofs.ends.at_end.Goals as goal
 
 pub loop-row-preserved : goal.loop-row-preserved

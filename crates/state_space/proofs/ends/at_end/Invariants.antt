@@ -1,6 +1,5 @@
 use Rattle.std.proofs.Common.{◌≡◌, ℕ, length}
-use Rattle.state_space.specs.Deads.{IsMarked}
-use Rattle.state_space.specs.Graphs.{IsEnd}
+use Rattle.state_space.specs.{Deads.IsMarked, Graphs.IsEnd}
 use Rattle.state_space.proofs.ends.at_end.Given as goal
 
 abbrev pub invariant-loop-row : goal.invariant-loop-row

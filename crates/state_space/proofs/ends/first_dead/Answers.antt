@@ -1,5 +1,4 @@
-use Rattle.std.proofs.Common.{◌≡◌, ◌<◌, false, length, get_or, rules, arith}
-use Rattle.std.proofs.lemmas.Grind.{common_steps}
+use Rattle.std.proofs.{Common.{◌≡◌, ◌<◌, false, length, get_or, rules, arith}, lemmas.Grind.common_steps}
 use Rattle.state_space.proofs.Dead.{dead_row}
 use Rattle.state_space.proofs.ends.first_dead.Goals as goal
 

@@ -1,7 +1,5 @@
-use Rattle.std.proofs.Common.{◌≡◌, ◌<◌, ◌≤◌, true, false, get_or, subst, rules, arith}
-use Rattle.std.proofs.lemmas.Grind.{common_steps}
-use Rattle.state_space.specs.Graphs.{expanded_of, first_step, end_step, target_of}
-use Rattle.state_space.proofs.Dead.{reaches_by}
+use Rattle.std.proofs.{Common.{◌≡◌, ◌<◌, ◌≤◌, true, false, get_or, subst, rules, arith}, lemmas.Grind.common_steps}
+use Rattle.state_space.{specs.Graphs.{expanded_of, first_step, end_step, target_of}, proofs.Dead.reaches_by}
 use Rattle.state_space.proofs.ends.reaches.Goals as goal
 
 pub returns-then-marks-target-clause-reaches : goal.returns-then-marks-target-clause-reaches

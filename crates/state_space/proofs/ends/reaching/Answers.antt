@@ -1,6 +1,5 @@
 use Rattle.std.proofs.Common.{◌≡◌, ◌∙◌, List, Bool, false, replicate, sym, subst}
-use Rattle.state_space.specs.Deads.{AreReaching}
-use Rattle.state_space.proofs.Dead.{reaching_none}
+use Rattle.state_space.{specs.Deads.AreReaching, proofs.Dead.reaching_none}
 use Rattle.state_space.proofs.ends.reaching.Goals as goal
 
 pub go_on-requires-clause-reaching : goal.go_on-requires-clause-reaching

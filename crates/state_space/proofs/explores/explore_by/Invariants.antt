@@ -1,9 +1,5 @@
-use Rattle.std.proofs.Common.{◌≡◌, ◌-◌}
-use Rattle.std.specs.Prelude.{All}
-use Rattle.state_space.specs.Carried.{IsBeside}
-use Rattle.state_space.specs.Graphs.{IsSearched, expanded_of}
-use Rattle.state_space.specs.Numbered.{row_width}
-use Rattle.state_space.specs.Successors.{found_width}
+use Rattle.std.{proofs.Common.{◌≡◌, ◌-◌}, specs.Prelude.All}
+use Rattle.state_space.specs.{Carried.IsBeside, Graphs.{IsSearched, expanded_of}, Numbered.row_width, Successors.found_width}
 use Rattle.state_space.proofs.explores.explore_by.Given as goal
 
 abbrev pub invariant-rows : goal.invariant-rows

@@ -1,5 +1,4 @@
-use Rattle.std.proofs.Common.{◌+◌, ◌-◌, length, ap, sym, ◌∙◌, arith, bit_and}
-use Rattle.std.proofs.lemmas.Nat.{and_le_r}
+use Rattle.std.proofs.{Common.{◌+◌, ◌-◌, length, ap, sym, ◌∙◌, arith, bit_and}, lemmas.Nat.and_le_r}
 use Rattle.state_space.proofs.Slots.{slot_first, slot_next, taken_more}
 use Rattle.state_space.proofs.probes.free_slot.Goals as goal
 

@@ -1,6 +1,5 @@
 use Rattle.std.proofs.Common.{◌≡◌, ℕ, List, map, reverse}
-use Rattle.state_space.specs.Orders.{Runs}
-use Rattle.state_space.specs.Graphs.{StepOf, event_of}
+use Rattle.state_space.specs.{Orders.Runs, Graphs.{StepOf, event_of}}
 use Rattle.state_space.proofs.ways.way_to.Given as goal
 
 abbrev pub invariant-loop-at : goal.invariant-loop-at

@@ -1,8 +1,5 @@
 use Rattle.std.proofs.Common.{◌∙◌, List, ℕ, subst, sym, arith}
-use Rattle.state_space.specs.Carried.{IsPushed}
-use Rattle.state_space.specs.Successors.{found_row}
-use Rattle.state_space.proofs.Carrying.{carried_more}
-use Rattle.state_space.proofs.Priced.{stays_on}
+use Rattle.state_space.{specs.{Carried.IsPushed, Successors.found_row}, proofs.{Carrying.carried_more, Priced.stays_on}}
 use Rattle.state_space.proofs.windows.carry_all.Goals as goal
 
 pub carry_one-requires-clause-stands : goal.carry_one-requires-clause-stands

@@ -1,7 +1,5 @@
 use Rattle.std.proofs.Common.{◌≡◌}
-use Rattle.state_space.specs.Carried.{IsCarried}
-use Rattle.state_space.specs.Successors.{found_width}
-use Rattle.state_space.specs.Systems.{Stay}
+use Rattle.state_space.specs.{Carried.IsCarried, Successors.found_width, Systems.Stay}
 use Rattle.state_space.proofs.windows.carry_all.Given as goal
 
 abbrev pub invariant-loop-index : goal.invariant-loop-index

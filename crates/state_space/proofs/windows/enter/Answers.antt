@@ -1,6 +1,5 @@
 use Rattle.std.proofs.Common.{◌≡◌, ◌<◌, subst, sym, arith}
-use Rattle.state_space.specs.Graphs.{IsSearched, count_of, expanded_of}
-use Rattle.state_space.proofs.Carrying.{entered, entered_known, made_known}
+use Rattle.state_space.{specs.Graphs.{IsSearched, count_of, expanded_of}, proofs.Carrying.{entered, entered_known, made_known}}
 use Rattle.state_space.proofs.windows.enter.Goals as goal
 
 pub carry_all-requires-clause-known : goal.carry_all-requires-clause-known

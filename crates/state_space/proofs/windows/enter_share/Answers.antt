@@ -1,6 +1,5 @@
 use Rattle.std.proofs.Common.{◌∙◌, sym, subst, arith}
-use Rattle.state_space.specs.Carried.{IsMade}
-use Rattle.state_space.proofs.Carrying.{made_later, later_on}
+use Rattle.state_space.{specs.Carried.IsMade, proofs.Carrying.{made_later, later_on}}
 use Rattle.state_space.proofs.windows.enter_share.Goals as goal
 
 pub enter-requires-clause-made : goal.enter-requires-clause-made

@@ -1,8 +1,5 @@
 use Rattle.std.proofs.Common.{◌≡◌}
-use Rattle.state_space.specs.Carried.{IsLater}
-use Rattle.state_space.specs.Graphs.{IsSearched}
-use Rattle.state_space.specs.Numbered.{row_width}
-use Rattle.state_space.specs.Successors.{found_width}
+use Rattle.state_space.specs.{Carried.IsLater, Graphs.IsSearched, Numbered.row_width, Successors.found_width}
 use Rattle.state_space.proofs.windows.enter_share.Given as goal
 
 abbrev pub invariant-loop-made : goal.invariant-loop-made

@@ -1,7 +1,5 @@
-use Rattle.std.proofs.Common.{Some}
-use Rattle.std.proofs.lemmas.List.Elements.{All-pop}
-use Rattle.state_space.specs.Carried.{IsBeside}
-use Rattle.state_space.specs.declared.workers.Worker.{Worker}
+use Rattle.std.proofs.{Common.Some, lemmas.List.Elements.All-pop}
+use Rattle.state_space.specs.{Carried.IsBeside, declared.workers.Worker.Worker}
 use Rattle.state_space.proofs.windows.last_of.Goals as goal
 
 pub returns-clause-beside : goal.returns-clause-beside

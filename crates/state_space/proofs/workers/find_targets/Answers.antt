@@ -1,6 +1,5 @@
 use Rattle.std.proofs.Common.{rules, ◌≡◌, ◌≢◌, ◌∙◌, ◌+◌, ℕ, List, [], ◌∷◌, ◌++◌, length, length-append, ap, subst}
-use Rattle.state_space.specs.Carried.{IsTarget, NOWHERE}
-use Rattle.state_space.proofs.Carrying.{targets_more}
+use Rattle.state_space.{specs.Carried.{IsTarget, NOWHERE}, proofs.Carrying.targets_more}
 use Rattle.state_space.proofs.workers.find_targets.Goals as goal
 
 pub loop-index-preserved : goal.loop-index-preserved

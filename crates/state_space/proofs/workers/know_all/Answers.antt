@@ -1,7 +1,5 @@
 use Rattle.std.proofs.Common.{◌∙◌, List, ℕ, subst, sym, arith}
-use Rattle.state_space.specs.Carried.{IsPushed}
-use Rattle.state_space.specs.Successors.{found_row}
-use Rattle.state_space.proofs.Carrying.{carried_more, stays_same}
+use Rattle.state_space.{specs.{Carried.IsPushed, Successors.found_row}, proofs.Carrying.{carried_more, stays_same}}
 use Rattle.state_space.proofs.workers.know_all.Goals as goal
 
 pub know_one-requires-clause-stands : goal.know_one-requires-clause-stands

@@ -1,6 +1,5 @@
 use Rattle.std.proofs.Common.{◌≡◌}
-use Rattle.state_space.specs.Carried.{IsCarried}
-use Rattle.state_space.specs.Successors.{found_width}
+use Rattle.state_space.specs.{Carried.IsCarried, Successors.found_width}
 use Rattle.state_space.proofs.workers.know_all.Given as goal
 
 abbrev pub invariant-loop-index : goal.invariant-loop-index

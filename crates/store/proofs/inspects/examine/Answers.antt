@@ -1,10 +1,7 @@
-use Rattle.std.proofs.Common.{◌≡◌, subst}
-use Rattle.std.proofs.lemmas.Result.{err_from_is_err_and, IfOk-from_err}
+use Rattle.std.proofs.{Common.{◌≡◌, subst}, lemmas.Result.{err_from_is_err_and, IfOk-from_err}}
 use Rattle.disk.specs.Facts.{Content}
-use Rattle.store.specs.Standing.{selected, live_sector, other_sector}
-use Rattle.store.specs.Inspects.{IsImageSeen}
+use Rattle.store.{specs.{Standing.{selected, live_sector, other_sector}, Inspects.IsImageSeen}, proofs.Inspecting.parses}
 use Rattle.store.proofs.Alone.{called_alone, alone_then, fails_after, none_after, refused_after, one_failed, records_failed, image_failed, image_seen}
-use Rattle.store.proofs.Inspecting.{parses}
 use Rattle.store.proofs.inspects.examine.Goals as goal
 
 -- gate and records could not be read

@@ -1,20 +1,13 @@
-use Rattle.std.proofs.Common.{◌≡◌, ◌∙◌, ◌⊎◌, inl, inr, refl, ℕ, List, ◌<◌, ◌≤◌, length, sym, subst}
+use Rattle.std.proofs.{Common.{◌≡◌, ◌∙◌, ◌⊎◌, inl, inr, refl, ℕ, List, ◌<◌, ◌≤◌, length, sym, subst}, lemmas.Result.IfOk-from_err}
 use Rattle.std.specs.Prelude.{Result, Ok, Err, IfErr}
-use Rattle.board_model.specs.Shapes.{Size, sectors_of}
-use Rattle.board_model.specs.declared.refusal.Refusal.{Refusal}
+use Rattle.board_model.specs.{Shapes.{Size, sectors_of}, declared.refusal.Refusal.Refusal}
 use Rattle.board_model.specs.declared.refusal.Refusal.TheVariants.{NotFormatted, BadShape, Device, Memory}
 use Rattle.disk.specs.Facts.{Content, Facts, counted}
 use Rattle.layout.specs.Superblocks.{IsSuperblock}
-use Rattle.store.specs.Opens.{IsBoard, FailsForCause}
-use Rattle.store.specs.Inspects.{InspectRefused, InspectCalls}
-use Rattle.store.specs.declared.inspects.Inspection.{Inspection}
-use Rattle.store.proofs.Reading.{board_marked, some_sectors}
+use Rattle.store.specs.{Opens.{IsBoard, FailsForCause}, Inspects.{InspectRefused, InspectCalls}, declared.inspects.Inspection.Inspection}
+use Rattle.store.proofs.{Reading.{board_marked, some_sectors}, Inspecting.inspect_calls, Loading.none_read, inspects.inspect.Given.Over}
 use Rattle.store.proofs.Alone.{called_alone, alone_then, fails_on, refused_on, inspected_on, none_there, one_failed, sector_failed}
-use Rattle.store.proofs.Inspecting.{inspect_calls}
-use Rattle.store.proofs.Loading.{none_read}
-use Rattle.store.proofs.inspects.inspect.Given.{Over}
 use Rattle.store.proofs.inspects.inspect.Goals.{After-examine}
-use Rattle.std.proofs.lemmas.Result.{IfOk-from_err}
 use Rattle.store.proofs.inspects.inspect.Goals as goal
 
 -- the disk of that shape is a board's

@@ -1,9 +1,5 @@
-use Rattle.std.proofs.Common.{◌∙◌, Ok, arith}
-use Rattle.std.proofs.lemmas.Result.{err_from_is_err_and, IfOk-from_err}
-use Rattle.disk.specs.Calls.{MakesCalls}
-use Rattle.disk.specs.Facts.{Content, Facts, Stays}
-use Rattle.disk.specs.FaultState.{FaultState}
-use Rattle.disk.specs.Moments.{called_then, called_fewer}
+use Rattle.std.proofs.{Common.{◌∙◌, Ok, arith}, lemmas.Result.{err_from_is_err_and, IfOk-from_err}}
+use Rattle.disk.specs.{Calls.MakesCalls, Facts.{Content, Facts, Stays}, FaultState.FaultState, Moments.{called_then, called_fewer}}
 use Rattle.store.proofs.Called.{called_with}
 use Rattle.store.proofs.inspects.read_records.Goals as goal
 

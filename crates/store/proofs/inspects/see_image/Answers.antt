@@ -1,20 +1,12 @@
 use Rattle.std.proofs.Common.{◌≡◌, ◌≢◌, ◌∙◌, ℕ, Result, Ok, Err, Some, List, [], OnOk, IfErr, length, refl, sym, ap, subst, arith}
-use Rattle.std.specs.Prelude.{IfOk, IsErrOf}
-use Rattle.std.proofs.Math.ListN.{length-replicate}
-use Rattle.std.proofs.lemmas.Result.{err_from_is_err_and}
-use Rattle.board_model.specs.Shapes.{Size, IsSize, ram_bytes_of}
-use Rattle.board_model.specs.declared.refusal.Refusal.{Refusal}
+use Rattle.std.{specs.Prelude.{IfOk, IsErrOf}, proofs.{Math.ListN.length-replicate, lemmas.Result.err_from_is_err_and}}
+use Rattle.board_model.specs.{Shapes.{Size, IsSize, ram_bytes_of}, declared.refusal.Refusal.Refusal}
 use Rattle.board_model.specs.declared.refusal.Refusal.TheVariants.{Device, Memory, BadImage}
-use Rattle.disk.specs.Facts.{Content, Facts}
-use Rattle.disk.specs.FaultState.{FaultState}
+use Rattle.disk.specs.{Facts.{Content, Facts}, FaultState.FaultState}
 use Rattle.image.specs.Refusals.{ReadsOn}
-use Rattle.layout.specs.Records.{IsRecord}
-use Rattle.layout.specs.declared.records.Record.{Record}
-use Rattle.layout.specs.declared.saved.Saved.{Saved}
-use Rattle.store.specs.Opens.{IsBoard, FailsForCause}
-use Rattle.store.specs.Standing.{live_sector, saved_memory}
+use Rattle.layout.specs.{Records.IsRecord, declared.{records.Record.Record, saved.Saved.Saved}}
+use Rattle.store.{specs.{Opens.{IsBoard, FailsForCause}, Standing.{live_sector, saved_memory}}, proofs.Loading.{read_alone, none_read}}
 use Rattle.store.specs.Inspects.{InspectRefused, IsImageSeen, KeepsImage, SeenCalls, seen_by}
-use Rattle.store.proofs.Loading.{read_alone, none_read}
 use Rattle.store.proofs.inspects.see_image.Goals as goal
 
 -- what a read of the area tells of the image: its refusal, its cause and its calls

@@ -1,5 +1,4 @@
-use Rattle.store.proofs.Bridges.{stands_marked}
-use Rattle.store.proofs.States.{content_determines_state}
+use Rattle.store.proofs.{Bridges.stands_marked, States.content_determines_state}
 use Rattle.store.proofs.laws.content_determines_state.Goals as goal
 
 pub returns-clause-one : goal.returns-clause-one

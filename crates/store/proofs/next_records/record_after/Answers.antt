@@ -1,10 +1,6 @@
-use Rattle.std.proofs.Common.{◌∙◌, [], sym}
-use Rattle.std.proofs.lemmas.Result.{err_from_is_err_and, IfOk-from_err}
-use Rattle.board_model.specs.Shapes.{board_size}
-use Rattle.board_model.specs.Views.{change_of}
-use Rattle.store.specs.Standing.{state_of}
-use Rattle.store.proofs.Following.{durable_same, follows}
-use Rattle.store.proofs.Refusing.{others}
+use Rattle.std.proofs.{Common.{◌∙◌, [], sym}, lemmas.Result.{err_from_is_err_and, IfOk-from_err}}
+use Rattle.board_model.specs.{Shapes.board_size, Views.change_of}
+use Rattle.store.{specs.Standing.state_of, proofs.{Following.{durable_same, follows}, Refusing.others}}
 use Rattle.store.proofs.next_records.record_after.Goals as goal
 
 pub returns-in_err-durable-clause-refused : goal.returns-in_err-durable-clause-refused

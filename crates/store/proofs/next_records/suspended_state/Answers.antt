@@ -1,10 +1,6 @@
 use Rattle.std.proofs.Common.{◌∙◌, [], sym, rules}
-use Rattle.board_model.specs.Durable.{Suspend}
-use Rattle.board_model.specs.Shapes.{board_size}
-use Rattle.board_model.specs.Views.{IsNextOf}
-use Rattle.store.specs.Standing.{state_of}
-use Rattle.store.proofs.Following.{durable_same}
-use Rattle.store.proofs.Refusing.{suspend_fits, suspend_makes, suspend_refused}
+use Rattle.board_model.specs.{Durable.Suspend, Shapes.board_size, Views.IsNextOf}
+use Rattle.store.{specs.Standing.state_of, proofs.{Following.durable_same, Refusing.{suspend_fits, suspend_makes, suspend_refused}}}
 use Rattle.store.proofs.next_records.suspended_state.Goals.{After-after_suspend}
 use Rattle.store.proofs.next_records.suspended_state.Goals as goal
 

@@ -1,9 +1,6 @@
-use Rattle.std.proofs.Common.{◌∙◌, ℕ, refl, sym, ap, subst, rules}
-use Rattle.std.proofs.lemmas.Result.{err_from_is_err_and, IfOk-from_err}
+use Rattle.std.proofs.{Common.{◌∙◌, ℕ, refl, sym, ap, subst, rules}, lemmas.Result.{err_from_is_err_and, IfOk-from_err}}
 use Rattle.disk.specs.Facts.{Lent, counted}
-use Rattle.layout.specs.Records.{IsInRange}
-use Rattle.layout.specs.declared.records.Record.{Record}
-use Rattle.layout.specs.declared.records.Version.TheVariants.{One, Two}
+use Rattle.layout.specs.{Records.IsInRange, declared.records.{Record.Record, Version.TheVariants.{One, Two}}}
 use Rattle.store.specs.Standing.{state_of}
 use Rattle.store.proofs.Renewing.{in_range_two, still_settled, renewed_settled, renewed_state, calls_of, calls_on, calls_stop}
 use Rattle.store.proofs.renews.migrated.Goals as goal

@@ -1,10 +1,6 @@
 use Rattle.std.proofs.Common.{◌∙◌, ◌-◌, ℕ, None, refl, sym, ap, subst, arith}
-use Rattle.disk.specs.Facts.{Lent}
-use Rattle.disk.specs.Moments.{called_fewer}
-use Rattle.store.specs.Commits.{IsUp}
-use Rattle.store.proofs.Called.{called_with}
-use Rattle.store.proofs.Found.{keeps_up}
-use Rattle.store.proofs.Renewing.{renewed_moment, four_sectors}
+use Rattle.disk.specs.{Facts.Lent, Moments.called_fewer}
+use Rattle.store.{specs.Commits.IsUp, proofs.{Called.called_with, Found.keeps_up, Renewing.{renewed_moment, four_sectors}}}
 use Rattle.store.proofs.renews.renewed.Goals as goal
 
 pub returns-in-Err-clause-any_moment : goal.returns-in-Err-clause-any_moment

@@ -1,7 +1,6 @@
 use Rattle.std.proofs.Common.{Ok, Err, refl, subst}
 use Rattle.board_model.specs.Shapes.{Size}
-use Rattle.susp.specs.Checks.{IsChecked}
-use Rattle.susp.proofs.Slept.{others_still, others_then, denied_steps, denied_alone, fallen_steps, fallen_alone}
+use Rattle.susp.{specs.Checks.IsChecked, proofs.Slept.{others_still, others_then, denied_steps, denied_alone, fallen_steps, fallen_alone}}
 use Rattle.susp.proofs.sleeps.suspend.Goals as goal
 
 pub returns-in-Err-clause-seat : goal.returns-in-Err-clause-seat

@@ -1,9 +1,7 @@
-use Rattle.std.proofs.Common.{refl, sym, ◌∙◌, ap, subst, inr, ⊎_elim}
-use Rattle.std.proofs.lemmas.Result.{err_from_is_err_and}
+use Rattle.std.proofs.{Common.{refl, sym, ◌∙◌, ap, subst, inr, ⊎_elim}, lemmas.Result.err_from_is_err_and}
 use Rattle.board_model.specs.Durable.{Consume}
 use Rattle.disk.specs.Facts.{LeavesSince}
-use Rattle.store.specs.Lives.{Life}
-use Rattle.store.specs.Views.{now_state, view_of}
+use Rattle.store.specs.{Lives.Life, Views.{now_state, view_of}}
 use Rattle.susp.specs.Wakes.{StoreIsLeft}
 use Rattle.susp.proofs.Woken.{answered_on, left_now, unloaded, unconsumed, unlike_a_load, unloaded_same, stops_at_load, stops_later}
 use Rattle.susp.proofs.wakes.wake_image.Goals as goal

@@ -1,6 +1,5 @@
 use Rattle.std.proofs.Common.{◌≡◌, ◌++◌, [], ◌∷◌, map, sym, ap, ◌∙◌, append_assoc, rules}
-use Rattle.tallies.specs.Seats.{IsSeatIn, harts_in, numbers_from, all_views}
-use Rattle.tallies.proofs.Seatings.{all_in_order, are_pop, is_some, last_seat}
+use Rattle.tallies.{specs.Seats.{IsSeatIn, harts_in, numbers_from, all_views}, proofs.Seatings.{all_in_order, are_pop, is_some, last_seat}}
 use Rattle.tallies.proofs.seats.join.Goals as goal
 
 pub unwrap-whole-requires : goal.unwrap-whole-requires

@@ -1,5 +1,4 @@
-use Rattle.std.proofs.Common.{Some, ap, arith, drop, length, refl, take, ◌++◌, ◌+◌, ◌<◌, ◌∙◌, ◌≡◌}
-use Rattle.std.proofs.lemmas.List.{take-append-drop}
+use Rattle.std.proofs.{Common.{Some, ap, arith, drop, length, refl, take, ◌++◌, ◌+◌, ◌<◌, ◌∙◌, ◌≡◌}, lemmas.List.take-append-drop}
 use Rattle.tallies.specs.Seats.{IsSeatIn, harts_in, one_by_one, views_by_seat, all_views}
 use Rattle.tallies.proofs.Seatings.{by_seat_push, all_push, are_push, one_rest, length_rest, length_all, by_seat_done, in_order}
 use Rattle.tallies.proofs.seats.split.Goals as goal

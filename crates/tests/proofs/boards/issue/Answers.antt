@@ -1,8 +1,5 @@
 use Rattle.std.proofs.Common.{◌∙◌, ap}
-use Rattle.board_model.specs.Durable.{ends_life}
-use Rattle.board_model.specs.Views.{change_of}
-use Rattle.board_model.specs.declared.durable.Command.{Command}
-use Rattle.board_model.proofs.Console.{ends_life-console}
+use Rattle.board_model.{specs.{Durable.ends_life, Views.change_of, declared.durable.Command.Command}, proofs.Console.ends_life-console}
 use Rattle.tests.proofs.boards.issue.Goals as goal
 
 pub apply-told-requires-after_bounds : goal.apply-told-requires-after_bounds

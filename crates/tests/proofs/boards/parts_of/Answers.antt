@@ -1,10 +1,7 @@
 use Rattle.std.proofs.Common.{◌∙◌, Option, Some, ap, sym, subst}
-use Rattle.board_model.specs.Durable.{DurableState}
-use Rattle.board_model.specs.Shapes.{Size}
-use Rattle.board.specs.Moments.{attempts_of}
-use Rattle.board.specs.Views.{machine_of}
-use Rattle.machine.specs.Machine.{Machine}
-use Rattle.machine.specs.Held.{IsHeld}
+use Rattle.board_model.specs.{Durable.DurableState, Shapes.Size}
+use Rattle.board.specs.{Moments.attempts_of, Views.machine_of}
+use Rattle.machine.specs.{Machine.Machine, Held.IsHeld}
 use Rattle.susp.specs.declared.buses.Doze.{Doze}
 use Rattle.store.specs.Lives.{Life}
 use Rattle.tests.specs.Begun.{IsBegun}

@@ -1,5 +1,4 @@
-use Rattle.ipi.specs.Pairs.{SameHarts}
-use Rattle.ipi.specs.Seating.{IsSeatOf, pending_view_of_seat}
+use Rattle.ipi.specs.{Pairs.SameHarts, Seating.{IsSeatOf, pending_view_of_seat}}
 use Rattle.tests.proofs.crowd.one_hart.Given as goal
 
 abbrev pub invariant-loop-round : goal.invariant-loop-round

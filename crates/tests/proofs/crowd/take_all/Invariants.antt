@@ -1,6 +1,5 @@
 use Rattle.std.proofs.Common.{ℕ, ◌<◌}
-use Rattle.ipi.specs.Pairs.{Sits}
-use Rattle.ipi.specs.Seating.{IsSeatOf, harts_of, pending_view_of_seat}
+use Rattle.ipi.specs.{Pairs.Sits, Seating.{IsSeatOf, harts_of, pending_view_of_seat}}
 use Rattle.tests.proofs.crowd.take_all.Given as goal
 
 abbrev pub invariant-loop-number : goal.invariant-loop-number

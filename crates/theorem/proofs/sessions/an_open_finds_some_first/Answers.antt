@@ -1,5 +1,4 @@
-use Rattle.std.proofs.lemmas.Result.{IfOk-weaker}
-use Rattle.std.proofs.Math.Logic.{∥∥₁_map}
+use Rattle.std.proofs.{lemmas.Result.IfOk-weaker, Math.Logic.∥∥₁_map}
 use Rattle.theorem.proofs.sessions.an_open_finds_some_first.Goals as goal
 
 pub returns : goal.returns

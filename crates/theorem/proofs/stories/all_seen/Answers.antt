@@ -1,9 +1,5 @@
-use Rattle.std.proofs.Common.{List, [], refl, sym, subst, arith}
-use Rattle.std.proofs.lemmas.List.{take_all}
-use Rattle.theorem.specs.Story.{Tells}
-use Rattle.theorem.specs.declared.asks.Asked.{Asked}
-use Rattle.theorem.specs.declared.asks.Seen.{Seen}
-use Rattle.theorem.proofs.Lists.{more}
+use Rattle.std.proofs.{Common.{List, [], refl, sym, subst, arith}, lemmas.List.take_all}
+use Rattle.theorem.{specs.{Story.Tells, declared.asks.{Asked.Asked, Seen.Seen}}, proofs.Lists.more}
 use Rattle.theorem.proofs.stories.all_seen.Goals as goal
 
 pub loop-ask-init : goal.loop-ask-init

@@ -1,7 +1,6 @@
 use Rattle.std.proofs.Common.{◌≡◌, ◌≤◌, length, take, vec_len, vec_capacity}
 use Rattle.simdisk.specs.contracts.device.SimDiskDisk.TheImpl as sim_disk
-use Rattle.theorem.specs.Story.{Now, Tells}
-use Rattle.theorem.specs.Told.{IsOff, IsAt}
+use Rattle.theorem.specs.{Story.{Now, Tells}, Told.{IsOff, IsAt}}
 use Rattle.theorem.proofs.stories.all_seen.Given as goal
 
 -- what was seen so far is a story of what was asked so far

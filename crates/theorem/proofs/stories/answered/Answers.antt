@@ -1,8 +1,6 @@
 use Rattle.std.proofs.Common.{sym, subst}
 use Rattle.store.specs.Views.{view_of}
-use Rattle.theorem.specs.Story.{Now}
-use Rattle.theorem.specs.Told.{IsOn, Answers}
-use Rattle.theorem.specs.declared.asks.Asked.{Asked}
+use Rattle.theorem.specs.{Story.Now, Told.{IsOn, Answers}, declared.asks.Asked.Asked}
 use Rattle.theorem.proofs.stories.answered.Goals as goal
 
 pub returns-in-Command : goal.returns-in-Command

@@ -1,8 +1,6 @@
 use Rattle.std.proofs.Common.{subst}
 use Rattle.store.specs.Views.{view_of}
-use Rattle.theorem.specs.Told.{IsAt}
-use Rattle.theorem.specs.declared.power.Power.{Power}
-use Rattle.theorem.proofs.Opens.{armed_off, armed_on}
+use Rattle.theorem.{specs.{Told.IsAt, declared.power.Power.Power}, proofs.Opens.{armed_off, armed_on}}
 use Rattle.theorem.proofs.stories.armed.Goals as goal
 
 pub returns-in-Off : goal.returns-in-Off

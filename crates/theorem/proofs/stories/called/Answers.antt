@@ -1,7 +1,5 @@
 use Rattle.std.proofs.Common.{subst}
-use Rattle.theorem.specs.Told.{IsAt}
-use Rattle.theorem.specs.declared.power.Power.{Power}
-use Rattle.theorem.proofs.Steps.{as_step, not_open}
+use Rattle.theorem.{specs.{Told.IsAt, declared.power.Power.Power}, proofs.Steps.{as_step, not_open}}
 use Rattle.theorem.proofs.stories.called.Goals as goal
 
 pub returns-in-Off : goal.returns-in-Off

@@ -1,9 +1,7 @@
 use Rattle.std.proofs.Common.{subst}
 use Rattle.simdisk.specs.contracts.device.SimDiskDisk.TheImpl as sim_disk
 use Rattle.store.specs.Views.{view_of}
-use Rattle.theorem.specs.Told.{IsAt}
-use Rattle.theorem.specs.declared.power.Power.{Power}
-use Rattle.theorem.proofs.Opens.{as_off, parted}
+use Rattle.theorem.{specs.{Told.IsAt, declared.power.Power.Power}, proofs.Opens.{as_off, parted}}
 use Rattle.theorem.proofs.stories.left.Goals as goal
 
 pub returns-in-Off-clause-off : goal.returns-in-Off-clause-off

@@ -1,8 +1,5 @@
 use Rattle.std.proofs.Common.{refl, sym, subst}
-use Rattle.theorem.specs.Story.{Now, Step}
-use Rattle.theorem.specs.Told.{IsAt, unpowered, arming, cut_off}
-use Rattle.theorem.specs.declared.asks.Asked.{Asked}
-use Rattle.theorem.specs.declared.asks.Seen.TheVariants.{Done}
+use Rattle.theorem.specs.{Story.{Now, Step}, Told.{IsAt, unpowered, arming, cut_off}, declared.asks.{Asked.Asked, Seen.TheVariants.Done}}
 use Rattle.theorem.proofs.Opens.{opens_from}
 use Rattle.theorem.proofs.stories.step.Goals as goal
 

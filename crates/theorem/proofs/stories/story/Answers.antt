@@ -1,7 +1,6 @@
 use Rattle.std.proofs.Common.{◌∙◌}
 use Rattle.disk.specs.FaultState.{no_fault}
-use Rattle.theorem.specs.Story.{begin}
-use Rattle.theorem.proofs.Opens.{begins, ends_at_rest}
+use Rattle.theorem.{specs.Story.begin, proofs.Opens.{begins, ends_at_rest}}
 use Rattle.theorem.proofs.stories.story.Goals as goal
 
 pub returns-in-Ok-clause-told : goal.returns-in-Ok-clause-told

@@ -1,5 +1,4 @@
-use Rattle.theorem.specs.Told.{unpowered}
-use Rattle.theorem.proofs.Opens.{begins_at_rest, ends_at_rest}
+use Rattle.theorem.{specs.Told.unpowered, proofs.Opens.{begins_at_rest, ends_at_rest}}
 use Rattle.theorem.proofs.stories.story_on.Goals as goal
 
 pub returns-clause-told : goal.returns-clause-told

@@ -1,10 +1,7 @@
 use Rattle.std.proofs.Common.{sym, subst}
 use Rattle.board_model.specs.Durable.{Suspend}
 use Rattle.store.specs.Views.{view_of}
-use Rattle.theorem.specs.Story.{Now, Commands}
-use Rattle.theorem.specs.Told.{IsOn}
-use Rattle.theorem.specs.declared.asks.Seen.{Seen}
-use Rattle.theorem.proofs.Told.{suspends}
+use Rattle.theorem.{specs.{Story.{Now, Commands}, Told.IsOn, declared.asks.Seen.Seen}, proofs.Told.suspends}
 use Rattle.theorem.proofs.stories.suspension_seen.Goals as goal
 
 pub returns : goal.returns

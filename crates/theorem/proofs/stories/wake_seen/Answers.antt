@@ -1,5 +1,4 @@
-use Rattle.std.proofs.Common.{◌∙◌, sym, ap, subst, length, ⊎_elim}
-use Rattle.std.proofs.lemmas.List.{length-replicate}
+use Rattle.std.proofs.{Common.{◌∙◌, sym, ap, subst, length, ⊎_elim}, lemmas.List.length-replicate}
 use Rattle.board_model.specs.Shapes.{IsSize, ram_bytes_of}
 use Rattle.store.specs.Views.{device_of, size_of_store, now_state, view_of}
 use Rattle.theorem.proofs.Loads.{woke, not_woken, not_consumed, whole_now}

@@ -1,16 +1,10 @@
 use Rattle.std.proofs.Common.{◌≡◌, Bool, List, refl, sym, ap, ◌∙◌, subst, inl, inr}
-use Rattle.hsm.specs.Words.{HartView}
-use Rattle.hsm.specs.declared.view.Stage.TheVariants.{Running}
-use Rattle.hsm.specs.Rule.{stands}
-use Rattle.hsm.specs.States.{HartState}
-use Rattle.hsm.specs.Seating.{harts_in}
-use Rattle.hsm.specs.Views.{listed}
-use Rattle.hsm.specs.declared.state.State.{State as Code}
+use Rattle.hsm.specs.{Words.HartView, declared.view.Stage.TheVariants.Running, Rule.stands, States.HartState, Seating.harts_in}
+use Rattle.hsm.specs.{Views.listed, declared.{state.{State.{State as Code}}}}
 use Rattle.sbi_calls.specs.Both.{harts_of_both, known, views, IsTable}
 use Rattle.turns.specs.declared.readies.Ready.TheVariants as readies
-use Rattle.turns.specs.Turns.{begun_by}
+use Rattle.turns.specs.{Turns.begun_by, Own.GoesOwn}
 use Rattle.turns.proofs.Begun.{sits, runs, suspends, is_out, gives_then, is_started, is_suspended, is_stopped, named_pending}
-use Rattle.turns.specs.Own.{GoesOwn}
 use Rattle.turns.proofs.begins.begin.Goals as goal
 
 pub status-harts-requires-clause-acts : goal.status-harts-requires-clause-acts

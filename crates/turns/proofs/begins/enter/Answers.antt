@@ -1,12 +1,7 @@
 use Rattle.std.proofs.Common.{List, refl, sym, ap, ◌∙◌, subst}
-use Rattle.hsm.specs.Words.{HartView}
-use Rattle.hsm.specs.declared.view.Stage.TheVariants.{Out}
-use Rattle.hsm.specs.Rule.{stands}
-use Rattle.hsm.specs.Seating.{harts_in}
-use Rattle.hsm.specs.Views.{listed}
+use Rattle.hsm.specs.{Words.HartView, declared.view.Stage.TheVariants.Out, Rule.stands, Seating.harts_in, Views.listed}
 use Rattle.sbi_calls.specs.Both.{TableState, IsTable, harts_of_both, known}
-use Rattle.turns.specs.Turns.{after_take}
-use Rattle.turns.proofs.Begun.{gives_then, entered_ready, entered_table, then_enters}
+use Rattle.turns.{specs.Turns.after_take, proofs.Begun.{gives_then, entered_ready, entered_table, then_enters}}
 use Rattle.turns.proofs.begins.enter.Goals as goal
 
 pub enter_taken-requires : goal.enter_taken-requires

@@ -1,14 +1,8 @@
-use Rattle.std.proofs.Common.{◌≡◌, ℕ, List, Option, refl, sym, ap, ◌∙◌, subst}
-use Rattle.std.specs.Prelude.{slice_set, MatchOption}
-use Rattle.hsm.specs.States.{HartState, started, begin}
-use Rattle.hsm.specs.Seating.{harts_in}
-use Rattle.hsm.specs.Calls.{EntersAs, FindsNone}
-use Rattle.hsm.specs.Views.{listed, AreStates}
-use Rattle.sbi_calls.specs.declared.tables.Seats.{Seats}
-use Rattle.sbi_calls.specs.Both.{harts_of_both, harts_known}
+use Rattle.std.{proofs.Common.{◌≡◌, ℕ, List, Option, refl, sym, ap, ◌∙◌, subst}, specs.Prelude.{slice_set, MatchOption}}
+use Rattle.hsm.specs.{States.{HartState, started, begin}, Seating.harts_in, Calls.{EntersAs, FindsNone}, Views.{listed, AreStates}}
+use Rattle.sbi_calls.specs.{declared.tables.Seats.Seats, Both.{harts_of_both, harts_known}}
 use Rattle.turns.specs.declared.readies.Ready.TheVariants as readies
-use Rattle.turns.specs.Turns.{begun_by, IsOutside}
-use Rattle.turns.proofs.Begun.{none_is, some_is}
+use Rattle.turns.{specs.Turns.{begun_by, IsOutside}, proofs.Begun.{none_is, some_is}}
 use Rattle.turns.proofs.begins.enter_taken.Goals as goal
 
 pub returns-in-None-clause-alone : goal.returns-in-None-clause-alone

@@ -1,6 +1,5 @@
-use Rattle.ipi.specs.Seating.{pending_view_of_seat}
+use Rattle.ipi.specs.{Seating.{pending_view_of_seat, harts_of as pair_harts}}
 use Rattle.sbi_calls.specs.Both.{harts_of_both}
-use Rattle.ipi.specs.Seating.{harts_of as pair_harts}
 use Rattle.turns.proofs.Begun.{looked}
 use Rattle.std.proofs.Common.{refl}
 use Rattle.turns.proofs.begins.look.Goals as goal

@@ -1,6 +1,5 @@
 use Rattle.std.proofs.Common.{◌<◌, ℕ, refl, sym, subst}
-use Rattle.ipi.specs.Seating.{pending_view_of_seat, harts_of as pair_harts}
-use Rattle.ipi.specs.Views.{ArePairs, pair_at, pairs_without}
+use Rattle.ipi.specs.{Seating.{pending_view_of_seat, harts_of as pair_harts}, Views.{ArePairs, pair_at, pairs_without}}
 use Rattle.turns.proofs.begins.take.Goals as goal
 
 pub returns-clause-alone : goal.returns-clause-alone

@@ -1,12 +1,8 @@
 use Rattle.std.proofs.Common.{◌≡◌, Bool, true, refl, sym, ◌∙◌, subst}
-use Rattle.hsm.specs.States.{HartState, started}
-use Rattle.hsm.specs.Views.{listed}
-use Rattle.sbi_calls.specs.declared.tables.Seats.{Seats}
-use Rattle.sbi_calls.specs.Both.{harts_of_both, known, IsTable}
+use Rattle.hsm.specs.{States.{HartState, started}, Views.listed}
+use Rattle.sbi_calls.specs.{declared.tables.Seats.Seats, Both.{harts_of_both, known, IsTable}}
 use Rattle.turns.specs.declared.readies.Ready.TheVariants as readies
-use Rattle.turns.specs.Turns.{begun_by, woken_turn}
-use Rattle.turns.proofs.Begun.{gives_then}
-use Rattle.turns.specs.Own.{LooksOwn}
+use Rattle.turns.{specs.{Turns.{begun_by, woken_turn}, Own.LooksOwn}, proofs.Begun.gives_then}
 use Rattle.turns.proofs.begins.wake.Goals as goal
 
 pub returns-then-wakes-clause-gives : goal.returns-then-wakes-clause-gives

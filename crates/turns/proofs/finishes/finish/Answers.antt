@@ -1,9 +1,7 @@
 use Rattle.std.proofs.Common.{ℕ, refl, sym, ap, subst, inl, inr}
 use Rattle.ipi.specs.Pairs.{Sits}
 use Rattle.sbi_calls.specs.Both.{known, pair_crew, IsTable}
-use Rattle.turns.specs.Own.{TakesOwn}
-use Rattle.turns.specs.Turns.{after_take}
-use Rattle.turns.proofs.OneTurn.{is_low, gives_as}
+use Rattle.turns.{specs.{Own.TakesOwn, Turns.after_take}, proofs.OneTurn.{is_low, gives_as}}
 use Rattle.turns.proofs.finishes.finish.Goals as goal
 
 pub returns-in-Next-clause-alone : goal.returns-in-Next-clause-alone

@@ -1,6 +1,5 @@
 use Rattle.std.proofs.Common.{ℕ, refl, subst}
-use Rattle.sbi_calls.specs.Both.{known}
-use Rattle.sbi_calls.specs.declared.tables.Seats.{Seats}
+use Rattle.sbi_calls.specs.{Both.known, declared.tables.Seats.Seats}
 use Rattle.turns.specs.Own.{ResumesOwn}
 use Rattle.turns.proofs.resumes.resume.Goals as goal
 

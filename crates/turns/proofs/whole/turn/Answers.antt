@@ -1,8 +1,6 @@
 use Rattle.std.proofs.Common.{ℕ, List, subst}
 use Rattle.sbi_calls.specs.Both.{known}
-use Rattle.turns.specs.Own.{TurnOwn}
-use Rattle.turns.specs.Turns.{TurnsAlone}
-use Rattle.turns.proofs.OneTurn.{at_hand}
+use Rattle.turns.{specs.{Own.TurnOwn, Turns.TurnsAlone}, proofs.OneTurn.at_hand}
 use Rattle.turns.proofs.whole.turn.Goals as goal
 
 pub turn_by_bus-requires-clause-tables : goal.turn_by_bus-requires-clause-tables

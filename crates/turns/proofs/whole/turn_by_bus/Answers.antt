@@ -3,9 +3,7 @@ use Rattle.hart.specs.State.{ArchState}
 use Rattle.hsm.specs.declared.view.Stage.TheVariants.{Running}
 use Rattle.sbi_calls.specs.Both.{GivesBack, Acts}
 use Rattle.turns.specs.declared.readies.Ready.TheVariants as readies
-use Rattle.turns.specs.Turns.{Rests}
-use Rattle.turns.proofs.Asking.{asks}
-use Rattle.turns.proofs.Begun.{gives_then}
+use Rattle.turns.{specs.Turns.Rests, proofs.{Asking.asks, Begun.gives_then}}
 use Rattle.turns.proofs.OneTurn.{rests_as, rests_by, gives_as, is_low, comes, entered, idle_turn, woke_turn, enters_turn, steps_turn}
 use Rattle.turns.proofs.whole.turn_by_bus.Goals as goal
 

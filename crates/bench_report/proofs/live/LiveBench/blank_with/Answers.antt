@@ -1,5 +1,4 @@
-use Rattle.std.proofs.Common.{refl, sym, ◌∙◌, ap, arith, length, replicate}
-use Rattle.std.proofs.lemmas.List.{length-replicate}
+use Rattle.std.proofs.{Common.{refl, sym, ◌∙◌, ap, arith, length, replicate}, lemmas.List.length-replicate}
 use Rattle.bench_report.proofs.Sides.{zero_sides}
 use Rattle.bench_report.proofs.live.LiveBench.blank_with.Goals as goal
 

@@ -1,8 +1,7 @@
 use Rattle.std.proofs.Common.{◌∙◌, inl, inr, refl, sym, subst}
-use Rattle.bench_report.specs.declared.power.Power.{Power}
-use Rattle.bench_report.specs.Agree.{Agrees}
-use Rattle.script_lang.specs.declared.line.Line.TheVariants as lines
+use Rattle.bench_report.specs.{declared.power.Power.Power, Agree.Agrees}
 use Rattle.bench_report.proofs.Lives.{did_from, lost_did, lost_row, made_did, made_row, stays, still_row}
+use Rattle.script_lang.specs.declared.line.Line.TheVariants as lines
 use Rattle.bench_report.proofs.live.LiveBench.turns.Goals as goal
 
 pub returns-then-is_still_on-clause-reported : goal.returns-then-is_still_on-clause-reported

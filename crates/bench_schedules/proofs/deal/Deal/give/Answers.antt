@@ -1,7 +1,5 @@
-use Rattle.std.proofs.Common.{◌≡◌, ◌-◌, ◌≤◌, ℕ, slice_set, slice_index_or, refl, subst, arith}
-use Rattle.bench_schedules.specs.declared.deal.Deal.{Deal}
-use Rattle.bench_schedules.proofs.Deals.{gives}
-use Rattle.std.proofs.lemmas.Result.{IfOk-from_err}
+use Rattle.std.proofs.{Common.{◌≡◌, ◌-◌, ◌≤◌, ℕ, slice_set, slice_index_or, refl, subst, arith}, lemmas.Result.IfOk-from_err}
+use Rattle.bench_schedules.{specs.declared.deal.Deal.Deal, proofs.Deals.gives}
 use Rattle.bench_schedules.proofs.deal.Deal.give.Goals as goal
 
 pub returns-clause-goes_on : goal.returns-clause-goes_on

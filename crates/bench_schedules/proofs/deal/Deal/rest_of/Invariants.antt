@@ -1,6 +1,5 @@
 use Rattle.std.proofs.Common.{◌≡◌, ℕ}
-use Rattle.bench_schedules.specs.Orders.{left_of}
-use Rattle.bench_schedules.specs.Deals.{GoesOn}
+use Rattle.bench_schedules.specs.{Orders.left_of, Deals.GoesOn}
 use Rattle.bench_schedules.proofs.deal.Deal.rest_of.Given as goal
 
 abbrev pub invariant-loop-self : goal.invariant-loop-self

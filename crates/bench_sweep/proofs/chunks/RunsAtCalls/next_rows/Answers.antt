@@ -1,5 +1,4 @@
-use Rattle.std.proofs.lemmas.Result.{IfOk-weaker}
-use Rattle.std.proofs.Common.{arith}
+use Rattle.std.proofs.{lemmas.Result.IfOk-weaker, Common.arith}
 use Rattle.bench_sweep.proofs.chunks.RunsAtCalls.next_rows.Goals as goal
 
 pub run_to-requires-clause-sits : goal.run_to-requires-clause-sits

@@ -1,9 +1,5 @@
-use Rattle.std.proofs.Common.{◌+◌, refl}
-use Rattle.std.proofs.lemmas.Result.{IfOk-weaker, IfOk-from_err}
-use Rattle.bench_sweep.proofs.Along.{along, came_again}
-use Rattle.bench_sweep.proofs.Made.{rest_is}
-use Rattle.bench_sweep.proofs.Reported.{swept_take, swept_drop}
-use Rattle.bench_sweep.proofs.Rowed.{judged_at}
+use Rattle.std.proofs.{Common.{◌+◌, refl}, lemmas.Result.{IfOk-weaker, IfOk-from_err}}
+use Rattle.bench_sweep.proofs.{Along.{along, came_again}, Made.rest_is, Reported.{swept_take, swept_drop}, Rowed.judged_at}
 use Rattle.bench_sweep.proofs.chunks.RunsAtCalls.rows_at.Goals as goal
 
 pub run_at_point-requires-clause-lines : goal.run_at_point-requires-clause-lines

@@ -1,11 +1,8 @@
-use Rattle.std.proofs.Common.{◌≡◌, ◌≤◌, ◌∷◌, ◌++◌, [], List, length, ap, sym, subst, rules, arith}
-use Rattle.std.proofs.lemmas.List.{length-append}
+use Rattle.std.proofs.{Common.{◌≡◌, ◌≤◌, ◌∷◌, ◌++◌, [], List, length, ap, sym, subst, rules, arith}, lemmas.List.length-append}
+use Rattle.std.proofs.lemmas.Result.{IfOk-from_err}
 use Rattle.bench_report.specs.Happens.{unpowered}
 use Rattle.crew.specs.Handed.{AreRows}
-use Rattle.bench_sweep.specs.Reports.{IsOfCall}
-use Rattle.bench_sweep.specs.declared.judging.PointRows.{PointRows}
-use Rattle.bench_sweep.proofs.Along.{rows_more}
-use Rattle.std.proofs.lemmas.Result.{IfOk-from_err}
+use Rattle.bench_sweep.{specs.{Reports.IsOfCall, declared.judging.PointRows.PointRows}, proofs.Along.rows_more}
 use Rattle.bench_sweep.proofs.chunks.RunsAtCalls.rows_of.Goals as goal
 
 pub loop-done-init : goal.loop-done-init

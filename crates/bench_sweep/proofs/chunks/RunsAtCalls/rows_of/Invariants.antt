@@ -1,10 +1,7 @@
 use Rattle.std.proofs.Common.{◌≡◌, ◌≤◌, ◌-◌, length}
-use Rattle.bench_report.specs.Bench.{Bench}
-use Rattle.bench_report.specs.Happens.{unpowered}
+use Rattle.bench_report.specs.{Bench.Bench, Happens.unpowered}
 use Rattle.crew.specs.Handed.{AreRows}
-use Rattle.bench_sweep.specs.Reports.{IsOfCall}
-use Rattle.bench_sweep.specs.Along.{CameTold}
-use Rattle.bench_sweep.specs.Runs.{RunsAt}
+use Rattle.bench_sweep.specs.{Reports.IsOfCall, Along.CameTold, Runs.RunsAt}
 use Rattle.bench_sweep.proofs.chunks.RunsAtCalls.rows_of.Given as goal
 
 -- the moment is one of the lines' run, and the rows of the calls so far are made

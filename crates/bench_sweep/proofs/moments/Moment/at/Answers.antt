@@ -1,9 +1,7 @@
-use Rattle.std.proofs.Common.{[], ◌∙◌, ap, refl, sym, arith}
-use Rattle.std.proofs.lemmas.List.{append-nil}
+use Rattle.std.proofs.{Common.{[], ◌∙◌, ap, refl, sym, arith}, lemmas.List.append-nil}
 use Rattle.simdisk.specs.declared.SimDisk.{SimDisk}
 use Rattle.bench_report.specs.Happens.{unpowered}
-use Rattle.bench_sweep.specs.Points.{calls_of}
-use Rattle.bench_sweep.specs.declared.ledgers.RunLedger.{RunLedger}
+use Rattle.bench_sweep.specs.{Points.calls_of, declared.ledgers.RunLedger.RunLedger}
 use Rattle.bench_sweep.proofs.moments.Moment.at.Goals as goal
 
 pub returns-clause-came : goal.returns-clause-came

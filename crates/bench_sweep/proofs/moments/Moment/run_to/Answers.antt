@@ -1,7 +1,5 @@
 use Rattle.std.proofs.Common.{refl, sym, ◌∙◌}
-use Rattle.bench_sweep.proofs.Along.{came_on}
-use Rattle.bench_sweep.proofs.Left.{unstruck}
-use Rattle.bench_sweep.proofs.Reported.{swept_take, swept_drop}
+use Rattle.bench_sweep.proofs.{Along.came_on, Left.unstruck, Reported.{swept_take, swept_drop}}
 use Rattle.bench_sweep.proofs.moments.Moment.run_to.Goals as goal
 
 pub run_lines-requires-clause-calm : goal.run_lines-requires-clause-calm

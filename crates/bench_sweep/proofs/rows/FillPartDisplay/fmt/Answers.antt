@@ -1,5 +1,4 @@
-use Rattle.std.proofs.Common.{◌≡◌, ◌<◌, [], ◌∷◌, Some, ap, arith}
-use Rattle.std.specs.Fmt.{styled_digits_output}
+use Rattle.std.{proofs.Common.{◌≡◌, ◌<◌, [], ◌∷◌, Some, ap, arith}, specs.Fmt.styled_digits_output}
 use Rattle.simdisk.specs.declared.fill.Fill.TheVariants.{Byte}
 use Rattle.hex.specs.Hex.{encode_lower}
 use Rattle.bench_sweep.proofs.Spelled.{padded_byte, fill_part-byte}

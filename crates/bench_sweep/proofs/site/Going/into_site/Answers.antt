@@ -1,6 +1,5 @@
 use Rattle.std.proofs.Common.{refl}
-use Rattle.bench_sweep.proofs.Left.{off_runs}
-use Rattle.bench_sweep.proofs.Took.{disk_is}
+use Rattle.bench_sweep.proofs.{Left.off_runs, Took.disk_is}
 use Rattle.bench_sweep.proofs.site.Going.into_site.Goals as goal
 
 pub returns-clause-runs : goal.returns-clause-runs

@@ -1,6 +1,5 @@
 use Rattle.std.proofs.Common.{◌∙◌, sym}
-use Rattle.bench_sweep.specs.declared.site.Going.{Going}
-use Rattle.bench_sweep.proofs.Left.{said_runs}
+use Rattle.bench_sweep.{specs.declared.site.Going.Going, proofs.Left.said_runs}
 use Rattle.bench_sweep.proofs.site.Going.run_line.Goals as goal
 
 pub returns : goal.returns

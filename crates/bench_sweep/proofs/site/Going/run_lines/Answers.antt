@@ -1,7 +1,5 @@
 use Rattle.std.proofs.Common.{true, false, refl, sym, ◌∙◌, ◌+◌, ℕ, subst, take, arith, ◌≡◌}
-use Rattle.bench_sweep.specs.Runs.{RanTo}
-use Rattle.bench_sweep.specs.Took.{RunTook, own_disk}
-use Rattle.bench_sweep.proofs.Ran.{ran_none, ran_more, ran_line, ran_calm}
+use Rattle.bench_sweep.{specs.{Runs.RanTo, Took.{RunTook, own_disk}}, proofs.Ran.{ran_none, ran_more, ran_line, ran_calm}}
 use Rattle.bench_sweep.proofs.Took.{moved_took, took_more}
 use Rattle.bench_sweep.proofs.site.Going.run_lines.Goals as goal
 

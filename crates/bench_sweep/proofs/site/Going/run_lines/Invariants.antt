@@ -1,9 +1,6 @@
 use Rattle.std.proofs.Common.{◌≡◌, take}
-use Rattle.bench_report.specs.Agree.{IsUnstruck}
-use Rattle.bench_report.specs.Bench.{Bench}
-use Rattle.bench_sweep.specs.Runs.{RunsCalm}
-use Rattle.bench_sweep.specs.Took.{RunTook, own_disk}
-use Rattle.bench_sweep.proofs.Ran.{Runs_to}
+use Rattle.bench_report.specs.{Agree.IsUnstruck, Bench.Bench}
+use Rattle.bench_sweep.{specs.{Runs.RunsCalm, Took.{RunTook, own_disk}}, proofs.Ran.Runs_to}
 use Rattle.bench_sweep.proofs.site.Going.run_lines.Given as goal
 
 abbrev pub invariant-loop-line : goal.invariant-loop-line

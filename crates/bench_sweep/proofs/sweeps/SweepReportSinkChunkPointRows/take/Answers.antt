@@ -1,9 +1,6 @@
-use Rattle.std.proofs.Common.{◌∙◌, List, refl, subst, arith}
-use Rattle.std.proofs.lemmas.List.{take_all}
+use Rattle.std.proofs.{Common.{◌∙◌, List, refl, subst, arith}, lemmas.List.take_all}
 use Rattle.crew.specs.Handed.{TakesAll}
-use Rattle.bench_sweep.specs.Reports.{TakesPoint}
-use Rattle.bench_sweep.specs.declared.judging.PointRows.{PointRows}
-use Rattle.bench_sweep.proofs.Along.{taken_more}
+use Rattle.bench_sweep.{specs.{Reports.TakesPoint, declared.judging.PointRows.PointRows}, proofs.Along.taken_more}
 use Rattle.bench_sweep.proofs.sweeps.SweepReportSinkChunkPointRows.take.Goals as goal
 
 pub loop-point-init : goal.loop-point-init

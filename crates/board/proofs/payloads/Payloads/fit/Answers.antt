@@ -1,6 +1,4 @@
-use Rattle.std.proofs.Common.{ℕ, List, ◌≤◌, length, map, subst, IsTrue}
-use Rattle.std.specs.List.{All}
-use Rattle.std.proofs.lemmas.List.Elements.{All-map}
+use Rattle.std.{proofs.{Common.{ℕ, List, ◌≤◌, length, map, subst, IsTrue}, lemmas.List.Elements.All-map}, specs.List.All}
 use Rattle.board_model.specs.Shapes.{ram_bytes_of}
 use Rattle.board.proofs.Mapped.{all_unmapped}
 use Rattle.board.proofs.payloads.Payloads.fit.Goals as goal

@@ -1,10 +1,6 @@
 use Rattle.std.proofs.Common.{refl}
 use Rattle.store.specs.Views.{found_state, now_state, view_of}
-use Rattle.board.proofs.CallsMade.{off_calls, on_calls}
-use Rattle.board.proofs.Doubted.{leaves_life}
-use Rattle.board.proofs.Off.{is_off}
-use Rattle.board.proofs.On.{is_on}
-use Rattle.board.proofs.Opened.{is_open}
+use Rattle.board.proofs.{CallsMade.{off_calls, on_calls}, Doubted.leaves_life, Off.is_off, On.is_on, Opened.is_open}
 use Rattle.board.proofs.powered.Board.power_on.Goals as goal
 
 -- what the open made takes a boot

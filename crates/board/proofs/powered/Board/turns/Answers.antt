@@ -1,8 +1,7 @@
 use Rattle.std.proofs.Common.{rules, ◌≡◌, ◌-◌, true, false, inl, inr, refl, ◌∙◌, arith}
 use Rattle.store.specs.Views.{fault_state_of}
 use Rattle.sbi.specs.Words.{ends}
-use Rattle.board.specs.Views.{store_of, machine_of}
-use Rattle.board.proofs.Rows.{first_row, more_row}
+use Rattle.board.{specs.Views.{store_of, machine_of}, proofs.Rows.{first_row, more_row}}
 use Rattle.board.proofs.powered.Board.turns.Goals as goal
 
 pub loop-made-init : goal.loop-made-init

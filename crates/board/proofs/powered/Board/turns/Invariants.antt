@@ -1,6 +1,5 @@
 use Rattle.std.proofs.Common.{◌≡◌, ◌≤◌, ◌-◌, length}
-use Rattle.board.specs.Views.{store_of, machine_of}
-use Rattle.board.proofs.Rows.{Reaches}
+use Rattle.board.{specs.Views.{store_of, machine_of}, proofs.Rows.Reaches}
 use Rattle.board.proofs.powered.Board.turns.Given as goal
 
 abbrev pub invariant-loop-made : goal.invariant-loop-made

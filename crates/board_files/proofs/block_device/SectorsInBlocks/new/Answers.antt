@@ -1,7 +1,5 @@
 use Rattle.std.proofs.Common.{ℕ, subst}
-use Rattle.board_files.specs.Blocks.{HoldsSectors, known_in}
-use Rattle.board_files.specs.Files.{Goes}
-use Rattle.board_files.proofs.InBlocks.{lies_in}
+use Rattle.board_files.{specs.{Blocks.{HoldsSectors, known_in}, Files.Goes}, proofs.InBlocks.lies_in}
 use Rattle.board_files.proofs.block_device.SectorsInBlocks.new.Goals as goal
 
 pub returns : goal.returns

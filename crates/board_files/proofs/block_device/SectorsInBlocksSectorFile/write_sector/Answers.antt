@@ -1,8 +1,5 @@
-use Rattle.std.proofs.Common.{◌∙◌, ap, rules}
-use Rattle.std.proofs.lemmas.List.{with_items_is, places}
-use Rattle.board_files.specs.Blocks.{sector_of, mark_at}
-use Rattle.board_files.proofs.InBlocks.{writes_in}
-use Rattle.board_files.proofs.BlockBytes.{reads_back}
+use Rattle.std.proofs.{Common.{◌∙◌, ap, rules}, lemmas.List.{with_items_is, places}}
+use Rattle.board_files.{specs.Blocks.{sector_of, mark_at}, proofs.{InBlocks.writes_in, BlockBytes.reads_back}}
 use Rattle.board_files.proofs.block_device.SectorsInBlocksSectorFile.write_sector.Goals as goal
 
 pub returns : goal.returns

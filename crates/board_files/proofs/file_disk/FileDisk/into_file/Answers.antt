@@ -1,7 +1,6 @@
 use Rattle.simdisk.specs.contracts.device.SimDiskDisk.TheImpl as sim_disk
 use Rattle.simdisk.specs.contracts.device.SimDiskDisk.TheImpl.Laws.{may_keep-law}
-use Rattle.board_files.specs.Beside.{facts_beside}
-use Rattle.board_files.proofs.Kept.{leaves_no_more, off_is_left, since_allowed}
+use Rattle.board_files.{specs.Beside.facts_beside, proofs.Kept.{leaves_no_more, off_is_left, since_allowed}}
 use Rattle.board_files.proofs.file_disk.FileDisk.into_file.Goals as goal
 
 pub returns-clause-now : goal.returns-clause-now

@@ -1,5 +1,4 @@
-use Rattle.std.proofs.Common.{rules, ap, length}
-use Rattle.std.proofs.lemmas.List.{with_items_is, places}
+use Rattle.std.proofs.{Common.{rules, ap, length}, lemmas.List.{with_items_is, places}}
 use Rattle.disk.specs.Facts.{Stays}
 use Rattle.simdisk.specs.contracts.device.SimDiskDisk.TheImpl as sim_disk
 use Rattle.board_files.proofs.Kept.{marks_joined, marks_moved, marks_from, kept_on, kept_moved, spares_joined}

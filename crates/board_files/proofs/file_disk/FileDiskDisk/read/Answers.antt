@@ -1,9 +1,7 @@
 use Rattle.std.proofs.Common.{ap, length, subst}
-use Rattle.disk.specs.Facts.{Stays}
-use Rattle.disk.specs.WriteLog.{WriteLog, Untouched, ranges}
+use Rattle.disk.specs.{Facts.Stays, WriteLog.{WriteLog, Untouched, ranges}}
 use Rattle.simdisk.specs.contracts.device.SimDiskDisk.TheImpl as sim_disk
-use Rattle.board_files.proofs.Beside.{call_beside}
-use Rattle.board_files.proofs.Kept.{marks_stay, kept_on, spares_all}
+use Rattle.board_files.proofs.{Beside.call_beside, Kept.{marks_stay, kept_on, spares_all}}
 use Rattle.board_files.proofs.file_disk.FileDiskDisk.read.Goals as goal
 
 pub returns-clause-called : goal.returns-clause-called

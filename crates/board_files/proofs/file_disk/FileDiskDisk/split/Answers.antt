@@ -1,6 +1,5 @@
 use Rattle.std.proofs.Common.{ap, length, subst}
-use Rattle.disk.specs.Facts.{Stays}
-use Rattle.disk.specs.WriteLog.{WriteLog, Untouched, ranges}
+use Rattle.disk.specs.{Facts.Stays, WriteLog.{WriteLog, Untouched, ranges}}
 use Rattle.simdisk.specs.contracts.device.SimDiskDisk.TheImpl as sim_disk
 use Rattle.board_files.proofs.Kept.{marks_stay, marks_lent, kept_on, spares_all, more_free}
 use Rattle.board_files.proofs.file_disk.FileDiskDisk.split.Goals as goal

@@ -1,5 +1,4 @@
-use Rattle.std.proofs.Common.{◌∙◌, rules, arith, ap, length}
-use Rattle.std.proofs.lemmas.List.{with_items_is, places}
+use Rattle.std.proofs.{Common.{◌∙◌, rules, arith, ap, length}, lemmas.List.{with_items_is, places}}
 use Rattle.disk.specs.Facts.{Stays}
 use Rattle.simdisk.specs.contracts.device.SimDiskDisk.TheImpl as sim_disk
 use Rattle.simdisk.specs.contracts.device.SimDiskDisk.TheImpl.Laws.{may_keep-law, counts_now-law}

@@ -1,5 +1,4 @@
-use Rattle.std.proofs.Common.{rules, ap, length}
-use Rattle.std.proofs.lemmas.List.{with_items_is, places}
+use Rattle.std.proofs.{Common.{rules, ap, length}, lemmas.List.{with_items_is, places}}
 use Rattle.disk.specs.WriteLog.{WriteLog}
 use Rattle.simdisk.specs.contracts.device.SimDiskDisk.TheImpl as sim_disk
 use Rattle.board_files.proofs.Beside.{call_beside}

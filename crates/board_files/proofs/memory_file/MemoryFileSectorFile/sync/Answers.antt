@@ -1,6 +1,5 @@
 use Rattle.std.proofs.Common.{◌∙◌, ap, ap₂}
-use Rattle.board_files.specs.Kept.{noted, synced_once}
-use Rattle.board_files.proofs.KeptFiles.{synced}
+use Rattle.board_files.{specs.Kept.{noted, synced_once}, proofs.KeptFiles.synced}
 use Rattle.board_files.proofs.memory_file.MemoryFileSectorFile.sync.Goals as goal
 
 pub returns-in_default : goal.returns-in_default

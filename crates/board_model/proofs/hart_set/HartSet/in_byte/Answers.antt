@@ -1,8 +1,5 @@
-use Rattle.std.proofs.Common.{◌≡◌, ℕ, ◌+◌, ◌*◌, ◌-◌, ◌/◌, ◌%◌, ◌^◌, ◌<◌, sym, ap, ◌∙◌, arith}
-use Rattle.std.specs.Int.{bit_at}
-use Rattle.std.proofs.lemmas.Nat.{pow_pos, div-add-mod'}
-use Rattle.std.proofs.lemmas.Nat.Bits.{bit_at_cat_low, bit_at_cat_high}
-use Rattle.std.proofs.Math.Nat.{mod-lt}
+use Rattle.std.{proofs.{Common.{◌≡◌, ℕ, ◌+◌, ◌*◌, ◌-◌, ◌/◌, ◌%◌, ◌^◌, ◌<◌, sym, ap, ◌∙◌, arith}, Math.Nat.mod-lt}, specs.Int.bit_at}
+use Rattle.std.proofs.lemmas.Nat.{pow_pos, div-add-mod', Bits.{bit_at_cat_low, bit_at_cat_high}}
 use Rattle.board_model.proofs.hart_set.HartSet.in_byte.Goals as goal
 
 -- the bits of a byte are those of the number from its place on

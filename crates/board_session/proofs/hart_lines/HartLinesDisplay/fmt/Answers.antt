@@ -1,8 +1,5 @@
-use Rattle.std.proofs.Common.{◌≡◌, ◌∙◌, ◌+◌, ◌<◌, ℕ, List, [], ◌∷◌, ◌++◌, length, take, get_or, ap, sym, rules}
-use Rattle.std.proofs.lemmas.Grind.{flat_map-append, put_two}
-use Rattle.std.proofs.lemmas.List.{append-nil, take_more}
-use Rattle.std.specs.Fmt.{HasWritten, IsPlainFormatter}
-use Rattle.std.specs.List.{flat_map}
+use Rattle.std.{proofs.Common.{◌≡◌, ◌∙◌, ◌+◌, ◌<◌, ℕ, List, [], ◌∷◌, ◌++◌, length, take, get_or, ap, sym, rules}, specs.List.flat_map}
+use Rattle.std.{proofs.lemmas.{Grind.{flat_map-append, put_two}, List.{append-nil, take_more}}, specs.Fmt.{HasWritten, IsPlainFormatter}}
 use Rattle.hart_threads.specs.declared.ends.HartEnd.{HartEnd}
 use Rattle.board_session.specs.HartTexts.{line_text}
 use Rattle.board_session.proofs.hart_lines.HartLinesDisplay.fmt.Goals as goal

@@ -1,5 +1,4 @@
-use Rattle.std.proofs.Common.{take}
-use Rattle.std.specs.Fmt.{HasWritten, IsPlainFormatter}
+use Rattle.std.{proofs.Common.take, specs.Fmt.{HasWritten, IsPlainFormatter}}
 use Rattle.board_session.specs.HartTexts.{lines_text}
 use Rattle.board_session.proofs.hart_lines.HartLinesDisplay.fmt.Given as goal
 

@@ -1,10 +1,7 @@
 use Rattle.std.proofs.Common.{◌<◌, ℕ, List, sym, subst}
 use Rattle.atomic_table.specs.Seated.{TableId}
-use Rattle.hsm.specs.Rule.{HasSteps}
-use Rattle.hsm.specs.Seating.{started_in}
-use Rattle.hsm.specs.Words.{HartView}
-use Rattle.ipi.specs.Ledger.{PendingView, HasSteps as HasRaises}
-use Rattle.ipi.specs.Seating.{all_pending_views, harts_of}
+use Rattle.hsm.specs.{Rule.HasSteps, Seating.started_in, Words.HartView}
+use Rattle.ipi.specs.{Ledger.{PendingView, HasSteps as HasRaises}, Seating.{all_pending_views, harts_of}}
 use Rattle.sbi_calls.specs.Both.{harts_of_both}
 use Rattle.tallies.specs.Seats.{AreSeats, IsSeatIn}
 use Rattle.board_session.proofs.seats_back.SeatsBack.join.Goals as goal

@@ -1,12 +1,8 @@
-use Rattle.std.proofs.Common.{◌∙◌, ◌++◌, ◌∷◌, [], List, Option, Some, arith, sym, ap, subst}
-use Rattle.std.proofs.lemmas.List.{append-nil}
+use Rattle.std.proofs.{Common.{◌∙◌, ◌++◌, ◌∷◌, [], List, Option, Some, arith, sym, ap, subst}, lemmas.List.append-nil}
 use Rattle.atomic_table.specs.declared.shared.Seat.{Seat}
-use Rattle.hsm.specs.Seating.{all_harts, harts_in}
-use Rattle.hsm.specs.Words.{HartSeatView, HartView}
-use Rattle.ipi.specs.Ledger.{PendingSeatView, PendingView}
-use Rattle.ipi.specs.Seating.{all_pending_views, pending_views_in}
-use Rattle.tallies.specs.Seats.{AreSeats, IsSeatIn}
-use Rattle.tallies.proofs.Seatings.{all_push, are_push}
+use Rattle.hsm.specs.{Seating.{all_harts, harts_in}, Words.{HartSeatView, HartView}}
+use Rattle.ipi.specs.{Ledger.{PendingSeatView, PendingView}, Seating.{all_pending_views, pending_views_in}}
+use Rattle.tallies.{specs.Seats.{AreSeats, IsSeatIn}, proofs.Seatings.{all_push, are_push}}
 use Rattle.board_session.proofs.seats_back.SeatsBack.push.Goals as goal
 
 pub invariant_of-self : goal.invariant_of-self

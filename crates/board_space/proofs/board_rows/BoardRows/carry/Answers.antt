@@ -1,15 +1,8 @@
 use Rattle.std.proofs.Common.{rules, ℕ, [], ◌∷◌, ◌++◌, ◌≡◌, ◌+◌, ◌≤◌, ◌∙◌, List, length, length-append, refl, ap, arith, subst, sym}
 use Rattle.std.specs.Prelude.{slice_index}
-use Rattle.board_space.specs.Carried.{AreLearned, AreSameRecords, AreSameWords}
-use Rattle.board_space.specs.Layouts.{tracked_of}
-use Rattle.board_space.specs.Records.{IsAt}
-use Rattle.board_space.specs.Rows.{Extends}
-use Rattle.board_space.specs.Tracked.{segment_count}
-use Rattle.board_space.specs.declared.board_rows.BoardRows.{BoardRows}
-use Rattle.board_space.proofs.Carried.{stands_carried}
-use Rattle.board_space.proofs.Numbers.{added_at, extends_more}
-use Rattle.board_space.proofs.Remembered.{learned_on, same_first}
-use Rattle.board_space.proofs.Telling.{stands_stays}
+use Rattle.board_space.specs.{Carried.{AreLearned, AreSameRecords, AreSameWords}, Layouts.tracked_of, Records.IsAt, Rows.Extends}
+use Rattle.board_space.{specs.{Tracked.segment_count, declared.board_rows.BoardRows.BoardRows}, proofs.Carried.stands_carried}
+use Rattle.board_space.proofs.{Numbers.{added_at, extends_more}, Remembered.{learned_on, same_first}, Telling.stands_stays}
 use Rattle.board_space.proofs.board_rows.BoardRows.carry.Goals as goal
 
 pub returns-clause-stands : goal.returns-clause-stands

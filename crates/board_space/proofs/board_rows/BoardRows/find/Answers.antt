@@ -1,9 +1,5 @@
 use Rattle.std.proofs.Common.{ℕ, ◌≡◌, ◌+◌, ◌<◌, List, length, ap, subst, sym, true}
-use Rattle.board_space.specs.Carried.{AreFound}
-use Rattle.board_space.specs.Layouts.{tracked_of}
-use Rattle.board_space.specs.Rows.{Extends}
-use Rattle.board_space.specs.Tracked.{segment_count}
-use Rattle.board_space.proofs.Carried.{stands_carried}
+use Rattle.board_space.{specs.{Carried.AreFound, Layouts.tracked_of, Rows.Extends, Tracked.segment_count}, proofs.Carried.stands_carried}
 use Rattle.board_space.proofs.Remembered.{same_first}
 use Rattle.board_space.proofs.board_rows.BoardRows.find.Goals as goal
 

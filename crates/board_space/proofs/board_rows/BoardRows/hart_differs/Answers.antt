@@ -1,10 +1,8 @@
-use Rattle.std.proofs.Common.{ℕ, ◌≡◌, ◌+◌, ◌∙◌, ap, sym, subst}
-use Rattle.std.specs.Prelude.{slice_index}
+use Rattle.std.{proofs.Common.{ℕ, ◌≡◌, ◌+◌, ◌∙◌, ap, sym, subst}, specs.Prelude.slice_index}
 use Rattle.hart.specs.State.{ArchState}
 use Rattle.machine.specs.Machine.{Machine, hart_at}
 use Rattle.model_board.specs.LeftOut.{HartFor}
-use Rattle.board_space.specs.Records.{IsAt}
-use Rattle.board_space.proofs.Differing.{same_read, same_pending, same_hart}
+use Rattle.board_space.{specs.Records.IsAt, proofs.Differing.{same_read, same_pending, same_hart}}
 use Rattle.board_space.proofs.board_rows.BoardRows.hart_differs.Goals as goal
 
 pub returns-then-state_differs : goal.returns-then-state_differs

@@ -1,10 +1,8 @@
-use Rattle.std.proofs.Common.{ℕ, List, ◌≡◌, ◌∙◌, ◌+◌, ◌<◌, length, sym, ap, subst}
-use Rattle.std.specs.Prelude.{slice_index}
+use Rattle.std.{proofs.Common.{ℕ, List, ◌≡◌, ◌∙◌, ◌+◌, ◌<◌, length, sym, ap, subst}, specs.Prelude.slice_index}
 use Rattle.board_model.specs.Shapes.{Size}
 use Rattle.machine.specs.Machine.{Machine}
 use Rattle.model_board.specs.Plain.{Sized}
-use Rattle.board_space.specs.Rows.{AreHarts, AreSegments}
-use Rattle.board_space.proofs.Putting.{known_segments, is_board}
+use Rattle.board_space.{specs.Rows.{AreHarts, AreSegments}, proofs.Putting.{known_segments, is_board}}
 use Rattle.board_space.proofs.board_rows.BoardRows.put.Goals as goal
 
 pub put_harts-requires-clause-many : goal.put_harts-requires-clause-many

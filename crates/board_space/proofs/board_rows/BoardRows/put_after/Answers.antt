@@ -1,12 +1,10 @@
-use Rattle.std.proofs.Common.{rules, ℕ, List, ◌≡◌, ◌∙◌, ◌+◌, ◌<◌, length, sym, ap, subst}
-use Rattle.std.specs.Prelude.{slice_index}
+use Rattle.std.{proofs.Common.{rules, ℕ, List, ◌≡◌, ◌∙◌, ◌+◌, ◌<◌, length, sym, ap, subst}, specs.Prelude.slice_index}
 use Rattle.board_model.specs.Shapes.{Size}
 use Rattle.hart.specs.State.{ArchState}
 use Rattle.machine.specs.Machine.{Machine}
 use Rattle.model_board.specs.Plain.{Sized}
 use Rattle.model_board.specs.declared.powers.Power.TheVariants as powers
-use Rattle.board_space.specs.Rows.{AreHarts, AreSegments}
-use Rattle.board_space.proofs.Putting.{known_segments, words_within, is_board}
+use Rattle.board_space.{specs.Rows.{AreHarts, AreSegments}, proofs.Putting.{known_segments, words_within, is_board}}
 use Rattle.board_space.proofs.PutOver.{there_harts, there_segments}
 use Rattle.board_space.proofs.board_rows.BoardRows.put_after.Goals as goal
 

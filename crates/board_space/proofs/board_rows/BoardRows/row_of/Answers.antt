@@ -1,10 +1,6 @@
-use Rattle.std.proofs.Common.{rules, ℕ, List, [], ◌∷◌, ◌≡◌, ◌∙◌, ◌<◌, length, refl, sym, ap, subst}
-use Rattle.std.specs.Prelude.{slice_index}
+use Rattle.std.{proofs.Common.{rules, ℕ, List, [], ◌∷◌, ◌≡◌, ◌∙◌, ◌<◌, length, refl, sym, ap, subst}, specs.Prelude.slice_index}
 use Rattle.machine.specs.Machine.{Machine}
-use Rattle.board_space.specs.Layouts.{tracked_of}
-use Rattle.board_space.specs.Rows.{AreSegments}
-use Rattle.board_space.specs.Tracked.{AreWithin}
-use Rattle.board_space.specs.declared.board_rows.BoardRows.{BoardRows}
+use Rattle.board_space.specs.{Layouts.tracked_of, Rows.AreSegments, Tracked.AreWithin, declared.board_rows.BoardRows.BoardRows}
 use Rattle.board_space.proofs.Telling.{AreTold, none_fits, seen_within, stands_stays, stood, told_long, told_rested, told_harts, told_segments}
 use Rattle.board_space.proofs.board_rows.BoardRows.row_of.Goals as goal
 

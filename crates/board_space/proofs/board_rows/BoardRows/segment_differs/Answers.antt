@@ -1,10 +1,7 @@
-use Rattle.std.proofs.Common.{ℕ, List, ◌∙◌, ◌+◌, ◌*◌, ◌<◌, length, sym, ap, subst}
-use Rattle.std.specs.Prelude.{slice_index}
+use Rattle.std.{proofs.Common.{ℕ, List, ◌∙◌, ◌+◌, ◌*◌, ◌<◌, length, sym, ap, subst}, specs.Prelude.slice_index}
 use Rattle.ram.specs.Memory.{value}
 use Rattle.state_space.specs.Numbered.{words_of}
-use Rattle.board_space.specs.Layouts.{tracked_of}
-use Rattle.board_space.specs.Tracked.{segment}
-use Rattle.board_space.proofs.Differing.{same_word}
+use Rattle.board_space.{specs.{Layouts.tracked_of, Tracked.segment}, proofs.Differing.same_word}
 use Rattle.board_space.proofs.board_rows.BoardRows.segment_differs.Goals as goal
 
 pub returns-then-word-values : goal.returns-then-word-values

@@ -1,11 +1,8 @@
 use Rattle.std.proofs.Common.{List, ℕ, ◌≡◌, ◌∙◌, ◌≤◌, length, sym, ap, subst}
 use Rattle.board_model.specs.Shapes.{ram_bytes_of}
 use Rattle.model_board.specs.Masks.{Masks, map_of}
-use Rattle.board_space.specs.Layouts.{base_of, laid_by, size_of}
-use Rattle.board_space.specs.Ready.{Tracks, boot_memory}
-use Rattle.board_space.specs.declared.row_layout.Layout.{Layout}
-use Rattle.board_space.proofs.Carried.{same_base, tracks_too}
-use Rattle.board_space.proofs.Ready.{boot_on_base}
+use Rattle.board_space.specs.{Layouts.{base_of, laid_by, size_of}, Ready.{Tracks, boot_memory}, declared.row_layout.Layout.Layout}
+use Rattle.board_space.proofs.{Carried.{same_base, tracks_too}, Ready.boot_on_base}
 use Rattle.board_space.proofs.carrying.BoardSpaceCarries.another.Goals as goal
 
 pub invariant_of-result : goal.invariant_of-result

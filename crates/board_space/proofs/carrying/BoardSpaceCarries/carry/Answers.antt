@@ -2,14 +2,8 @@ use Rattle.std.proofs.Common.{Bool, true, ℕ, ◌≡◌, ◌+◌, length, ap, r
 use Rattle.board_model.specs.Shapes.{Size}
 use Rattle.model_board.specs.Boards.{Life}
 use Rattle.state_space.proofs.Carrying.{stays_same}
-use Rattle.board_space.specs.Carried.{AreLearned}
-use Rattle.board_space.specs.Covering.{StandsAll}
-use Rattle.board_space.specs.Knowing.{AreAlike, Knows, knows_later}
-use Rattle.board_space.specs.Layouts.{tracked_of}
-use Rattle.board_space.specs.Settings.{Setting, setting_of}
-use Rattle.board_space.specs.Space.{IsFor}
-use Rattle.board_space.specs.Tracked.{segment_count}
-use Rattle.board_space.proofs.Covered.{all_stays}
+use Rattle.board_space.specs.{Carried.AreLearned, Covering.StandsAll, Knowing.{AreAlike, Knows, knows_later}, Layouts.tracked_of}
+use Rattle.board_space.{specs.{Settings.{Setting, setting_of}, Space.IsFor, Tracked.segment_count}, proofs.Covered.all_stays}
 use Rattle.board_space.proofs.Remembered.{alike_made, knows_more, knows_none, right_harts, right_words}
 use Rattle.board_space.proofs.carrying.BoardSpaceCarries.carry.Goals as goal
 

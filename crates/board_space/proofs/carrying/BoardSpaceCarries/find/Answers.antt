@@ -1,7 +1,5 @@
 use Rattle.std.proofs.Common.{Bool, ap, sym, subst}
-use Rattle.board_space.specs.Settings.{Setting}
-use Rattle.board_space.specs.Space.{IsFor}
-use Rattle.board_space.proofs.Remembered.{right_harts, right_words}
+use Rattle.board_space.{specs.{Settings.Setting, Space.IsFor}, proofs.Remembered.{right_harts, right_words}}
 use Rattle.board_space.proofs.carrying.BoardSpaceCarries.find.Goals as goal
 
 pub find-requires-clause-harts : goal.find-requires-clause-harts

@@ -1,6 +1,4 @@
-use Rattle.board_space.specs.Covering.{StandsAll}
-use Rattle.board_space.specs.Settings.{setting_of}
-use Rattle.board_space.proofs.Remembered.{knows_none}
+use Rattle.board_space.{specs.{Covering.StandsAll, Settings.setting_of}, proofs.Remembered.knows_none}
 use Rattle.board_space.proofs.carrying.BoardSpaceCarries.memo.Goals as goal
 
 pub returns : goal.returns

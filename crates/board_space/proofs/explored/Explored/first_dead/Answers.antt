@@ -1,16 +1,8 @@
 use Rattle.std.proofs.Common.{◌<◌, ◌≤◌, ℕ, Bool, List, IfOk, IfSome, sym, subst, arith}
-use Rattle.model_board.specs.Boards.{Board}
-use Rattle.model_board.specs.Events.{GoesOn, IsEnd}
-use Rattle.state_space.specs.Deads.{IsMarked, Reaches}
-use Rattle.state_space.specs.Graphs.{count_of}
-use Rattle.state_space.specs.Orders.{Leads, CanEnd}
-use Rattle.board_space.specs.Covering.{StandsAll}
-use Rattle.board_space.specs.Few.{AskedOrders}
-use Rattle.board_space.specs.Mapped.{map_in}
-use Rattle.board_space.specs.Searches.{IsFollowed}
-use Rattle.board_space.specs.Settings.{asked_of}
-use Rattle.board_space.specs.Space.{GoesBy, Happens, start_of}
-use Rattle.board_space.proofs.Answered.{both_some}
+use Rattle.model_board.specs.{Boards.Board, Events.{GoesOn, IsEnd}}
+use Rattle.state_space.specs.{Deads.{IsMarked, Reaches}, Graphs.count_of, Orders.{Leads, CanEnd}}
+use Rattle.board_space.specs.{Covering.StandsAll, Few.AskedOrders, Mapped.map_in, Searches.IsFollowed, Settings.asked_of}
+use Rattle.board_space.{specs.Space.{GoesBy, Happens, start_of}, proofs.Answered.both_some}
 use Rattle.board_space.proofs.explored.Explored.first_dead.Goals as goal
 
 pub returns : goal.returns

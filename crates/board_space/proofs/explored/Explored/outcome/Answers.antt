@@ -1,16 +1,8 @@
 use Rattle.std.proofs.Common.{ℕ, Bool, List, ◌≡◌, ◌∙◌, ◌<◌, ◌≤◌, IfOk, IfSome, Some, sym, subst, arith}
-use Rattle.model_board.specs.Boards.{Board}
-use Rattle.model_board.specs.Events.{Event, GoesOn, IsEnd}
-use Rattle.state_space.specs.Deads.{IsMarked, Reaches}
-use Rattle.state_space.specs.Graphs.{count_of, expanded_of, row_at}
-use Rattle.state_space.specs.Orders.{CanEnd}
-use Rattle.board_space.specs.Few.{AskedOrders, GoesOnToLast, IsLastBy, RunsAsked, RunsBy}
-use Rattle.board_space.specs.Mapped.{map_in}
-use Rattle.board_space.specs.Covering.{StandsAll}
-use Rattle.board_space.specs.Searches.{StandsBy}
-use Rattle.board_space.specs.Settings.{asked_of}
-use Rattle.board_space.specs.Shown.{AllShow, Shows}
-use Rattle.board_space.specs.Space.{GoesBy, Happens}
+use Rattle.model_board.specs.{Boards.Board, Events.{Event, GoesOn, IsEnd}}
+use Rattle.state_space.specs.{Deads.{IsMarked, Reaches}, Graphs.{count_of, expanded_of, row_at}, Orders.CanEnd}
+use Rattle.board_space.specs.{Few.{AskedOrders, GoesOnToLast, IsLastBy, RunsAsked, RunsBy}, Mapped.map_in, Covering.StandsAll}
+use Rattle.board_space.specs.{Searches.StandsBy, Settings.asked_of, Shown.{AllShow, Shows}, Space.{GoesBy, Happens}}
 use Rattle.board_space.proofs.Answered.{ok_some, at_none}
 use Rattle.board_space.proofs.explored.Explored.outcome.Goals as goal
 

@@ -1,6 +1,5 @@
 use Rattle.std.proofs.Common.{sym, subst}
-use Rattle.board_space.specs.Few.{AskedOrders}
-use Rattle.board_space.specs.Space.{Happens}
+use Rattle.board_space.specs.{Few.AskedOrders, Space.Happens}
 use Rattle.board_space.proofs.explored.Explored.replay.Goals as goal
 
 pub returns-clause-never : goal.returns-clause-never

@@ -1,8 +1,6 @@
 use Rattle.std.proofs.Common.{false, subst}
 use Rattle.board_model.specs.Shapes.{Size}
-use Rattle.board_space.specs.Mapped.{map_in}
-use Rattle.board_space.specs.Space.{SettlesSure}
-use Rattle.board_space.proofs.Covered.{sure_settles}
+use Rattle.board_space.{specs.{Mapped.map_in, Space.SettlesSure}, proofs.Covered.sure_settles}
 use Rattle.board_space.proofs.explored.Explored.settle.Goals as goal
 
 pub returns-in-Some-clause-turns : goal.returns-in-Some-clause-turns

@@ -1,8 +1,6 @@
 use Rattle.std.proofs.Common.{ℕ, List, ◌≡◌, ◌∙◌, ◌<◌, sym, ap, subst, arith}
 use Rattle.state_space.specs.Graphs.{count_of, row_at}
-use Rattle.board_space.specs.Covering.{StandsAll}
-use Rattle.board_space.specs.Searches.{board_part}
-use Rattle.board_space.proofs.Searching.{part_stands}
+use Rattle.board_space.{specs.{Covering.StandsAll, Searches.board_part}, proofs.Searching.part_stands}
 use Rattle.board_space.proofs.explored.Explored.show.Goals as goal
 
 pub show-requires : goal.show-requires

@@ -1,16 +1,8 @@
 use Rattle.std.proofs.Common.{ℕ, List, ◌∙◌, ◌<◌, IfOk, IfSome, sym, subst, arith}
-use Rattle.model_board.specs.Boards.{Board}
-use Rattle.model_board.specs.Events.{IsEnd}
-use Rattle.state_space.specs.Graphs.{count_of, expanded_of}
-use Rattle.state_space.specs.Orders.{Leads}
-use Rattle.board_space.specs.Covering.{StandsAll}
-use Rattle.board_space.specs.Few.{AskedOrders}
-use Rattle.board_space.specs.Mapped.{map_in}
-use Rattle.board_space.specs.Searches.{StandsBy}
-use Rattle.board_space.specs.Settings.{asked_of}
-use Rattle.board_space.specs.Shown.{Shows}
-use Rattle.board_space.specs.Space.{Happens, start_of}
-use Rattle.board_space.proofs.Answered.{ok_some}
+use Rattle.model_board.specs.{Boards.Board, Events.IsEnd}
+use Rattle.state_space.specs.{Graphs.{count_of, expanded_of}, Orders.Leads}
+use Rattle.board_space.specs.{Covering.StandsAll, Few.AskedOrders, Mapped.map_in, Searches.StandsBy, Settings.asked_of, Shown.Shows}
+use Rattle.board_space.{specs.Space.{Happens, start_of}, proofs.Answered.ok_some}
 use Rattle.board_space.proofs.explored.Explored.shown.Goals as goal
 
 pub shown_at-requires-clause-known : goal.shown_at-requires-clause-known

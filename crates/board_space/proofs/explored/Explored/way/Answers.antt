@@ -1,10 +1,6 @@
 use Rattle.std.proofs.Common.{IfOk, IfSome, subst}
 use Rattle.state_space.specs.Ways.{IsWay}
-use Rattle.board_space.specs.Few.{AskedOrders}
-use Rattle.board_space.specs.Mapped.{map_in}
-use Rattle.board_space.specs.Settings.{asked_of}
-use Rattle.board_space.specs.WaysOf.{IsWayOf}
-use Rattle.board_space.proofs.Answered.{ok_some}
+use Rattle.board_space.{specs.{Few.AskedOrders, Mapped.map_in, Settings.asked_of, WaysOf.IsWayOf}, proofs.Answered.ok_some}
 use Rattle.board_space.proofs.explored.Explored.way.Goals as goal
 
 pub returns : goal.returns

@@ -1,8 +1,6 @@
 use Rattle.std.proofs.Common.{⊎_elim, inl, inr, subst}
 use Rattle.model_board.specs.Maps.{Keeps}
-use Rattle.board_space.specs.Happenings.{event_of}
-use Rattle.board_space.specs.declared.happenings.Happening.{Happening}
-use Rattle.board_space.proofs.Ready.{same_memory}
+use Rattle.board_space.{specs.{Happenings.event_of, declared.happenings.Happening.Happening}, proofs.Ready.same_memory}
 use Rattle.board_space.proofs.happenings.Happening.happen.Goals as goal
 
 pub returns-in-Turn-clause-happens : goal.returns-in-Turn-clause-happens

@@ -1,9 +1,6 @@
 use Rattle.std.proofs.Common.{◌≡◌, false, ℕ, Bool, ap, sym, subst, ◌∙◌}
 use Rattle.state_space.specs.Systems.{Stay}
-use Rattle.board_space.specs.Covering.{StandsAll}
-use Rattle.board_space.specs.Few.{WaitsAt}
-use Rattle.board_space.specs.Settings.{Setting, asked_of}
-use Rattle.board_space.proofs.Covered.{all_stays, exact_stands}
+use Rattle.board_space.{specs.{Covering.StandsAll, Few.WaitsAt, Settings.{Setting, asked_of}}, proofs.Covered.{all_stays, exact_stands}}
 use Rattle.board_space.proofs.preempted.BoardSpacePreempted.waits.Goals as goal
 
 pub waits_at-requires-clause-known : goal.waits_at-requires-clause-known

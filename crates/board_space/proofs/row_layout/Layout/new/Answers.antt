@@ -1,5 +1,4 @@
-use Rattle.std.proofs.Common.{ℕ, ap, length, length-append, arith}
-use Rattle.std.proofs.lemmas.List.{length-replicate}
+use Rattle.std.proofs.{Common.{ℕ, ap, length, length-append, arith}, lemmas.List.length-replicate}
 use Rattle.board_space.proofs.row_layout.Layout.new.Goals as goal
 
 pub invariant_of-result : goal.invariant_of-result

@@ -1,13 +1,7 @@
-use Rattle.std.proofs.Common.{◌≡◌, sym}
-use Rattle.std.proofs.lemmas.Result.{IfOk-weaker}
+use Rattle.std.proofs.{Common.{◌≡◌, sym}, lemmas.Result.IfOk-weaker}
 use Rattle.model_board.specs.Boards.{Board}
-use Rattle.board_space.specs.Covering.{StandsAll}
-use Rattle.board_space.specs.Happenings.{event_of}
-use Rattle.board_space.specs.Mapped.{map_in}
-use Rattle.board_space.specs.Settings.{asked_of}
-use Rattle.board_space.specs.Space.{Happens}
-use Rattle.board_space.proofs.Ready.{based_happened, does_at}
-use Rattle.board_space.proofs.Moves.{teller_none, teller_by}
+use Rattle.board_space.specs.{Covering.StandsAll, Happenings.event_of, Mapped.map_in, Settings.asked_of, Space.Happens}
+use Rattle.board_space.proofs.{Ready.{based_happened, does_at}, Moves.{teller_none, teller_by}}
 use Rattle.board_space.proofs.space.BoardSpace.add.Goals as goal
 
 pub invariant_of-self-clause-based : goal.invariant_of-self-clause-based

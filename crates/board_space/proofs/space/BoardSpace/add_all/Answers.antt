@@ -1,12 +1,7 @@
 use Rattle.std.proofs.Common.{◌<◌, ℕ, sym, subst}
 use Rattle.model_board.specs.Events.{Event}
-use Rattle.board_space.specs.Covering.{StandsAll}
-use Rattle.board_space.specs.Expanding.{AreTold, AsksNone}
-use Rattle.board_space.specs.Mapped.{map_in}
-use Rattle.board_space.specs.Settings.{Setting, asked_of}
-use Rattle.board_space.specs.Space.{KeepsEach}
-use Rattle.board_space.proofs.Moves.{keeps_each}
-use Rattle.board_space.proofs.Seen.{held_on}
+use Rattle.board_space.specs.{Covering.StandsAll, Expanding.{AreTold, AsksNone}, Mapped.map_in, Settings.{Setting, asked_of}}
+use Rattle.board_space.{specs.Space.KeepsEach, proofs.{Moves.keeps_each, Seen.held_on}}
 use Rattle.board_space.proofs.space.BoardSpace.add_all.Goals as goal
 
 pub add_happenings-requires-clause-known : goal.add_happenings-requires-clause-known

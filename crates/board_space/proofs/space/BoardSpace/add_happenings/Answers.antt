@@ -1,10 +1,6 @@
 use Rattle.std.proofs.Common.{sym, subst}
 use Rattle.model_board.specs.Events.{Event}
-use Rattle.board_space.specs.Covering.{StandsAll}
-use Rattle.board_space.specs.Expanding.{AreTold}
-use Rattle.board_space.specs.Mapped.{map_in}
-use Rattle.board_space.specs.Settings.{Setting, asked_of}
-use Rattle.board_space.specs.Space.{KeepsEach}
+use Rattle.board_space.specs.{Covering.StandsAll, Expanding.AreTold, Mapped.map_in, Settings.{Setting, asked_of}, Space.KeepsEach}
 use Rattle.board_space.proofs.Seen.{held_on}
 use Rattle.board_space.proofs.space.BoardSpace.add_happenings.Goals as goal
 

@@ -1,9 +1,5 @@
-use Rattle.std.proofs.Common.{◌≤◌, arith}
-use Rattle.std.proofs.lemmas.Result.{IfOk-weaker}
-use Rattle.board_space.specs.Covering.{StandsAll}
-use Rattle.board_space.specs.Mapped.{map_in}
-use Rattle.board_space.specs.Settings.{asked_of}
-use Rattle.board_space.proofs.Moves.{told_skipped}
+use Rattle.std.proofs.{Common.{◌≤◌, arith}, lemmas.Result.IfOk-weaker}
+use Rattle.board_space.{specs.{Covering.StandsAll, Mapped.map_in, Settings.asked_of}, proofs.Moves.told_skipped}
 use Rattle.board_space.proofs.Skipped.{no_wake, no_power_on}
 use Rattle.board_space.proofs.space.BoardSpace.add_others.Goals as goal
 

@@ -1,9 +1,5 @@
 use Rattle.std.proofs.Common.{◌≤◌, arith}
-use Rattle.board_space.specs.Covering.{StandsAll}
-use Rattle.board_space.specs.Mapped.{map_in}
-use Rattle.board_space.specs.Settings.{asked_of}
-use Rattle.board_space.proofs.Moves.{told_skipped}
-use Rattle.board_space.proofs.Skipped.{no_refusal}
+use Rattle.board_space.{specs.{Covering.StandsAll, Mapped.map_in, Settings.asked_of}, proofs.{Moves.told_skipped, Skipped.no_refusal}}
 use Rattle.board_space.proofs.space.BoardSpace.add_refusals.Goals as goal
 
 pub returns-then-not-asks-clause-told : goal.returns-then-not-asks-clause-told

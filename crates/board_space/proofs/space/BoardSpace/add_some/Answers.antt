@@ -1,15 +1,9 @@
 use Rattle.std.proofs.Common.{◌≡◌, ◌∙◌, ℕ, sym, subst, arith}
 use Rattle.model_board.specs.Boards.{Board}
-use Rattle.board_space.specs.Covering.{StandsAll}
-use Rattle.board_space.specs.Expanding.{IsTeller, AreTold}
-use Rattle.board_space.specs.Happenings.{event_of}
-use Rattle.board_space.specs.Mapped.{map_in}
-use Rattle.board_space.specs.OneBoard.{one_board}
-use Rattle.board_space.specs.Settings.{Setting, asked_of}
-use Rattle.board_space.specs.Space.{IsOne, KeepsEach}
-use Rattle.board_space.proofs.Moves.{told_more, told_other}
-use Rattle.board_space.proofs.space.BoardSpace.add_some.Goals as goal
+use Rattle.board_space.specs.{Covering.StandsAll, Expanding.{IsTeller, AreTold}, Happenings.event_of, Mapped.map_in, OneBoard.one_board}
+use Rattle.board_space.{specs.{Settings.{Setting, asked_of}, Space.{IsOne, KeepsEach}}, proofs.Moves.{told_more, told_other}}
 use Rattle.board_space.proofs.space.BoardSpace.add_some.Goals.{in-Some+in_ok-add, in_default}
+use Rattle.board_space.proofs.space.BoardSpace.add_some.Goals as goal
 
 pub loop-number-preserved : goal.loop-number-preserved
 loop-number-preserved c =

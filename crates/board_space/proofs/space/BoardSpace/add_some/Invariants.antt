@@ -1,11 +1,7 @@
 use Rattle.std.proofs.Common.{◌≡◌}
 use Rattle.model_board.specs.Boards.{Board}
 use Rattle.state_space.specs.Successors.{found_width}
-use Rattle.board_space.specs.Covering.{StandsAll}
-use Rattle.board_space.specs.Expanding.{AreTold}
-use Rattle.board_space.specs.Mapped.{map_in}
-use Rattle.board_space.specs.Rows.{Stands}
-use Rattle.board_space.specs.Settings.{asked_of, setting_of, RowsStay}
+use Rattle.board_space.specs.{Covering.StandsAll, Expanding.AreTold, Mapped.map_in, Rows.Stands, Settings.{asked_of, setting_of, RowsStay}}
 use Rattle.board_space.proofs.space.BoardSpace.add_some.Given as goal
 
 abbrev pub invariant-loop-number : goal.invariant-loop-number

@@ -1,16 +1,8 @@
 use Rattle.std.proofs.Common.{ℕ, ◌<◌, refl, sym, subst}
 use Rattle.board_model.specs.Shapes.{Size}
-use Rattle.model_board.specs.Boards.{Board}
-use Rattle.model_board.specs.Events.{Turn, TurnOn}
-use Rattle.board_space.specs.Covering.{StandsAll}
-use Rattle.board_space.specs.Expanding.{IsPushed}
-use Rattle.board_space.specs.Mapped.{map_in}
-use Rattle.board_space.specs.Rows.{Stands}
-use Rattle.board_space.specs.Settings.{Setting, asked_of}
-use Rattle.board_space.specs.Space.{Happens}
-use Rattle.board_space.specs.declared.board_rows.BoardRows.{BoardRows}
-use Rattle.board_space.proofs.Covered.{change_for}
-use Rattle.board_space.proofs.Moves.{teller_by}
+use Rattle.model_board.specs.{Boards.Board, Events.{Turn, TurnOn}}
+use Rattle.board_space.specs.{Covering.StandsAll, Expanding.IsPushed, Mapped.map_in, Rows.Stands, Settings.{Setting, asked_of}}
+use Rattle.board_space.{specs.{Space.Happens, declared.board_rows.BoardRows.BoardRows}, proofs.{Covered.change_for, Moves.teller_by}}
 use Rattle.board_space.proofs.Seen.{moved_goes}
 use Rattle.board_space.proofs.space.BoardSpace.add_turn.Goals as goal
 

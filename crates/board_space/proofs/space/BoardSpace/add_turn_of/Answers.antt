@@ -1,12 +1,7 @@
-use Rattle.std.proofs.Common.{ℕ, ◌≡◌, ◌≤◌, ⊎_elim, subst, arith}
-use Rattle.std.proofs.lemmas.Bool.{cases_lt}
+use Rattle.std.proofs.{Common.{ℕ, ◌≡◌, ◌≤◌, ⊎_elim, subst, arith}, lemmas.Bool.cases_lt}
 use Rattle.model_board.specs.Events.{Turn}
-use Rattle.board_space.specs.Covering.{StandsAll}
-use Rattle.board_space.specs.Expanding.{AsksNone, IsTeller}
-use Rattle.board_space.specs.Mapped.{map_in}
-use Rattle.board_space.specs.Settings.{asked_of}
-use Rattle.board_space.proofs.Moves.{told_more, told_other}
-use Rattle.board_space.proofs.Skipped.{no_turn, only_turn}
+use Rattle.board_space.specs.{Covering.StandsAll, Expanding.{AsksNone, IsTeller}, Mapped.map_in, Settings.asked_of}
+use Rattle.board_space.proofs.{Moves.{told_more, told_other}, Skipped.{no_turn, only_turn}}
 use Rattle.board_space.proofs.space.BoardSpace.add_turn_of.Goals as goal
 
 pub returns-in_default-clause-told : goal.returns-in_default-clause-told

@@ -1,12 +1,7 @@
 use Rattle.std.proofs.Common.{ℕ, ◌≡◌, ◌∙◌, ◌<◌, ◌+◌, refl, sym, subst, arith}
 use Rattle.model_board.specs.Events.{IsEnd}
-use Rattle.board_space.specs.Covering.{StandsAll}
-use Rattle.board_space.specs.Expanding.{AreTold, AsksNone}
-use Rattle.board_space.specs.Mapped.{map_in}
-use Rattle.board_space.specs.Settings.{Setting, asked_of}
-use Rattle.board_space.specs.Space.{IsFor, KeepsSure}
-use Rattle.board_space.proofs.Moves.{told_none}
-use Rattle.board_space.proofs.Seen.{held_on}
+use Rattle.board_space.specs.{Covering.StandsAll, Expanding.{AreTold, AsksNone}, Mapped.map_in, Settings.{Setting, asked_of}}
+use Rattle.board_space.{specs.Space.{IsFor, KeepsSure}, proofs.{Moves.told_none, Seen.held_on}}
 use Rattle.board_space.proofs.space.BoardSpace.add_turns.Goals as goal
 
 pub add_turn_of-requires-clause-known : goal.add_turn_of-requires-clause-known

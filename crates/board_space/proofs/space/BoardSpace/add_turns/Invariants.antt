@@ -1,13 +1,8 @@
 use Rattle.std.proofs.Common.{◌≡◌, ◌<◌, ℕ, true, false}
-use Rattle.model_board.specs.Boards.{Board}
-use Rattle.model_board.specs.Events.{IsEnd}
+use Rattle.model_board.specs.{Boards.Board, Events.IsEnd}
 use Rattle.state_space.specs.Successors.{found_width}
-use Rattle.board_space.specs.Covering.{StandsAll}
-use Rattle.board_space.specs.Expanding.{AreTold, AsksNone}
-use Rattle.board_space.specs.Mapped.{map_in}
-use Rattle.board_space.specs.Rows.{Stands}
+use Rattle.board_space.specs.{Covering.StandsAll, Expanding.{AreTold, AsksNone}, Mapped.map_in, Rows.Stands, Space.IsFor}
 use Rattle.board_space.specs.Settings.{asked_of, setting_of, RowsStay}
-use Rattle.board_space.specs.Space.{IsFor}
 use Rattle.board_space.proofs.space.BoardSpace.add_turns.Given as goal
 
 abbrev pub invariant-loop-number : goal.invariant-loop-number

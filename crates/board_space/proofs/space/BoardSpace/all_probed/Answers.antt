@@ -1,11 +1,6 @@
 use Rattle.std.proofs.Common.{◌≡◌, ◌∙◌, ◌<◌, ◌≤◌, Bool, true, sym, subst, arith}
-use Rattle.model_board.specs.Boards.{Board}
-use Rattle.model_board.specs.LeftOut.{AreProbed}
-use Rattle.board_space.specs.Mapped.{map_in}
-use Rattle.board_space.specs.Rows.{Stands}
-use Rattle.board_space.specs.Settings.{Setting}
-use Rattle.board_space.specs.Space.{KeepsSure}
-use Rattle.board_space.specs.declared.board_rows.BoardRows.{BoardRows}
+use Rattle.model_board.specs.{Boards.Board, LeftOut.AreProbed}
+use Rattle.board_space.specs.{Mapped.map_in, Rows.Stands, Settings.Setting, Space.KeepsSure, declared.board_rows.BoardRows.BoardRows}
 use Rattle.board_space.proofs.Searching.{each_below}
 use Rattle.board_space.proofs.space.BoardSpace.all_probed.Goals as goal
 

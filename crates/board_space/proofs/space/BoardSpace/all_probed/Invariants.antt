@@ -1,8 +1,6 @@
 use Rattle.std.proofs.Common.{◌≡◌, ◌<◌, ℕ}
-use Rattle.model_board.specs.Boards.{Board}
-use Rattle.model_board.specs.LeftOut.{AreProbed}
-use Rattle.board_space.specs.Rows.{Stands}
-use Rattle.board_space.specs.Settings.{setting_of}
+use Rattle.model_board.specs.{Boards.Board, LeftOut.AreProbed}
+use Rattle.board_space.specs.{Rows.Stands, Settings.setting_of}
 use Rattle.board_space.proofs.space.BoardSpace.all_probed.Given as goal
 
 abbrev pub invariant-loop-number : goal.invariant-loop-number

@@ -1,12 +1,7 @@
 use Rattle.std.proofs.Common.{◌≡◌, ◌∙◌, ◌<◌, true, sym, subst, arith}
-use Rattle.model_board.specs.Boards.{Board}
-use Rattle.model_board.specs.LeftOut.{IsLeftOut, IsProbed}
-use Rattle.board_space.specs.Rows.{Stands}
-use Rattle.board_space.specs.Settings.{Setting}
-use Rattle.board_space.specs.Space.{KeepsSure}
-use Rattle.board_space.specs.declared.board_rows.BoardRows.{BoardRows}
-use Rattle.board_space.proofs.Covered.{left_small}
-use Rattle.board_space.proofs.Searching.{each_below}
+use Rattle.model_board.specs.{Boards.Board, LeftOut.{IsLeftOut, IsProbed}}
+use Rattle.board_space.specs.{Rows.Stands, Settings.Setting, Space.KeepsSure, declared.board_rows.BoardRows.BoardRows}
+use Rattle.board_space.proofs.{Covered.left_small, Searching.each_below}
 use Rattle.board_space.proofs.space.BoardSpace.are_probed.Goals as goal
 
 pub is_probed-requires-clause-known : goal.is_probed-requires-clause-known

@@ -1,8 +1,6 @@
 use Rattle.std.proofs.Common.{◌<◌, ℕ, subst, arith}
-use Rattle.model_board.specs.Boards.{Board}
-use Rattle.model_board.specs.LeftOut.{AreProbed}
-use Rattle.board_space.specs.Rows.{Stands}
-use Rattle.board_space.proofs.Answered.{ok_on}
+use Rattle.model_board.specs.{Boards.Board, LeftOut.AreProbed}
+use Rattle.board_space.{specs.Rows.Stands, proofs.Answered.ok_on}
 use Rattle.board_space.proofs.space.BoardSpace.are_probed_by.Goals as goal
 
 pub returns-in-Some-clause-probed : goal.returns-in-Some-clause-probed

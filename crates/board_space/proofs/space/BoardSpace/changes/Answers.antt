@@ -1,12 +1,6 @@
 use Rattle.std.proofs.Common.{rules, ℕ, List, [], ◌≡◌, sym, subst}
-use Rattle.model_board.specs.Boards.{Board}
-use Rattle.model_board.specs.Events.{TurnOn}
-use Rattle.model_board.specs.Maps.{TurnKeeps}
-use Rattle.board_space.specs.Mapped.{map_in}
-use Rattle.board_space.specs.OneBoard.{one_board}
-use Rattle.board_space.specs.Rows.{Stands}
-use Rattle.board_space.proofs.Covered.{change_for}
-use Rattle.board_space.proofs.Ready.{based_outside}
+use Rattle.model_board.specs.{Boards.Board, Events.TurnOn, Maps.TurnKeeps}
+use Rattle.board_space.{specs.{Mapped.map_in, OneBoard.one_board, Rows.Stands}, proofs.{Covered.change_for, Ready.based_outside}}
 use Rattle.board_space.proofs.space.BoardSpace.changes.Goals as goal
 
 pub differs-requires-clause-based : goal.differs-requires-clause-based

@@ -1,9 +1,6 @@
 use Rattle.std.proofs.Common.{◌≡◌, ◌∙◌, ◌<◌, ◌≤◌, ℕ, sym, subst, arith}
 use Rattle.model_board.specs.Plain.{Sized}
-use Rattle.board_space.specs.Mapped.{map_in}
-use Rattle.board_space.specs.Settings.{Setting}
-use Rattle.board_space.specs.Space.{KeepsSure}
-use Rattle.board_space.proofs.Searching.{each_below}
+use Rattle.board_space.{specs.{Mapped.map_in, Settings.Setting, Space.KeepsSure}, proofs.Searching.each_below}
 use Rattle.board_space.proofs.space.BoardSpace.first_break.Goals as goal
 
 pub loop-number-preserved : goal.loop-number-preserved

@@ -1,7 +1,5 @@
 use Rattle.std.proofs.Common.{◌≡◌, ◌<◌, ℕ}
-use Rattle.board_space.specs.Mapped.{map_in}
-use Rattle.board_space.specs.Settings.{setting_of}
-use Rattle.board_space.specs.Space.{KeepsSure}
+use Rattle.board_space.specs.{Mapped.map_in, Settings.setting_of, Space.KeepsSure}
 use Rattle.board_space.proofs.space.BoardSpace.first_break.Given as goal
 
 abbrev pub invariant-loop-number : goal.invariant-loop-number

@@ -1,12 +1,8 @@
-use Rattle.std.proofs.Common.{◌≡◌, ◌∙◌, sym, subst, ap}
-use Rattle.std.specs.Option.{is_some}
+use Rattle.std.{proofs.Common.{◌≡◌, ◌∙◌, sym, subst, ap}, specs.Option.is_some}
 use Rattle.machine.specs.Machine.{Machine}
-use Rattle.model_board.specs.Boards.{Board, Life, On}
-use Rattle.model_board.specs.Plain.{Sized, status_of}
-use Rattle.model_board.specs.declared.powers.Status.TheVariants.{Off, Ended}
+use Rattle.model_board.specs.{Boards.{Board, Life, On}, Plain.{Sized, status_of}, declared.powers.Status.TheVariants.{Off, Ended}}
 use Rattle.model_board.specs.Events.{IsEnd}
-use Rattle.board_space.specs.Space.{IsFor}
-use Rattle.board_space.proofs.Covered.{on_for, same_off, same_ended}
+use Rattle.board_space.{specs.Space.IsFor, proofs.Covered.{on_for, same_off, same_ended}}
 use Rattle.board_space.proofs.Ends.{ended_ends, off_goes, life_of_on, doze_goes, rest_ends, move_goes}
 use Rattle.board_space.proofs.space.BoardSpace.is_end.Goals as goal
 

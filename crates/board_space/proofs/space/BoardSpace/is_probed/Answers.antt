@@ -1,12 +1,6 @@
 use Rattle.std.proofs.Common.{◌≡◌, ◌∙◌, true, [], refl, ap, sym, subst}
-use Rattle.model_board.specs.Boards.{Board}
-use Rattle.model_board.specs.Events.{Turn, TurnOn}
-use Rattle.model_board.specs.LeftOut.{IsLeftOut, PROBE}
-use Rattle.model_board.specs.Maps.{TurnKeeps}
-use Rattle.model_board.specs.Registers.{board_holding}
-use Rattle.board_space.specs.Mapped.{map_in}
-use Rattle.board_space.specs.Space.{KeepsSure}
-use Rattle.board_space.proofs.Ready.{based_outside, based_same}
+use Rattle.model_board.specs.{Boards.Board, Events.{Turn, TurnOn}, LeftOut.{IsLeftOut, PROBE}, Maps.TurnKeeps, Registers.board_holding}
+use Rattle.board_space.{specs.{Mapped.map_in, Space.KeepsSure}, proofs.Ready.{based_outside, based_same}}
 use Rattle.board_space.proofs.space.BoardSpace.is_probed.Goals as goal
 
 pub returns-then-not-put_probe-clause-probed : goal.returns-then-not-put_probe-clause-probed

@@ -1,7 +1,6 @@
 use Rattle.std.proofs.Common.{ℕ, List, ◌≡◌, ◌∙◌, ◌≤◌, length, sym, ap, subst}
 use Rattle.board_model.specs.Shapes.{ram_bytes_of}
-use Rattle.board_space.specs.Ready.{boot_memory}
-use Rattle.board_space.proofs.Ready.{boot_on_base}
+use Rattle.board_space.{specs.Ready.boot_memory, proofs.Ready.boot_on_base}
 use Rattle.board_space.proofs.space.BoardSpace.new.Goals as goal
 
 pub invariant_of-result : goal.invariant_of-result

@@ -1,13 +1,6 @@
-use Rattle.std.proofs.Common.{ℕ, [], true, ◌≡◌, ◌∙◌, ◌<◌, ◌≤◌, inl, inr, sym, ap, subst, arith}
-use Rattle.std.proofs.lemmas.Bool.{cases_lt}
-use Rattle.model_board.specs.Boards.{Board}
-use Rattle.model_board.specs.Events.{Turn, TurnOn}
-use Rattle.model_board.specs.LeftOut.{AreProbed}
-use Rattle.board_space.specs.Mapped.{map_in}
-use Rattle.board_space.specs.OneBoard.{one_board}
-use Rattle.board_space.specs.Settings.{Setting}
-use Rattle.board_space.specs.Space.{IsFor, KeepsSure}
-use Rattle.board_space.proofs.Covered.{rest_for}
+use Rattle.std.proofs.{Common.{ℕ, [], true, ◌≡◌, ◌∙◌, ◌<◌, ◌≤◌, inl, inr, sym, ap, subst, arith}, lemmas.Bool.cases_lt}
+use Rattle.model_board.specs.{Boards.Board, Events.{Turn, TurnOn}, LeftOut.AreProbed}
+use Rattle.board_space.{specs.{Mapped.map_in, OneBoard.one_board, Settings.Setting, Space.{IsFor, KeepsSure}}, proofs.Covered.rest_for}
 use Rattle.board_space.proofs.space.BoardSpace.rests.Goals as goal
 
 pub changes_by-requires-clause-keeps : goal.changes_by-requires-clause-keeps

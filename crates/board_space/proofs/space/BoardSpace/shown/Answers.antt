@@ -1,11 +1,6 @@
-use Rattle.std.proofs.Common.{◌≡◌, ◌∙◌, List, ℕ, sym, subst, ap}
-use Rattle.std.specs.Prelude.{slice_range}
-use Rattle.model_board.specs.Boards.{Board, Life, On, Ended}
-use Rattle.model_board.specs.Plain.{Sized}
-use Rattle.model_board.specs.Rests.{with_rest}
-use Rattle.board_space.specs.Shown.{Shows}
-use Rattle.board_space.specs.declared.outcomes.Outcome.TheVariants.{Rests, Ends}
-use Rattle.board_space.proofs.Covered.{shows_for}
+use Rattle.std.{proofs.Common.{◌≡◌, ◌∙◌, List, ℕ, sym, subst, ap}, specs.Prelude.slice_range}
+use Rattle.model_board.specs.{Boards.{Board, Life, On, Ended}, Plain.Sized, Rests.with_rest}
+use Rattle.board_space.{specs.{Shown.Shows, declared.outcomes.Outcome.TheVariants.{Rests, Ends}}, proofs.Covered.shows_for}
 use Rattle.board_space.proofs.Ends.{life_of_on, standing_of_ended, ended_reason}
 use Rattle.board_space.proofs.space.BoardSpace.shown.Goals as goal
 

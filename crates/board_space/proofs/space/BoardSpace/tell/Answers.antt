@@ -1,10 +1,7 @@
 use Rattle.std.proofs.Common.{List, ℕ, ◌≡◌, ◌∙◌, sym, subst}
 use Rattle.board_model.specs.Shapes.{Size}
 use Rattle.model_board.specs.Boards.{Board}
-use Rattle.board_space.specs.Covering.{StandsAll}
-use Rattle.board_space.specs.Mapped.{map_in}
-use Rattle.board_space.specs.Space.{SettlesSure}
-use Rattle.board_space.proofs.Ready.{based_outside, based_same}
+use Rattle.board_space.{specs.{Covering.StandsAll, Mapped.map_in, Space.SettlesSure}, proofs.Ready.{based_outside, based_same}}
 use Rattle.board_space.proofs.space.BoardSpace.tell.Goals as goal
 
 pub row_of-requires : goal.row_of-requires

@@ -1,12 +1,7 @@
-use Rattle.std.proofs.Common.{◌∙◌, ap, sym, subst}
-use Rattle.std.proofs.lemmas.Result.{IfOk-weaker}
-use Rattle.board_space.specs.Layouts.{laid_by, width_of}
-use Rattle.board_space.specs.Mapped.{map_in}
-use Rattle.board_space.specs.Settings.{asked_of}
-use Rattle.board_space.specs.declared.row_layout.Layout.{Layout}
-use Rattle.model_board.specs.Boards.{Board}
-use Rattle.board_space.specs.Rows.{Stands}
+use Rattle.std.proofs.{Common.{◌∙◌, ap, sym, subst}, lemmas.Result.IfOk-weaker}
+use Rattle.board_space.specs.{Layouts.{laid_by, width_of}, Mapped.map_in, Settings.asked_of, declared.row_layout.Layout.Layout, Rows.Stands}
 use Rattle.board_space.proofs.Ready.{boot_on_base}
+use Rattle.model_board.specs.Boards.{Board}
 use Rattle.board_space.proofs.space.BoardSpace.tell_first.Goals as goal
 
 pub row_of-requires : goal.row_of-requires

@@ -1,11 +1,6 @@
 use Rattle.std.proofs.Common.{List, ℕ, [], false, sym, subst}
-use Rattle.model_board.specs.Boards.{Board}
-use Rattle.model_board.specs.Events.{TurnOn, RefusedOn}
-use Rattle.model_board.specs.Maps.{TurnKeeps}
-use Rattle.board_space.specs.Mapped.{map_in}
-use Rattle.board_space.specs.Rows.{Stands}
-use Rattle.board_space.proofs.Ready.{based_outside}
-use Rattle.board_space.proofs.Skipped.{none_refused}
+use Rattle.model_board.specs.{Boards.Board, Events.{TurnOn, RefusedOn}, Maps.TurnKeeps}
+use Rattle.board_space.{specs.{Mapped.map_in, Rows.Stands}, proofs.{Ready.based_outside, Skipped.none_refused}}
 use Rattle.board_space.proofs.space.BoardSpace.turn_at.Goals as goal
 
 pub put_after-requires-clause-from : goal.put_after-requires-clause-from

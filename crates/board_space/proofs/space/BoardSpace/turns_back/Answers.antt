@@ -1,13 +1,6 @@
 use Rattle.std.proofs.Common.{rules, ℕ, List, [], ◌≡◌, ◌∙◌, ◌<◌, refl, sym, subst}
-use Rattle.model_board.specs.Events.{TurnOn}
-use Rattle.model_board.specs.Maps.{TurnKeeps}
-use Rattle.model_board.specs.Plain.{Sized}
-use Rattle.model_board.proofs.Filling.{stands_one}
-use Rattle.board_space.specs.Mapped.{map_in}
-use Rattle.board_space.specs.OneBoard.{one_board}
-use Rattle.board_space.specs.Rows.{Stands}
-use Rattle.board_space.specs.Settings.{Setting}
-use Rattle.board_space.specs.declared.board_rows.BoardRows.{BoardRows}
+use Rattle.model_board.{specs.{Events.TurnOn, Maps.TurnKeeps, Plain.Sized}, proofs.Filling.stands_one}
+use Rattle.board_space.specs.{Mapped.map_in, OneBoard.one_board, Rows.Stands, Settings.Setting, declared.board_rows.BoardRows.BoardRows}
 use Rattle.board_space.proofs.Ready.{based_outside}
 use Rattle.board_space.proofs.space.BoardSpace.turns_back.Goals as goal
 

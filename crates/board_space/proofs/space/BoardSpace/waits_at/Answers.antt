@@ -1,10 +1,7 @@
 use Rattle.std.proofs.Common.{ℕ, suc, ◌≡◌, ◌∙◌, ◌+◌, ◌<◌, ◌≤◌, subst, arith}
 use Rattle.model_board.specs.Boards.{Board}
 use Rattle.state_space.specs.Bounded.{Turns}
-use Rattle.board_space.specs.Few.{turn_number, MOST_WAITED}
-use Rattle.board_space.specs.Rows.{Stands}
-use Rattle.board_space.specs.Settings.{asked_of}
-use Rattle.board_space.specs.Space.{Steps}
+use Rattle.board_space.specs.{Few.{turn_number, MOST_WAITED}, Rows.Stands, Settings.asked_of, Space.Steps}
 use Rattle.board_space.proofs.Waiting.{turns_more, turn_step, away_more}
 use Rattle.board_space.proofs.space.BoardSpace.waits_at.Goals as goal
 

@@ -1,10 +1,7 @@
 use Rattle.std.proofs.Common.{ℕ, ◌≡◌, ◌<◌, suc}
 use Rattle.model_board.specs.Boards.{Board}
 use Rattle.state_space.specs.Bounded.{Turns}
-use Rattle.board_space.specs.Few.{turn_number}
-use Rattle.board_space.specs.Rows.{Stands}
-use Rattle.board_space.specs.Settings.{asked_of, setting_of, RowsStay}
-use Rattle.board_space.specs.Space.{Steps}
+use Rattle.board_space.specs.{Few.turn_number, Rows.Stands, Settings.{asked_of, setting_of, RowsStay}, Space.Steps}
 use Rattle.board_space.proofs.space.BoardSpace.waits_at.Given as goal
 
 abbrev pub invariant-loop-turn : goal.invariant-loop-turn

@@ -1,19 +1,9 @@
 use Rattle.std.proofs.Common.{◌≡◌, ◌∙◌, ◌<◌, ◌≤◌, ℕ, List, Bool, Ok, ap, sym, subst, arith}
-use Rattle.model_board.specs.Boards.{Board}
-use Rattle.model_board.specs.Plain.{Sized}
-use Rattle.state_space.specs.Successors.{found_count, found_event, found_row}
-use Rattle.state_space.specs.Systems.{IsExpanded}
-use Rattle.board_space.specs.declared.board_rows.BoardRows.{BoardRows}
-use Rattle.board_space.specs.Covering.{StandsAll}
-use Rattle.board_space.specs.Expanding.{AreTold}
-use Rattle.board_space.specs.Mapped.{map_in}
-use Rattle.board_space.specs.OneBoard.{one_board}
-use Rattle.board_space.specs.Rows.{Stands}
-use Rattle.board_space.specs.Settings.{Setting, asked_of}
-use Rattle.board_space.specs.Space.{IsFor, KeepsSure, board_rules, sure_rules}
-use Rattle.board_space.proofs.Covered.{stay_by, expanded_for}
-use Rattle.board_space.proofs.EventNumbers.{small, below}
-use Rattle.board_space.proofs.Moves.{told_all, told_stays, keeps_sure}
+use Rattle.model_board.specs.{Boards.Board, Plain.Sized}
+use Rattle.state_space.specs.{Successors.{found_count, found_event, found_row}, Systems.IsExpanded}
+use Rattle.board_space.specs.{declared.board_rows.BoardRows.BoardRows, Covering.StandsAll, Expanding.AreTold, Mapped.map_in, Rows.Stands}
+use Rattle.board_space.specs.{OneBoard.one_board, Settings.{Setting, asked_of}, Space.{IsFor, KeepsSure, board_rules, sure_rules}}
+use Rattle.board_space.proofs.{Covered.{stay_by, expanded_for}, EventNumbers.{small, below}, Moves.{told_all, told_stays, keeps_sure}}
 use Rattle.board_space.proofs.space.BoardSpaceSystem.expand.Goals as goal
 
 pub put-requires-clause-known : goal.put-requires-clause-known

@@ -1,8 +1,6 @@
 use Rattle.std.proofs.Common.{List, None, ℕ, ◌≡◌, ◌∙◌, refl, sym, subst}
-use Rattle.model_board.specs.Boards.{Board, Off}
-use Rattle.model_board.specs.Plain.{standing}
-use Rattle.board_space.specs.Rows.{Stands}
-use Rattle.board_space.proofs.Covered.{for_self}
+use Rattle.model_board.specs.{Boards.{Board, Off}, Plain.standing}
+use Rattle.board_space.{specs.Rows.Stands, proofs.Covered.for_self}
 use Rattle.board_space.proofs.space.BoardSpaceSystem.start.Goals as goal
 
 pub returns-clause-first : goal.returns-clause-first

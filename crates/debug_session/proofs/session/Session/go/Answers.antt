@@ -1,5 +1,4 @@
-use Rattle.std.proofs.Common.{◌≡◌, ◌≤◌, ◌<◌, ℕ, Bool, List, true, false, slice_index_or, refl, sym, subst}
-use Rattle.std.specs.Prelude.{OnOk}
+use Rattle.std.{proofs.Common.{◌≡◌, ◌≤◌, ◌<◌, ℕ, Bool, List, true, false, slice_index_or, refl, sym, subst}, specs.Prelude.OnOk}
 use Rattle.debug_session.specs.Steps.{Went}
 use Rattle.debug_session.proofs.session.Session.go.Goals as goal
 

@@ -1,7 +1,5 @@
-use Rattle.std.proofs.Common.{inl, refl, inr}
-use Rattle.debug_session.proofs.Histories.{place_hart}
-use Rattle.debug_session.proofs.Backs.{went_back}
-use Rattle.std.proofs.lemmas.Result.{IfOk-from_err}
+use Rattle.std.proofs.{Common.{inl, refl, inr}, lemmas.Result.IfOk-from_err}
+use Rattle.debug_session.proofs.{Histories.place_hart, Backs.went_back}
 use Rattle.debug_session.proofs.session.Session.go_back.Goals as goal
 
 pub returns-in_ok-go_back-in-Some-clause-there : goal.returns-in_ok-go_back-in-Some-clause-there

@@ -1,8 +1,6 @@
-use Rattle.std.proofs.Common.{◌≡◌, ◌≤◌, ◌<◌, ℕ, Bool, List, true, false, slice_index_or, refl, sym, subst}
+use Rattle.std.proofs.{Common.{◌≡◌, ◌≤◌, ◌<◌, ℕ, Bool, List, true, false, slice_index_or, refl, sym, subst}, lemmas.Result.on_ok_weaker}
 use Rattle.std.specs.Prelude.{OnOk, replicate}
-use Rattle.std.proofs.lemmas.Result.{on_ok_weaker}
-use Rattle.debug_session.specs.Steps.{Went}
-use Rattle.debug_session.proofs.Turns.{left_few}
+use Rattle.debug_session.{specs.Steps.Went, proofs.Turns.left_few}
 use Rattle.debug_session.proofs.session.Session.go_on_to.Goals as goal
 
 pub go-requires-clause-at : goal.go-requires-clause-at

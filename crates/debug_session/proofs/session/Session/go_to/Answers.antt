@@ -1,8 +1,6 @@
-use Rattle.std.proofs.Common.{◌≡◌, ◌+◌, List, take, subst, refl}
+use Rattle.std.proofs.{Common.{◌≡◌, ◌+◌, List, take, subst, refl}, lemmas.Result.IfOk-from_err}
 use Rattle.script_lang.specs.declared.line.Line.{Line}
-use Rattle.debug_session.specs.Turns.{turns_made}
-use Rattle.debug_session.proofs.Turns.{went_to}
-use Rattle.std.proofs.lemmas.Result.{IfOk-from_err}
+use Rattle.debug_session.{specs.Turns.turns_made, proofs.Turns.went_to}
 use Rattle.debug_session.proofs.session.Session.go_to.Goals as goal
 
 pub returns-clause-went : goal.returns-clause-went

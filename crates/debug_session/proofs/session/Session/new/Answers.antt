@@ -1,5 +1,4 @@
-use Rattle.std.proofs.Common.{refl}
-use Rattle.std.proofs.lemmas.Result.{IfOk-from_err}
+use Rattle.std.proofs.{Common.refl, lemmas.Result.IfOk-from_err}
 use Rattle.debug_session.proofs.session.Session.new.Goals as goal
 
 pub begun-requires-clause-ranges : goal.begun-requires-clause-ranges

@@ -1,12 +1,7 @@
-use Rattle.std.proofs.Common.{Some, sym, subst, refl}
-use Rattle.debug_session.specs.declared.halts.HaltReason.{HaltReason}
-use Rattle.debug_session.specs.Firsts.{TellsTouched, ToHalt, seen_in}
-use Rattle.debug_session.specs.Lives.{machine_of}
+use Rattle.std.proofs.{Common.{Some, sym, subst, refl}, lemmas.Result.IfOk-from_err}
+use Rattle.debug_session.specs.{declared.halts.HaltReason.HaltReason, Firsts.{TellsTouched, ToHalt, seen_in}, Lives.machine_of}
+use Rattle.debug_session.{specs.Steps.IsStep, proofs.{Firsts.{step_halts, tells_seen}, Wents.step_of}}
 use Rattle.bench_report.specs.declared.live.LiveBench.{LiveBench}
-use Rattle.debug_session.specs.Steps.{IsStep}
-use Rattle.debug_session.proofs.Firsts.{step_halts, tells_seen}
-use Rattle.debug_session.proofs.Wents.{step_of}
-use Rattle.std.proofs.lemmas.Result.{IfOk-from_err}
 use Rattle.debug_session.proofs.session.Session.step.Goals as goal
 
 pub returns-clause-step : goal.returns-clause-step

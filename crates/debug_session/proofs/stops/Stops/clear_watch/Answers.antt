@@ -1,5 +1,4 @@
-use Rattle.std.proofs.Common.{rules}
-use Rattle.std.proofs.lemmas.Fn.{filter_same}
+use Rattle.std.proofs.{Common.rules, lemmas.Fn.filter_same}
 use Rattle.debug_session.proofs.stops.Stops.clear_watch.Goals as goal
 
 pub returns-clause-watches : goal.returns-clause-watches

@@ -1,12 +1,8 @@
-use Rattle.std.proofs.Common.{◌≡◌, ◌+◌, List, [], ◌∷◌, ℕ, ◌++◌, map, take, get_or, sym, ap, ◌∙◌}
-use Rattle.std.proofs.lemmas.List.{map-append}
-use Rattle.debug_session.specs.Lives.{machine_of}
-use Rattle.debug_session.specs.declared.stops.SeenBytes.{SeenBytes}
-use Rattle.debug_session.specs.declared.stops.Watchpoint.{Watchpoint}
-use Rattle.debug_session.specs.declared.stops.WatchKind.TheVariants as kinds
-use Rattle.debug_session.specs.Firsts.{seen_all, seen_by}
-use Rattle.debug_session.proofs.Firsts.{seen_more}
+use Rattle.std.proofs.{Common.{◌≡◌, ◌+◌, List, [], ◌∷◌, ℕ, ◌++◌, map, take, get_or, sym, ap, ◌∙◌}, lemmas.List.map-append}
 use Rattle.std.proofs.lemmas.Result.{IfOk-from_err}
+use Rattle.debug_session.specs.{Lives.machine_of, declared.stops.{SeenBytes.SeenBytes, Watchpoint.Watchpoint}, Firsts.{seen_all, seen_by}}
+use Rattle.debug_session.proofs.Firsts.{seen_more}
+use Rattle.debug_session.specs.declared.stops.WatchKind.TheVariants as kinds
 use Rattle.debug_session.proofs.stops.Stops.watched.Goals as goal
 
 pub loop-watch-preserved : goal.loop-watch-preserved

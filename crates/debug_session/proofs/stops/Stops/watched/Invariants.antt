@@ -1,6 +1,5 @@
 use Rattle.std.proofs.Common.{◌≡◌, map, take}
-use Rattle.debug_session.specs.Lives.{machine_of}
-use Rattle.debug_session.specs.Firsts.{seen_all}
+use Rattle.debug_session.specs.{Lives.machine_of, Firsts.seen_all}
 use Rattle.debug_session.proofs.stops.Stops.watched.Given as goal
 
 abbrev pub invariant-loop-watch : goal.invariant-loop-watch

@@ -1,13 +1,8 @@
-use Rattle.std.proofs.Common.{◌≡◌, List, refl, sym, subst}
-use Rattle.std.proofs.lemmas.Result.{IfOk-from_err}
-use Rattle.bench_report.specs.Agree.{fills_after}
-use Rattle.bench_report.specs.Bench.{Bench, bench_with}
-use Rattle.bench_report.specs.Lives.{Shows}
-use Rattle.bench_report.specs.declared.live.LiveBench.{LiveBench}
+use Rattle.std.proofs.{Common.{◌≡◌, List, refl, sym, subst}, lemmas.Result.IfOk-from_err}
+use Rattle.bench_report.specs.{Agree.fills_after, Bench.{Bench, bench_with}, Lives.Shows, declared.live.LiveBench.LiveBench}
 use Rattle.script_lang.specs.declared.line.Line.{Line}
 use Rattle.simdisk.specs.declared.fill.Fill.TheVariants as fills
-use Rattle.debug_session.specs.Ats.{IsAt}
-use Rattle.debug_session.specs.Notes.{Joins, Leaves}
+use Rattle.debug_session.specs.{Ats.IsAt, Notes.{Joins, Leaves}}
 use Rattle.debug_session.proofs.timeline.Timeline.again.Goals as goal
 
 pub returns-in_err-bench-clause-history : goal.returns-in_err-bench-clause-history

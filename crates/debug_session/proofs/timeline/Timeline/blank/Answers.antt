@@ -1,9 +1,6 @@
-use Rattle.std.proofs.Common.{false, List, [], refl, sym, subst}
-use Rattle.std.proofs.lemmas.List.Elements.{All-nil}
-use Rattle.std.proofs.lemmas.Result.{IfOk-from_err}
+use Rattle.std.proofs.{Common.{false, List, [], refl, sym, subst}, lemmas.{List.Elements.All-nil, Result.IfOk-from_err}}
 use Rattle.bench_report.specs.Bench.{bench_with}
-use Rattle.script_lang.specs.Lines.{IsLineInRange}
-use Rattle.script_lang.specs.declared.line.Line.{Line}
+use Rattle.script_lang.specs.{Lines.IsLineInRange, declared.line.Line.Line}
 use Rattle.debug_session.specs.Ats.{IsAt}
 use Rattle.debug_session.proofs.timeline.Timeline.blank.Goals as goal
 

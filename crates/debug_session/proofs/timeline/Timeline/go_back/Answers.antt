@@ -1,7 +1,5 @@
-use Rattle.std.proofs.Common.{◌∙◌, refl}
-use Rattle.debug_session.proofs.Histories.{cut_ranges, place_before}
-use Rattle.debug_session.proofs.Timelines.{always_ok}
-use Rattle.std.proofs.lemmas.Result.{IfOk-from_err}
+use Rattle.std.proofs.{Common.{◌∙◌, refl}, lemmas.Result.IfOk-from_err}
+use Rattle.debug_session.proofs.{Histories.{cut_ranges, place_before}, Timelines.always_ok}
 use Rattle.debug_session.proofs.timeline.Timeline.go_back.Goals as goal
 
 pub again-requires-clause-ranges : goal.again-requires-clause-ranges

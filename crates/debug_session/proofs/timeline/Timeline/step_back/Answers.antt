@@ -1,8 +1,5 @@
-use Rattle.std.proofs.Common.{◌≡◌, Bool, subst, refl}
-use Rattle.std.specs.Bool.{MatchBool}
-use Rattle.debug_session.specs.Pasts.{IsRowCut}
-use Rattle.debug_session.proofs.Histories.{row_cut_ranges}
-use Rattle.std.proofs.lemmas.Result.{IfOk-from_err}
+use Rattle.std.{proofs.{Common.{◌≡◌, Bool, subst, refl}, lemmas.Result.IfOk-from_err}, specs.Bool.MatchBool}
+use Rattle.debug_session.{specs.Pasts.IsRowCut, proofs.Histories.row_cut_ranges}
 use Rattle.debug_session.proofs.timeline.Timeline.step_back.Goals as goal
 
 pub again-requires-clause-ranges : goal.again-requires-clause-ranges

@@ -1,11 +1,8 @@
-use Rattle.std.proofs.Common.{refl, sym, ◌∙◌}
-use Rattle.bench_report.specs.Bench.{Bench}
-use Rattle.bench_report.specs.Steps.{Moves}
-use Rattle.bench_report.specs.Rows.{row_answer}
+use Rattle.std.proofs.{Common.{refl, sym, ◌∙◌}, lemmas.Result.IfOk-from_err}
+use Rattle.bench_report.specs.{Bench.Bench, Steps.Moves, Rows.row_answer}
 use Rattle.script_lang.specs.declared.line.Line.TheVariants as lines
 use Rattle.simdisk.specs.declared.fill.Fill.TheVariants as fills
 use Rattle.debug_session.proofs.Timelines.{row_left}
-use Rattle.std.proofs.lemmas.Result.{IfOk-from_err}
 use Rattle.debug_session.proofs.timeline.Timeline.turns.Goals as goal
 
 pub returns-clause-at : goal.returns-clause-at

@@ -1,10 +1,7 @@
-use Rattle.std.proofs.Common.{sym, ◌∙◌, refl}
+use Rattle.std.proofs.{Common.{sym, ◌∙◌, refl}, lemmas.Result.IfOk-from_err}
 use Rattle.bench_report.specs.Bench.{Bench}
 use Rattle.simdisk.specs.declared.fill.Fill.TheVariants as fills
-use Rattle.debug_session.specs.Lives.{Rests}
-use Rattle.debug_session.specs.Passes.{GoesTo}
-use Rattle.debug_session.proofs.Timelines.{row_left}
-use Rattle.std.proofs.lemmas.Result.{IfOk-from_err}
+use Rattle.debug_session.{specs.{Lives.Rests, Passes.GoesTo}, proofs.Timelines.row_left}
 use Rattle.debug_session.proofs.timeline.Timeline.turns_to.Goals as goal
 
 pub returns-clause-at : goal.returns-clause-at

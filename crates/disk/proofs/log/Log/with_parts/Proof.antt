@@ -28,10 +28,9 @@ use denote.Triple.Entry.{alive}
 use denote.Triple.Spec.{Meets, triple_of}
 use denote.Triple.Table.{entered}
 use denote.Triple.Walked.{says, Stays, stay_dropped, walk_of, ends_at, walk_Meets, Goes-dropped}
-use Rattle.disk.specs.declared.log.Log.{Log}
+use Rattle.disk.specs.{declared.log.Log.Log, contracts.{log.{Log.{with_parts.{Key.{name as #it}}}}}}
 use Rattle.disk.specs.contracts.log.Log as T
 use Rattle.disk.specs.contracts.log.Log.with_parts as it
-use Rattle.disk.specs.contracts.log.Log.with_parts.Key.{name as #it}
 use Rattle.disk.proofs.log.Log.with_parts.Statement as stated
 use Rattle.disk.proofs.log.Log.with_parts.Code as code
 

@@ -1,6 +1,5 @@
 use Rattle.std.proofs.Common.{arith}
-use Rattle.elf_image.specs.Program.{segments_of}
-use Rattle.elf_image.proofs.Laying.{within_ram}
+use Rattle.elf_image.{specs.Program.segments_of, proofs.Laying.within_ram}
 use Rattle.elf_image.proofs.kernel_file.Elf.load.Goals as goal
 
 pub returns-in-Ok-clause-within : goal.returns-in-Ok-clause-within

@@ -1,7 +1,5 @@
 use Rattle.std.proofs.Common.{ℕ, ℤ, ◌≡◌, ◌∙◌, ap, w32, to_z, of_z, rules}
-use Rattle.hart.specs.Means.{sum}
-use Rattle.hart.specs.State.{reg, jump}
-use Rattle.hart.proofs.Carried.{stored, store_misaligns, store_outside}
+use Rattle.hart.{specs.{Means.sum, State.{reg, jump}}, proofs.Carried.{stored, store_misaligns, store_outside}}
 use Rattle.hart.proofs.state.Hart.store.Goals as goal
 
 pub returns-in-Ok : goal.returns-in-Ok

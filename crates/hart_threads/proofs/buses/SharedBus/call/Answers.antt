@@ -5,8 +5,7 @@ use Rattle.sbi_calls.specs.Both.{harts_of_both, known}
 use Rattle.store.specs.Views.{life_of}
 use Rattle.susp.specs.declared.buses.Bus.{Bus}
 use Rattle.tallies.specs.Books.{keeper_view}
-use Rattle.hart_threads.specs.Bused.{Takes, begun_bus, call_turn, held_call}
-use Rattle.hart_threads.proofs.Bussing.{call_more, held_called, more, saved_held}
+use Rattle.hart_threads.{specs.Bused.{Takes, begun_bus, call_turn, held_call}, proofs.Bussing.{call_more, held_called, more, saved_held}}
 use Rattle.hart_threads.proofs.LifeEnding.{held_stays}
 use Rattle.hart_threads.proofs.buses.SharedBus.call.Goals as goal
 

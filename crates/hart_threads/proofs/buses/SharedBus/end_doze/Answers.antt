@@ -1,8 +1,7 @@
 use Rattle.std.proofs.Common.{◌+◌, ◌∙◌, suc, length, refl, ap}
 use Rattle.susp.specs.declared.buses.Bus.{Bus}
 use Rattle.tallies.specs.Books.{told_after}
-use Rattle.hart_threads.specs.Bused.{begun_bus, bus_turn}
-use Rattle.hart_threads.proofs.Bussing.{calls_more, more}
+use Rattle.hart_threads.{specs.Bused.{begun_bus, bus_turn}, proofs.Bussing.{calls_more, more}}
 use Rattle.hart_threads.proofs.buses.SharedBus.end_doze.Goals as goal
 
 pub invariant_of-self : goal.invariant_of-self

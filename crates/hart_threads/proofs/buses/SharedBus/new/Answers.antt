@@ -1,7 +1,6 @@
 use Rattle.std.proofs.Common.{sym, ap, subst}
 use Rattle.tallies.specs.declared.book_views.BookView.{BookView}
-use Rattle.hart_threads.specs.Bused.{HasCalls, Made, begun_bus}
-use Rattle.hart_threads.specs.declared.bus_turns.BusTurn.{BusTurn}
+use Rattle.hart_threads.specs.{Bused.{HasCalls, Made, begun_bus}, declared.bus_turns.BusTurn.BusTurn}
 use Rattle.hart_threads.proofs.buses.SharedBus.new.Goals as goal
 
 pub invariant_of-result : goal.invariant_of-result

@@ -1,12 +1,8 @@
 use Rattle.std.proofs.Common.{◌≡◌, ◌+◌, ◌∙◌, suc, true, length, Option, refl, sym, ap, subst}
-use Rattle.susp.specs.Dozes.{can_wake}
-use Rattle.susp.specs.declared.buses.Bus.{Bus}
-use Rattle.tallies.specs.Books.{told_after}
-use Rattle.tallies.specs.declared.book_views.PartView.{PartView}
-use Rattle.hart_threads.specs.Bused.{AreWakes, Made, begun_bus, bus_turn, part_in}
-use Rattle.hart_threads.specs.declared.bus_turns.BusTurn.{BusTurn}
-use Rattle.hart_threads.proofs.Bussing.{calls_more, more}
-use Rattle.hart_threads.proofs.Waking.{holds_part, holds_some, woken_more}
+use Rattle.susp.specs.{Dozes.can_wake, declared.buses.Bus.Bus}
+use Rattle.tallies.specs.{Books.told_after, declared.book_views.PartView.PartView}
+use Rattle.hart_threads.specs.{Bused.{AreWakes, Made, begun_bus, bus_turn, part_in}, declared.bus_turns.BusTurn.BusTurn}
+use Rattle.hart_threads.proofs.{Bussing.{calls_more, more}, Waking.{holds_part, holds_some, woken_more}}
 use Rattle.hart_threads.proofs.buses.SharedBus.wake.Goals as goal
 
 pub held_part-part-requires : goal.held_part-part-requires

@@ -1,12 +1,7 @@
-use Rattle.std.proofs.Common.{◌≡◌, ◌∙◌, ◌++◌, ℕ, List, length, arith, ap, subst}
-use Rattle.std.specs.Option.{option_to_list}
+use Rattle.std.{proofs.Common.{◌≡◌, ◌∙◌, ◌++◌, ℕ, List, length, arith, ap, subst}, specs.Option.option_to_list}
 use Rattle.board_model.specs.declared.durable.Entry.{Entry}
-use Rattle.tallies.specs.Books.{entries_of}
-use Rattle.tallies.specs.Closed.{AreReceiptsOf, told_in}
-use Rattle.tallies.specs.declared.book_views.BookView.{BookView}
-use Rattle.hart_threads.specs.Doubts.{doubt_told}
-use Rattle.hart_threads.specs.Noted.{entries_in}
-use Rattle.hart_threads.proofs.Doubting.{doubt_is}
+use Rattle.tallies.specs.{Books.entries_of, Closed.{AreReceiptsOf, told_in}, declared.book_views.BookView.BookView}
+use Rattle.hart_threads.{specs.{Doubts.doubt_told, Noted.entries_in}, proofs.Doubting.doubt_is}
 use Rattle.hart_threads.proofs.doubts.Doubts.close.Goals as goal
 
 -- both parts are back: what they were told is the command in doubt

@@ -1,10 +1,7 @@
 use Rattle.std.proofs.Common.{◌≡◌, ◌∙◌, ℕ, suc, List, [], ◌∷◌, length, sym, ap, subst}
 use Rattle.board_model.specs.declared.durable.Entry.{Entry}
 use Rattle.board_model.specs.declared.durable.Entry.TheVariants as entries
-use Rattle.tallies.specs.Books.{entries_of}
-use Rattle.tallies.specs.Closed.{AreStanding}
-use Rattle.tallies.specs.declared.book_views.BookView.{BookView}
-use Rattle.tallies.specs.declared.book_views.PartView.{PartView}
+use Rattle.tallies.specs.{Books.entries_of, Closed.AreStanding, declared.book_views.{BookView.BookView, PartView.PartView}}
 use Rattle.tallies.proofs.Closing.{length_journal}
 use Rattle.hart_threads.proofs.Doubting.{none_told}
 use Rattle.hart_threads.proofs.doubts.Doubts.doubt.Goals as goal

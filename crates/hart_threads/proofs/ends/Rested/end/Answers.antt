@@ -1,8 +1,6 @@
-use Rattle.std.proofs.Common.{Option, ℕ, refl, sym, subst}
-use Rattle.std.proofs.Math.Logic.{∥∥₁_map}
+use Rattle.std.proofs.{Common.{Option, ℕ, refl, sym, subst}, Math.Logic.∥∥₁_map}
 use Rattle.board_model.specs.declared.durable.Entry.{Entry}
-use Rattle.hart_threads.specs.Ends.{HasGone}
-use Rattle.hart_threads.specs.Threads.{seated}
+use Rattle.hart_threads.specs.{Ends.HasGone, Threads.seated}
 use Rattle.hart_threads.proofs.ends.Rested.end.Goals as goal
 
 pub returns-clause-hart : goal.returns-clause-hart

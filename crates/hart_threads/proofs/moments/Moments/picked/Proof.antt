@@ -28,10 +28,9 @@ use denote.Triple.Entry.{alive}
 use denote.Triple.Spec.{Meets, triple_of}
 use denote.Triple.Table.{entered}
 use denote.Triple.Walked.{says, Stays, stay_dropped, walk_of, ends_at, walk_Meets, Goes-dropped}
-use Rattle.hart_threads.specs.declared.moments.Moments.{Moments}
+use Rattle.hart_threads.specs.{declared.moments.Moments.Moments, contracts.{moments.{Moments.{picked.{Key.{name as #it}}}}}}
 use Rattle.hart_threads.specs.contracts.moments.Moments as T
 use Rattle.hart_threads.specs.contracts.moments.Moments.picked as it
-use Rattle.hart_threads.specs.contracts.moments.Moments.picked.Key.{name as #it}
 use Rattle.hart_threads.proofs.moments.Moments.picked.Statement as stated
 use Rattle.hart_threads.proofs.moments.Moments.picked.Code as code
 

@@ -1,7 +1,6 @@
 use Rattle.std.proofs.Common.{◌∙◌, ap, subst}
 use Rattle.tallies.specs.declared.book_views.PartView.{PartView}
-use Rattle.hart_threads.specs.Bused.{StepsBus, part_in}
-use Rattle.hart_threads.specs.declared.bus_turns.BusTurn.{BusTurn}
+use Rattle.hart_threads.specs.{Bused.{StepsBus, part_in}, declared.bus_turns.BusTurn.BusTurn}
 use Rattle.hart_threads.proofs.once.LockedBusMemoryBus.step.Goals as goal
 
 pub returns : goal.returns

@@ -2,9 +2,7 @@ use Rattle.std.proofs.Common.{◌∙◌, Option, ap, sym, subst}
 use Rattle.sbi_abi.specs.Calls.{call_of}
 use Rattle.sbi_calls.specs.Both.{harts_of_both, known}
 use Rattle.susp.specs.declared.buses.Doze.{Doze}
-use Rattle.hart_threads.specs.Looks.{doze_by}
-use Rattle.hart_threads.specs.Threads.{IsDozeBy}
-use Rattle.hart_threads.proofs.Holding.{held_once}
+use Rattle.hart_threads.{specs.{Looks.doze_by, Threads.IsDozeBy}, proofs.Holding.held_once}
 use Rattle.hart_threads.proofs.shared.HartLocal.call.Goals as goal
 
 pub returns-clause-once : goal.returns-clause-once

@@ -1,26 +1,12 @@
-use Rattle.std.proofs.Common.{◌∙◌, ◌&&◌, ℕ, Bool, Ok, Err, List, [], ap, length, arith, refl, subst, sym}
-use Rattle.board_model.specs.Durable.{Change}
-use Rattle.board_model.specs.Views.{change_of}
-use Rattle.store.specs.Lives.{Applied}
-use Rattle.store.specs.Views.{disk_of, doubt_of, journal_of}
-use Rattle.store.specs.Asked.{Asked}
-use Rattle.std.specs.Prelude.{is_some}
-use Rattle.hart_threads.specs.Legal.{MayAnswer}
-use Rattle.hart_threads.specs.Doubts.{noted_if}
-use Rattle.hart_threads.proofs.Doubting.{asked_turns, ok_stays, still_noted, told_on}
-use Rattle.hart_threads.proofs.Naming.{asked_named, asked_may, begins_on, begins_still}
-use Rattle.board_model.specs.declared.durable.Entry.{Entry}
-use Rattle.board_model.specs.declared.durable.Entry.TheVariants as entries
-use Rattle.tallies.specs.Books.{entries_of, told_after}
-use Rattle.tallies.specs.declared.book_views.BookView.{BookView}
-use Rattle.hart_threads.specs.Noted.{entries_in}
-use Rattle.board_model.proofs.Steps.{entry_of_command}
-use Rattle.hart_threads.proofs.Noting.{number, tied_on}
-use Rattle.hart_threads.specs.Since.{AreKept}
-use Rattle.hart_threads.proofs.Keeping.{asked_kept}
-use Rattle.hart_threads.proofs.Lasting.{one_longer}
-use Rattle.hart_threads.specs.Bused.{part_in}
+use Rattle.std.{proofs.Common.{◌∙◌, ◌&&◌, ℕ, Bool, Ok, Err, List, [], ap, length, arith, refl, subst, sym}, specs.Prelude.is_some}
+use Rattle.board_model.{specs.{Durable.Change, Views.change_of, declared.durable.Entry.Entry}, proofs.Steps.entry_of_command}
+use Rattle.store.specs.{Lives.Applied, Views.{disk_of, doubt_of, journal_of}, Asked.Asked}
+use Rattle.hart_threads.{specs.{Legal.MayAnswer, Doubts.noted_if}, proofs.Doubting.{asked_turns, ok_stays, still_noted, told_on}}
+use Rattle.hart_threads.{proofs.Naming.{asked_named, asked_may, begins_on, begins_still}, specs.{Noted.entries_in, Since.AreKept}}
+use Rattle.hart_threads.{proofs.{Noting.{number, tied_on}, Keeping.asked_kept, Lasting.one_longer}, specs.Bused.part_in}
 use Rattle.hart_threads.proofs.Bussing.{saved_still}
+use Rattle.board_model.specs.declared.durable.Entry.TheVariants as entries
+use Rattle.tallies.specs.{Books.{entries_of, told_after}, declared.book_views.BookView.BookView}
 use Rattle.hart_threads.proofs.shared_store.SharedStore.apply.Goals as goal
 
 pub invariant_of-self : goal.invariant_of-self

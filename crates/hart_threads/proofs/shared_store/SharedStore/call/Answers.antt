@@ -1,23 +1,14 @@
 use Rattle.std.proofs.Common.{◌≡◌, ◌∙◌, ◌+◌, ℕ, Bool, Option, List, ◌∷◌, length, refl, sym, ap, subst, arith}
-use Rattle.board_model.specs.Durable.{Change}
-use Rattle.board_model.specs.declared.durable.Entry.{Entry}
-use Rattle.tallies.specs.Books.{entries_of, told_after}
-use Rattle.tallies.specs.declared.book_views.BookView.{BookView}
-use Rattle.hart_threads.specs.Noted.{entries_in}
+use Rattle.board_model.specs.{Durable.Change, declared.durable.Entry.Entry}
+use Rattle.tallies.specs.{Books.{entries_of, told_after}, declared.book_views.{BookView.BookView, PartView.PartView}}
+use Rattle.hart_threads.{specs.{Noted.entries_in, Since.AreKept, Doubts.noted_by}, proofs.{Keeping.{held_kept, moments_by}, Calling.made}}
+use Rattle.hart_threads.{proofs.{Doubting.{hart_asks, held, noted_on}, Naming.begins_still}, specs.Bused.{AreSaved, part_in}}
+use Rattle.hart_threads.proofs.Lasting.{begins_longer, grows, place_after, stays, tied_after, told_last, told_of}
+use Rattle.hart_threads.specs.declared.bus_turns.BusTurn.{BusTurn}
 use Rattle.sbi_abi.specs.Calls.{call_of}
 use Rattle.sbi_calls.specs.Both.{harts_of_both, known}
 use Rattle.sbi.specs.declared.words.Word.{Word}
 use Rattle.store.specs.Views.{disk_of, doubt_of, journal_of, life_of}
-use Rattle.hart_threads.specs.Since.{AreKept}
-use Rattle.hart_threads.proofs.Keeping.{held_kept, moments_by}
-use Rattle.hart_threads.specs.Doubts.{noted_by}
-use Rattle.hart_threads.proofs.Doubting.{hart_asks, held, noted_on}
-use Rattle.hart_threads.proofs.Calling.{made}
-use Rattle.hart_threads.proofs.Lasting.{begins_longer, grows, place_after, stays, tied_after, told_last, told_of}
-use Rattle.hart_threads.proofs.Naming.{begins_still}
-use Rattle.tallies.specs.declared.book_views.PartView.{PartView}
-use Rattle.hart_threads.specs.Bused.{AreSaved, part_in}
-use Rattle.hart_threads.specs.declared.bus_turns.BusTurn.{BusTurn}
 use Rattle.hart_threads.proofs.shared_store.SharedStore.call.Goals as goal
 
 pub invariant_of-self : goal.invariant_of-self

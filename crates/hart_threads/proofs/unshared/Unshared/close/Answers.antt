@@ -1,8 +1,7 @@
 use Rattle.std.proofs.Common.{sym, subst}
 use Rattle.store.specs.Views.{life_of}
 use Rattle.tallies.specs.declared.book_views.PartView.{PartView}
-use Rattle.hart_threads.specs.Bused.{AreSaved}
-use Rattle.hart_threads.specs.declared.bus_turns.BusTurn.{BusTurn}
+use Rattle.hart_threads.specs.{Bused.AreSaved, declared.bus_turns.BusTurn.BusTurn}
 use Rattle.hart_threads.proofs.unshared.Unshared.close.Goals as goal
 
 pub returns-clause-saved : goal.returns-clause-saved

@@ -1,12 +1,8 @@
 use Rattle.std.proofs.Common.{◌≡◌, ◌∙◌, ◌++◌, ◌∷◌, List, [], length, map, vec_len, refl, sym, ap, arith}
 use Rattle.std.proofs.lemmas.Result.{err_from_is_err_and}
-use Rattle.tallies.specs.Books.{fresh_from}
-use Rattle.tallies.specs.declared.book_views.PartView.{PartView}
-use Rattle.hart_threads.specs.declared.bus_turns.BusTurn.{BusTurn}
-use Rattle.hart_threads.specs.declared.shared.HartParts.{HartParts}
-use Rattle.hart_threads.proofs.Numbered.{all_runs, one_run_off, run_left}
-use Rattle.hart_threads.specs.Views.{bus_parts, parts_with}
-use Rattle.hart_threads.proofs.UntoldParts.{all_nil, all_pushed, all_off, one_more_off}
+use Rattle.tallies.specs.{Books.fresh_from, declared.book_views.PartView.PartView}
+use Rattle.hart_threads.specs.{declared.{bus_turns.BusTurn.BusTurn, shared.HartParts.HartParts}, Views.{bus_parts, parts_with}}
+use Rattle.hart_threads.proofs.{Numbered.{all_runs, one_run_off, run_left}, UntoldParts.{all_nil, all_pushed, all_off, one_more_off}}
 use Rattle.hart_threads.proofs.unshared.Unshared.hand_out_all.Goals as goal
 
 pub returns-in_err-parts-clause-store : goal.returns-in_err-parts-clause-store

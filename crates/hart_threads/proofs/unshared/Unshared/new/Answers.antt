@@ -1,22 +1,11 @@
 use Rattle.std.proofs.Common.{◌≡◌, ◌∙◌, ◌+◌, ◌<◌, ◌≤◌, ℕ, List, Option, [], All, length, drop, refl, sym, ap, subst, arith}
 use Rattle.std.specs.Option.{option_to_list}
-use Rattle.board_model.specs.Durable.{Change, DurableState, fold}
-use Rattle.board_model.specs.Views.{durable_of}
-use Rattle.store.specs.Taken.{are_taken}
-use Rattle.board_model.specs.Shapes.{Size}
-use Rattle.store.specs.Leaves.{LeavesOnly}
-use Rattle.store.specs.Views.{disk_of, journal_of, life_of, now_state}
-use Rattle.board_model.specs.declared.durable.Entry.{Entry}
-use Rattle.tallies.specs.Books.{first_of, fresh_from}
-use Rattle.tallies.specs.declared.book_views.BookView.{BookView}
-use Rattle.tallies.specs.declared.book_views.PartView.{PartView}
-use Rattle.hart_threads.specs.Noted.{boot_told, entries_in}
-use Rattle.hart_threads.proofs.Booted.{begins_same}
-use Rattle.hart_threads.proofs.Keeping.{begun_kept}
-use Rattle.hart_threads.proofs.UntoldParts.{all_rest, first_told, fresh_many, fresh_told, one_off}
-use Rattle.hart_threads.specs.Bused.{AreSaved}
+use Rattle.board_model.specs.{Durable.{Change, DurableState, fold}, Views.durable_of, Shapes.Size, declared.durable.Entry.Entry}
+use Rattle.store.specs.{Taken.are_taken, Leaves.LeavesOnly, Views.{disk_of, journal_of, life_of, now_state}}
+use Rattle.tallies.specs.{Books.{first_of, fresh_from}, declared.book_views.{BookView.BookView, PartView.PartView}}
+use Rattle.hart_threads.{specs.{Noted.{boot_told, entries_in}, Bused.AreSaved}, proofs.{Booted.begins_same, Keeping.begun_kept}}
+use Rattle.hart_threads.proofs.{UntoldParts.{all_rest, first_told, fresh_many, fresh_told, one_off}, Numbered.two_more}
 use Rattle.hart_threads.specs.declared.bus_turns.BusTurn.{BusTurn}
-use Rattle.hart_threads.proofs.Numbered.{two_more}
 use Rattle.hart_threads.proofs.unshared.Unshared.new.Goals as goal
 
 pub hand_out-part-requires : goal.hand_out-part-requires

@@ -1,10 +1,7 @@
 use Rattle.std.proofs.Common.{List, sym, ap, subst, ◌∙◌}
 use Rattle.tallies.specs.Notes.{numbers}
-use Rattle.hsm.specs.Words.{HartView, HartSeatView}
-use Rattle.hsm.specs.Seating.{harts_of, started_in}
-use Rattle.hsm.specs.Rule.{HasSteps, stands}
-use Rattle.hsm.specs.States.{IsBetweenCalls, Shows}
-use Rattle.hsm.proofs.Lists.{stand_together}
+use Rattle.hsm.specs.{Words.{HartView, HartSeatView}, Seating.{harts_of, started_in}, Rule.{HasSteps, stands}}
+use Rattle.hsm.{specs.States.{IsBetweenCalls, Shows}, proofs.Lists.stand_together}
 use Rattle.hsm.proofs.table.HartTable.join.Goals as goal
 
 pub returns-clause-all : goal.returns-clause-all

@@ -1,15 +1,8 @@
 use Rattle.std.proofs.Common.{◌==◌, if◌then◌else◌, sym, ap, ◌∙◌, subst, ◌≡◌, ℕ, ◌+◌, ◌*◌, ◌<◌, List, [], ◌∷◌, arith, take, zero, suc, refl, replicate, length-take}
 use Rattle.std.specs.Prelude.{slice_index}
-use Rattle.tallies.specs.Seats.{numbers_from}
-use Rattle.tallies.specs.Notes.{numbers, SeatState}
-use Rattle.hsm.specs.declared.view.Stage.TheVariants.{Out, Running}
-use Rattle.hsm.specs.Words.{HartView, HartSeatView}
-use Rattle.hsm.specs.Rule.{stands}
-use Rattle.hsm.specs.States.{Shows}
-use Rattle.tallies.proofs.Noted.{opens_numbered}
-use Rattle.hsm.specs.declared.view.Action.{Action}
-use Rattle.hsm.specs.Outcomes.{opening_stage, opening_states, opening_view}
-use Rattle.hsm.specs.declared.table.Setup.{Setup}
+use Rattle.tallies.{specs.{Seats.numbers_from, Notes.{numbers, SeatState}}, proofs.Noted.opens_numbered}
+use Rattle.hsm.specs.{declared.view.Stage.TheVariants.{Out, Running}, Words.{HartView, HartSeatView}, Rule.stands, States.Shows}
+use Rattle.hsm.specs.{declared.{view.Action.Action, table.Setup.Setup}, Outcomes.{opening_stage, opening_states, opening_view}}
 use Rattle.hsm.proofs.Parting.{opens, opening_word, opens_standing, opens_shown}
 use Rattle.hsm.proofs.table.HartTable.new.Goals as goal
 

@@ -1,5 +1,4 @@
-use Rattle.hsm.specs.Seating.{harts_in, harts_of}
-use Rattle.hsm.proofs.Lists.{in_order_stands}
+use Rattle.hsm.{specs.Seating.{harts_in, harts_of}, proofs.Lists.in_order_stands}
 use Rattle.hsm.proofs.table.HartTable.split.Goals as goal
 
 pub returns-clause-stages : goal.returns-clause-stages

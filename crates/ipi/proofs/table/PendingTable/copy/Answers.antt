@@ -1,10 +1,6 @@
-use Rattle.std.proofs.Common.{◌≡◌, ◌+◌, ℕ, arith, refl, sym, ap, ◌∙◌, subst}
-use Rattle.std.proofs.lemmas.Result.{err_from_is_err_and}
-use Rattle.tallies.specs.Notes.{numbers}
-use Rattle.tallies.specs.Seats.{numbers_from}
-use Rattle.ipi.specs.Copies.{IsMade}
-use Rattle.ipi.specs.Ledger.{PendingSeatView}
-use Rattle.ipi.proofs.Copying.{ends, hart_below, hart_of, made_at, made_none}
+use Rattle.std.proofs.{Common.{◌≡◌, ◌+◌, ℕ, arith, refl, sym, ap, ◌∙◌, subst}, lemmas.Result.err_from_is_err_and}
+use Rattle.tallies.specs.{Notes.numbers, Seats.numbers_from}
+use Rattle.ipi.{specs.{Copies.IsMade, Ledger.PendingSeatView}, proofs.Copying.{ends, hart_below, hart_of, made_at, made_none}}
 use Rattle.ipi.proofs.table.PendingTable.copy.Goals as goal
 
 pub returns-clause-pairs : goal.returns-clause-pairs

@@ -1,6 +1,5 @@
 use Rattle.std.proofs.Common.{◌≡◌}
-use Rattle.ipi.specs.Seating.{IsSeatOf, pending_view_of_seat}
-use Rattle.ipi.specs.Copies.{IsMade}
+use Rattle.ipi.specs.{Seating.{IsSeatOf, pending_view_of_seat}, Copies.IsMade}
 use Rattle.ipi.proofs.table.PendingTable.copy.Given as goal
 
 abbrev pub invariant-loop-number : goal.invariant-loop-number

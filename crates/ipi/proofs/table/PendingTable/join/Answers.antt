@@ -1,9 +1,6 @@
 use Rattle.std.proofs.Common.{sym, ap, subst, ◌∙◌}
 use Rattle.tallies.specs.Notes.{numbers}
-use Rattle.ipi.specs.Ledger.{HasSteps, PendingSeatView}
-use Rattle.ipi.specs.Pairs.{Shows}
-use Rattle.ipi.specs.Seating.{harts_of}
-use Rattle.ipi.specs.Views.{pair_in}
+use Rattle.ipi.specs.{Ledger.{HasSteps, PendingSeatView}, Pairs.Shows, Seating.harts_of, Views.pair_in}
 use Rattle.ipi.proofs.Computed.{shows_seen, whole_of}
 use Rattle.ipi.proofs.table.PendingTable.join.Goals as goal
 

@@ -1,11 +1,7 @@
 use Rattle.std.proofs.Common.{◌≡◌, ℕ, [], ◌∷◌, arith, take, zero, suc, refl, replicate, length-take, false, sym, ap, ◌∙◌, subst}
 use Rattle.std.specs.Prelude.{slice_index}
-use Rattle.tallies.specs.Seats.{numbers_from}
-use Rattle.tallies.specs.Notes.{SeatState, seats, numbers}
-use Rattle.ipi.specs.Ledger.{opening_pending_view, PendingSeatView}
-use Rattle.ipi.specs.Pairs.{Shows}
-use Rattle.tallies.proofs.Noted.{opens_numbered, opens_seated}
-use Rattle.ipi.specs.declared.view.IpiAction.{IpiAction}
+use Rattle.tallies.{specs.{Seats.numbers_from, Notes.{SeatState, seats, numbers}}, proofs.Noted.{opens_numbered, opens_seated}}
+use Rattle.ipi.specs.{Ledger.{opening_pending_view, PendingSeatView}, Pairs.Shows, declared.view.IpiAction.IpiAction}
 use Rattle.ipi.proofs.Parting.{opens, opens_shown}
 use Rattle.ipi.proofs.table.PendingTable.new.Goals as goal
 

@@ -1,7 +1,6 @@
 use Rattle.std.proofs.Common.{◌↔◌, ℕ, Bool, not, IsTrue, subst}
 use Rattle.board_model.specs.HartSets.{Has}
-use Rattle.ipi.specs.declared.view.IpiAction.TheVariants.{Looked}
-use Rattle.ipi.proofs.Alone.{same_harts, look_alone, few_senders, has_some}
+use Rattle.ipi.{specs.declared.view.IpiAction.TheVariants.Looked, proofs.Alone.{same_harts, look_alone, few_senders, has_some}}
 use Rattle.ipi.proofs.table.PendingTable.pending.Goals.{After-is_empty}
 use Rattle.ipi.proofs.table.PendingTable.pending.Goals as goal
 

@@ -1,8 +1,5 @@
-use Rattle.std.proofs.Common.{◌≡◌, ◌↔◌, ℕ, ◌+◌, ◌<◌, not, IsTrue, ap, ◌∙◌, subst, arith}
-use Rattle.std.specs.Int.{bit_at}
-use Rattle.std.proofs.lemmas.Nat.Bits.{bit_at-lt}
-use Rattle.ipi.specs.declared.view.IpiAction.TheVariants.{Raised}
-use Rattle.ipi.proofs.Alone.{same_harts, raise_alone, is_clear}
+use Rattle.std.{proofs.{Common.{◌≡◌, ◌↔◌, ℕ, ◌+◌, ◌<◌, not, IsTrue, ap, ◌∙◌, subst, arith}, lemmas.Nat.Bits.bit_at-lt}, specs.Int.bit_at}
+use Rattle.ipi.{specs.declared.view.IpiAction.TheVariants.Raised, proofs.Alone.{same_harts, raise_alone, is_clear}}
 use Rattle.ipi.proofs.table.PendingTable.raise.Goals.{After-contains}
 use Rattle.ipi.proofs.table.PendingTable.raise.Goals as goal
 

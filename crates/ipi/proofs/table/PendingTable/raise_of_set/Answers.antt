@@ -1,6 +1,4 @@
-use Rattle.ipi.specs.Views.{pair_in}
-use Rattle.ipi.specs.Pairs.{with_pair}
-use Rattle.ipi.proofs.Computed.{seat_determines_pairs, shows_seen, whole_of}
+use Rattle.ipi.{specs.{Views.pair_in, Pairs.with_pair}, proofs.Computed.{seat_determines_pairs, shows_seen, whole_of}}
 use Rattle.ipi.proofs.table.PendingTable.raise_of_set.Goals as goal
 
 pub raise-seat-requires-clause-acts : goal.raise-seat-requires-clause-acts

@@ -1,5 +1,4 @@
-use Rattle.ipi.proofs.Alone.{few_senders}
-use Rattle.ipi.proofs.Copying.{senders_are}
+use Rattle.ipi.proofs.{Alone.few_senders, Copying.senders_are}
 use Rattle.ipi.proofs.table.PendingTable.senders.Goals as goal
 
 pub of-requires : goal.of-requires

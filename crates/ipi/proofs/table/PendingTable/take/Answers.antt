@@ -1,5 +1,4 @@
-use Rattle.ipi.specs.declared.view.IpiAction.TheVariants.{Took}
-use Rattle.ipi.proofs.Alone.{same_harts, take_alone, few_senders}
+use Rattle.ipi.{specs.declared.view.IpiAction.TheVariants.Took, proofs.Alone.{same_harts, take_alone, few_senders}}
 use Rattle.ipi.proofs.table.PendingTable.take.Goals as goal
 
 pub of-requires : goal.of-requires

@@ -1,7 +1,6 @@
 use Rattle.std.proofs.Common.{◌<◌, ◌∙◌, ℕ, ap, subst, sym}
 use Rattle.tallies.specs.Seats.{numbers_from}
-use Rattle.ipi.proofs.Computed.{whole_of}
-use Rattle.ipi.proofs.Copying.{hart_below}
+use Rattle.ipi.proofs.{Computed.whole_of, Copying.hart_below}
 use Rattle.ipi.proofs.table.PendingTable.take_row.Goals as goal
 
 pub senders-senders-requires-clause-whole : goal.senders-senders-requires-clause-whole

@@ -1,5 +1,4 @@
-use Rattle.ipi.specs.Seating.{IsSeatOf, pending_view_of_seat}
-use Rattle.ipi.specs.Copies.{IsMade}
+use Rattle.ipi.specs.{Seating.{IsSeatOf, pending_view_of_seat}, Copies.IsMade}
 use Rattle.ipi.proofs.table.PendingTable.take_row.Given as goal
 
 abbrev pub invariant-loop-number : goal.invariant-loop-number

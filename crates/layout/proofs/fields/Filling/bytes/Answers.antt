@@ -1,6 +1,5 @@
 use Rattle.std.proofs.Common.{◌≡◌, ◌∙◌, ℕ, ◌+◌, ◌-◌, ◌≤◌, ◌++◌, List, length, refl, sym, ap, replicate, take, drop, arith, length-append, length-take, length-drop}
-use Rattle.std.proofs.lemmas.List.{drop-replicate, drop-drop, length-take-le}
-use Rattle.std.proofs.lemmas.Slice.{drop-put_mid, take-put_mid}
+use Rattle.std.proofs.lemmas.{List.{drop-replicate, drop-drop, length-take-le}, Slice.{drop-put_mid, take-put_mid}}
 use borrow.Rule.Slice.PartMut.{mid_of, put_mid}
 use Rattle.layout.proofs.fields.Filling.bytes.Goals as goal
 

@@ -1,7 +1,5 @@
-use Rattle.std.proofs.Common.{◌≡◌, Some, ap}
-use Rattle.std.specs.Fmt.{styled_digits_output}
-use Rattle.board_model.specs.Texts.{hex_text}
-use Rattle.board_model.proofs.Padded.{padded_zeros}
+use Rattle.std.{proofs.Common.{◌≡◌, Some, ap}, specs.Fmt.styled_digits_output}
+use Rattle.board_model.{specs.Texts.hex_text, proofs.Padded.padded_zeros}
 use Rattle.machine.proofs.line.CsrNameDisplay.fmt.Goals as goal
 
 pub returns-clause-writes : goal.returns-clause-writes

@@ -1,5 +1,4 @@
-use Rattle.std.proofs.Common.{take}
-use Rattle.std.specs.Fmt.{HasWritten, IsPlainFormatter}
+use Rattle.std.{proofs.Common.take, specs.Fmt.{HasWritten, IsPlainFormatter}}
 use Rattle.machine.specs.Texts.{bytes_text}
 use Rattle.machine.proofs.line.HexDisplay.fmt.Given as goal
 

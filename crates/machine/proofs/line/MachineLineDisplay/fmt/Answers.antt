@@ -1,7 +1,5 @@
-use Rattle.std.proofs.Common.{subst, sym}
-use Rattle.std.specs.Fmt.{WritesOnOk}
-use Rattle.machine.specs.Texts.{machine_line_text}
-use Rattle.machine.specs.declared.line.MachineLine.{MachineLine}
+use Rattle.std.{proofs.Common.{subst, sym}, specs.Fmt.WritesOnOk}
+use Rattle.machine.specs.{Texts.machine_line_text, declared.line.MachineLine.MachineLine}
 use Rattle.machine.proofs.line.MachineLineDisplay.fmt.Goals as goal
 
 pub returns-in-Turn-clause-writes : goal.returns-in-Turn-clause-writes

@@ -1,7 +1,5 @@
 use Rattle.std.proofs.Common.{None, refl, sym, ◌∙◌, subst}
-use Rattle.machine.specs.Machine.{hart_at}
-use Rattle.machine.specs.Turns.{CallBy, calling}
-use Rattle.machine.proofs.Asking.{call_asks, calls_as_many}
+use Rattle.machine.{specs.{Machine.hart_at, Turns.{CallBy, calling}}, proofs.Asking.{call_asks, calls_as_many}}
 use Rattle.machine.proofs.machine.Machine.call.Goals as goal
 
 pub returns-in-Some-clause-calls : goal.returns-in-Some-clause-calls

@@ -1,7 +1,5 @@
-use Rattle.std.proofs.Common.{refl, sym, ◌∙◌}
-use Rattle.std.proofs.lemmas.Result.{err_from_is_err_and}
-use Rattle.machine.proofs.Holding.{all_seats, seats_there, held_with, shows_with, copy_held, copy_shows}
-use Rattle.machine.proofs.Refused.{no_room, nothing_made}
+use Rattle.std.proofs.{Common.{refl, sym, ◌∙◌}, lemmas.Result.err_from_is_err_and}
+use Rattle.machine.proofs.{Holding.{all_seats, seats_there, held_with, shows_with, copy_held, copy_shows}, Refused.{no_room, nothing_made}}
 use Rattle.machine.proofs.machine.Machine.copy.Goals as goal
 
 pub returns-in_err-ram-clause-stays : goal.returns-in_err-ram-clause-stays

@@ -1,15 +1,10 @@
 use Rattle.std.proofs.Common.{◌≡◌, ◌<◌, ℕ, Bool, true, false, true≢false, Option, Some, None, refl, sym, ap, ◌∙◌, subst, inl, inr}
-use Rattle.hart.specs.State.{ArchState, started as fresh}
-use Rattle.susp.specs.Dozes.{doze_of}
 use Rattle.std.specs.Prelude.{slice_set, not}
-use Rattle.susp.specs.declared.buses.Doze.{Doze}
-use Rattle.sbi_calls.specs.declared.words.Turned.TheVariants.{Made}
-use Rattle.sbi_calls.specs.declared.words.Did.TheVariants.{Resumed}
+use Rattle.hart.specs.State.{ArchState, started as fresh}
+use Rattle.susp.specs.{Dozes.doze_of, declared.buses.Doze.Doze}
+use Rattle.sbi_calls.specs.declared.words.{Turned.TheVariants.Made, Did.TheVariants.Resumed}
 use Rattle.turns.specs.Turns.{Moment, moment, Rests, TakesAlone, after_take}
-use Rattle.machine.specs.Held.{RestsBy, shown_by}
-use Rattle.machine.specs.Machine.{Machine}
-use Rattle.machine.specs.Turns.{DozeTurn, resumed, with_moment}
-use Rattle.machine.proofs.Owners.{of_no_other}
+use Rattle.machine.{specs.{Held.{RestsBy, shown_by}, Machine.Machine, Turns.{DozeTurn, resumed, with_moment}}, proofs.Owners.of_no_other}
 use Rattle.machine.proofs.Holding.{Action, shown_as, Finds, Left, finds, seats_there, in_place, seats_found, rests_found, number_found, low_number, others_rest, left}
 use Rattle.machine.proofs.machine.Machine.doze_turn.Goals.{After-index_mut, After-seat_determines_pairs}
 use Rattle.machine.proofs.machine.Machine.doze_turn.Goals as goal

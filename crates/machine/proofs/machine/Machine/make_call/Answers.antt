@@ -1,20 +1,14 @@
-use Rattle.std.proofs.Common.{◌≡◌, ◌<◌, ℕ, sym, ap, ◌∙◌, subst, inl, inr}
-use Rattle.std.specs.Prelude.{slice_set}
-use Rattle.hsm.specs.Views.{listed}
+use Rattle.std.{proofs.Common.{◌≡◌, ◌<◌, ℕ, sym, ap, ◌∙◌, subst, inl, inr}, specs.Prelude.slice_set}
+use Rattle.hsm.specs.{Views.listed, declared.view.Stage.TheVariants.{Running, Quiet}}
 use Rattle.sbi_abi.specs.Calls.{call_of}
-use Rattle.machine.specs.Machine.{Machine}
-use Rattle.hsm.specs.declared.view.Stage.TheVariants.{Running, Quiet}
-use Rattle.machine.specs.Held.{shown_by, stage_left}
-use Rattle.machine.specs.Durables.{StandsAtCall, HeldOf, MakesCall}
+use Rattle.machine.specs.{Machine.Machine, Held.{shown_by, stage_left}, Durables.{StandsAtCall, HeldOf, MakesCall}}
 use Rattle.machine.proofs.Holding.{Action, shown_as, Finds, Left, finds, seats_there, in_place, seats_found, low_number, one_shown, left}
-use Rattle.machine.proofs.Fallen.{stands_still}
+use Rattle.machine.proofs.{Fallen.stands_still, machine.Machine.make_call.Given.Over}
+use Rattle.machine.proofs.Commands.{started_acts, held_action, LeavesBus, leaves_bus, held_then, own_then, others_then}
+use Rattle.machine.proofs.machine.Machine.make_call.Goals.{After-index_mut, After-seat_determines_pairs}
 use Rattle.sbi_calls.specs.Both.{TableState}
 use Rattle.sbi.specs.Helds.{HeldAlone}
-use Rattle.susp.specs.Sleeps.{AreStopped}
-use Rattle.susp.specs.declared.buses.Bus.{Bus}
-use Rattle.machine.proofs.Commands.{started_acts, held_action, LeavesBus, leaves_bus, held_then, own_then, others_then}
-use Rattle.machine.proofs.machine.Machine.make_call.Given.{Over}
-use Rattle.machine.proofs.machine.Machine.make_call.Goals.{After-index_mut, After-seat_determines_pairs}
+use Rattle.susp.specs.{Sleeps.AreStopped, declared.buses.Bus.Bus}
 use Rattle.machine.proofs.machine.Machine.make_call.Goals as goal
 
 found : (g : Over) (c : After-index_mut g) → Finds c.self.inside c.unwrap-seats.result c.index.result c.args.id c.index_mut.result.now

@@ -1,9 +1,6 @@
 use Rattle.std.proofs.Common.{sym, ◌∙◌}
-use Rattle.sbi_calls.specs.Same.{AreOfOneBoard}
-use Rattle.sbi_calls.specs.declared.tables.Tables.{Tables}
-use Rattle.sbi_calls.specs.declared.tables.Seats.{Seats}
-use Rattle.machine.proofs.Opening.{AreMade, opening_held, is_resting}
-use Rattle.machine.proofs.machine.Machine.new.Goals.{After-seat_determines_pairs}
+use Rattle.sbi_calls.specs.{Same.AreOfOneBoard, declared.tables.{Tables.Tables, Seats.Seats}}
+use Rattle.machine.proofs.{Opening.{AreMade, opening_held, is_resting}, machine.Machine.new.Goals.After-seat_determines_pairs}
 use Rattle.machine.proofs.machine.Machine.new.Goals as goal
 
 abbrev tables_made : (c : After-seat_determines_pairs) → AreOfOneBoard c.in_ok-starts.starts.0 c.in_ok-raises.raises.0 → Tables

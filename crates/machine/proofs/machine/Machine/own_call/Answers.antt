@@ -1,7 +1,6 @@
 use Rattle.std.proofs.Common.{None, sym, ◌∙◌, ◌≡◌, subst}
 use Rattle.susp.specs.Dozes.{doze_of}
-use Rattle.machine.specs.Turns.{CallOf, calling}
-use Rattle.machine.specs.Machine.{Machine}
+use Rattle.machine.specs.{Turns.{CallOf, calling}, Machine.Machine}
 use Rattle.machine.proofs.Holding.{Finds, Left, finds, seats_there, in_place, seats_found, low_number, seat_rests, left_own, done_by}
 use Rattle.machine.proofs.machine.Machine.own_call.Goals.{After-index_mut, After-seat_determines_pairs}
 use Rattle.machine.proofs.machine.Machine.own_call.Goals as goal

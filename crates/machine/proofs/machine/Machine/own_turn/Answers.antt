@@ -1,9 +1,8 @@
 use Rattle.std.proofs.Common.{None, sym, ◌∙◌, ◌≡◌, subst}
 use Rattle.susp.specs.Dozes.{doze_of}
 use Rattle.turns.specs.Turns.{TurnOf}
-use Rattle.machine.specs.Machine.{Machine}
+use Rattle.machine.{specs.Machine.Machine, proofs.machine.Machine.own_turn.Goals.{After-index_mut, After-seat_determines_pairs}}
 use Rattle.machine.proofs.Holding.{Finds, Left, finds, seats_there, in_place, seats_found, low_number, seat_rests, left_own, done_by}
-use Rattle.machine.proofs.machine.Machine.own_turn.Goals.{After-index_mut, After-seat_determines_pairs}
 use Rattle.machine.proofs.machine.Machine.own_turn.Goals as goal
 
 found : (c : After-index_mut) → Finds c.self.inside c.unwrap-seats.result c.index.result c.args.id c.index_mut.result.now

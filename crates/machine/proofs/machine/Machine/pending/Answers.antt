@@ -1,11 +1,8 @@
-use Rattle.std.proofs.Common.{ℕ, ◌<◌, sym, ◌≡◌, ◌∙◌, subst}
-use Rattle.std.specs.Prelude.{length}
+use Rattle.std.{proofs.Common.{ℕ, ◌<◌, sym, ◌≡◌, ◌∙◌, subst}, specs.Prelude.length}
 use Rattle.sbi_calls.specs.Both.{TableState}
 use Rattle.susp.specs.Dozes.{doze_of}
 use Rattle.turns.specs.Turns.{has_pending}
-use Rattle.machine.specs.Machine.{Machine}
-use Rattle.machine.proofs.Owners.{sits_by}
-use Rattle.machine.proofs.Holding.{all_seats, seats_there, by_table}
+use Rattle.machine.{specs.Machine.Machine, proofs.{Owners.sits_by, Holding.{all_seats, seats_there, by_table}}}
 use Rattle.machine.proofs.Looks.{held_still, shows_still, found_it, stand_same}
 use Rattle.machine.proofs.machine.Machine.pending.Goals as goal
 

@@ -1,11 +1,8 @@
-use Rattle.std.proofs.Common.{rules, ◌≡◌, ◌<◌, ℕ, sym, ap, ◌∙◌, subst}
-use Rattle.std.specs.Prelude.{length}
+use Rattle.std.{proofs.{Common.{rules, ◌≡◌, ◌<◌, ℕ, sym, ap, ◌∙◌, subst}, lemmas.Result.err_from_is_err_and}, specs.Prelude.length}
 use Rattle.board_model.specs.Shapes.{Size}
 use Rattle.hart.specs.State.{ArchState}
 use Rattle.store.specs.Views.{size_of_store}
-use Rattle.machine.specs.Machine.{Machine}
-use Rattle.std.proofs.lemmas.Result.{err_from_is_err_and}
-use Rattle.machine.proofs.Refused.{nothing_made, handed_on, was_so}
+use Rattle.machine.{specs.Machine.Machine, proofs.Refused.{nothing_made, handed_on, was_so}}
 use Rattle.machine.proofs.machine.Machine.resume.Goals as goal
 
 pub index_mut-requires : goal.index_mut-requires

@@ -1,12 +1,8 @@
-use Rattle.std.proofs.Common.{ℕ, ◌<◌, sym, ◌≡◌, ◌∙◌, subst}
-use Rattle.std.specs.Prelude.{length}
+use Rattle.std.{proofs.Common.{ℕ, ◌<◌, sym, ◌≡◌, ◌∙◌, subst}, specs.Prelude.length}
 use Rattle.sbi_calls.specs.Both.{TableState}
 use Rattle.susp.specs.Dozes.{doze_of}
-use Rattle.hsm.specs.Calls.{named}
-use Rattle.hsm.specs.Views.{listed}
-use Rattle.machine.specs.Machine.{Machine, status_at}
-use Rattle.machine.proofs.Owners.{seated_by}
-use Rattle.machine.proofs.Holding.{all_seats, seats_there, by_table}
+use Rattle.hsm.specs.{Calls.named, Views.listed}
+use Rattle.machine.{specs.Machine.{Machine, status_at}, proofs.{Owners.seated_by, Holding.{all_seats, seats_there, by_table}}}
 use Rattle.machine.proofs.Looks.{held_still, shows_still, found_it}
 use Rattle.machine.proofs.machine.Machine.state.Goals as goal
 

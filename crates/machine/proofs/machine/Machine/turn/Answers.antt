@@ -1,7 +1,5 @@
 use Rattle.std.proofs.Common.{sym, ◌∙◌, subst}
-use Rattle.machine.specs.Turns.{TurnBy}
-use Rattle.machine.proofs.Asking.{turn_asks}
-use Rattle.machine.proofs.Rows.{turns_as_many}
+use Rattle.machine.{specs.Turns.TurnBy, proofs.{Asking.turn_asks, Rows.turns_as_many}}
 use Rattle.machine.proofs.machine.Machine.turn.Goals as goal
 
 pub returns-in-Some-clause-turns : goal.returns-in-Some-clause-turns

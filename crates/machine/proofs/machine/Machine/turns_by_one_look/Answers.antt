@@ -1,6 +1,5 @@
 use Rattle.std.proofs.Common.{sym, ◌∙◌}
-use Rattle.machine.proofs.Asking.{row_asks}
-use Rattle.machine.proofs.Rows.{own_row, doze_row, rows_as_many}
+use Rattle.machine.proofs.{Asking.row_asks, Rows.{own_row, doze_row, rows_as_many}}
 use Rattle.machine.proofs.machine.Machine.turns_by_one_look.Goals as goal
 
 pub returns-in-Some-clause-row : goal.returns-in-Some-clause-row

@@ -3,16 +3,10 @@ use Rattle.sbi_calls.specs.declared.words.Turned.TheVariants.{Made}
 use Rattle.sbi_calls.specs.declared.words.Did.TheVariants as dids
 use Rattle.board_model.specs.declared.durable.Reason.{Reason}
 use Rattle.machine.specs.Machine.{Machine, hart_at}
-use Rattle.model_board.specs.Boards.{Board}
-use Rattle.model_board.specs.Registers.{MovesPc}
-use Rattle.model_board.specs.declared.powers.Power.{Power}
-use Rattle.model_board.specs.declared.powers.Power.TheVariants as powers
-use Rattle.model_board.specs.Maps.{Map, MovesTo, SameOutside, moved}
-use Rattle.model_board.specs.Masks.{map_of}
-use Rattle.model_board.specs.Plain.{Sized, board_shown}
-use Rattle.model_board.proofs.Locals.{keeps_own}
-use Rattle.model_board.proofs.Outside.{turn_outside, same_memory}
+use Rattle.model_board.specs.{Boards.Board, Registers.MovesPc, declared.powers.Power.Power, Maps.{Map, MovesTo, SameOutside, moved}}
+use Rattle.model_board.{specs.{Masks.map_of, Plain.{Sized, board_shown}}, proofs.{Locals.keeps_own, Outside.{turn_outside, same_memory}}}
 use Rattle.model_board.proofs.Swaps.{local_turn}
+use Rattle.model_board.specs.declared.powers.Power.TheVariants as powers
 use Rattle.model_board.proofs.board.Board.move_alone.Goals as goal
 
 -- what a machine that made a local turn leaves of its memory, or that made none

@@ -1,8 +1,6 @@
 use Rattle.std.proofs.Common.{refl, ap}
 use Rattle.hart.specs.State.{ArchState}
-use Rattle.model_board.specs.Masks.{map_of}
-use Rattle.model_board.proofs.ByMap.{machine_moves, machine_steps, alone_stays}
-use Rattle.model_board.proofs.Kept.{plain_with}
+use Rattle.model_board.{specs.Masks.map_of, proofs.{ByMap.{machine_moves, machine_steps, alone_stays}, Kept.plain_with}}
 use Rattle.model_board.proofs.plain.PlainMachine.own_alone.Goals as goal
 
 pub invariant_of-self : goal.invariant_of-self

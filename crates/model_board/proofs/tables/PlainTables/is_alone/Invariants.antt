@@ -1,6 +1,5 @@
 use Rattle.std.proofs.Common.{◌≡◌, ◌≢◌, ◌<◌, ℕ}
-use Rattle.hsm.specs.Views.{listed}
-use Rattle.hsm.specs.States.{stopped}
+use Rattle.hsm.specs.{Views.listed, States.stopped}
 use Rattle.model_board.proofs.tables.PlainTables.is_alone.Given as goal
 
 abbrev pub invariant-loop-place : goal.invariant-loop-place

@@ -1,5 +1,4 @@
-use Rattle.std.proofs.Common.{ℕ, replicate, vec_len, ◌≡◌, ap, ◌∙◌, arith}
-use Rattle.std.specs.Prelude.{length}
+use Rattle.std.{proofs.Common.{ℕ, replicate, vec_len, ◌≡◌, ap, ◌∙◌, arith}, specs.Prelude.length}
 use Rattle.hsm.specs.declared.standings.Standing.TheVariants as told
 use Rattle.model_board.proofs.Plains.{made_tables, made_states, made_pairs, states_count}
 use Rattle.model_board.proofs.tables.PlainTables.reset.Goals as goal

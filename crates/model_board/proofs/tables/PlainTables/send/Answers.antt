@@ -1,7 +1,5 @@
-use Rattle.std.proofs.Common.{ℕ, ap, ◌∙◌, arith, if◌then◌else◌}
-use Rattle.std.proofs.lemmas.List.{get_or_read}
-use Rattle.model_board.specs.Plain.{raised}
-use Rattle.model_board.proofs.Plains.{one_sent, all_sent, still_tables}
+use Rattle.std.proofs.{Common.{ℕ, ap, ◌∙◌, arith, if◌then◌else◌}, lemmas.List.get_or_read}
+use Rattle.model_board.{specs.Plain.raised, proofs.Plains.{one_sent, all_sent, still_tables}}
 use Rattle.model_board.proofs.tables.PlainTables.send.Goals as goal
 
 pub loop-target-preserved : goal.loop-target-preserved

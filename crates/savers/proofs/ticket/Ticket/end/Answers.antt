@@ -1,8 +1,6 @@
 use Rattle.std.proofs.Common.{arith, subst, sym}
 use Rattle.atomic_table.specs.declared.shared.Seat.{Seat}
-use Rattle.savers.proofs.Steps.{ended}
-use Rattle.savers.specs.Draws.{AreEachOnce}
-use Rattle.savers.specs.declared.view.TicketView.{TicketView}
+use Rattle.savers.{proofs.Steps.ended, specs.{Draws.AreEachOnce, declared.view.TicketView.TicketView}}
 use Rattle.savers.proofs.ticket.Ticket.end.Goals as goal
 
 pub free-requires : goal.free-requires

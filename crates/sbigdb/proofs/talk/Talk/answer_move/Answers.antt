@@ -1,5 +1,4 @@
-use Rattle.std.proofs.Common.{ℕ, List, [], ◌∷◌, Vec, Global, ap, map, ◌∙◌}
-use Rattle.std.proofs.lemmas.List.{map-append}
+use Rattle.std.proofs.{Common.{ℕ, List, [], ◌∷◌, Vec, Global, ap, map, ◌∙◌}, lemmas.List.map-append}
 use Rattle.sbigdb.proofs.talk.Talk.answer_move.Goals as goal
 
 pub returns-clause-moved : goal.returns-clause-moved

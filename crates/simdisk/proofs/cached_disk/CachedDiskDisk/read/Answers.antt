@@ -1,9 +1,6 @@
-use Rattle.std.proofs.Common.{◌+◌, ◌≤◌, ◌∙◌, ℕ, List, Ok, Err, length, refl, ap, subst}
-use Rattle.std.proofs.lemmas.Result.{err_from_is_err_and}
+use Rattle.std.proofs.{Common.{◌+◌, ◌≤◌, ◌∙◌, ℕ, List, Ok, Err, length, refl, ap, subst}, lemmas.Result.err_from_is_err_and}
 use Rattle.disk.specs.Facts.{AreSectorsAt, Lent, Stays}
-use Rattle.simdisk.specs.declared.waiting.Waiting.{Waiting}
-use Rattle.simdisk.specs.Cached.{shown, facts_of}
-use Rattle.simdisk.specs.CacheLaws.{length_shown}
+use Rattle.simdisk.specs.{declared.waiting.Waiting.Waiting, Cached.{shown, facts_of}, CacheLaws.length_shown}
 use Rattle.simdisk.proofs.Calls.{device_cached, device_called, other_error}
 use Rattle.simdisk.proofs.cached_disk.CachedDiskDisk.read.Goals as goal
 

@@ -1,11 +1,7 @@
-use Rattle.std.proofs.Common.{◌≡◌, ◌+◌, ◌*◌, ◌≤◌, ℕ, List, [], map, refl, sym, ap, subst}
-use Rattle.std.proofs.lemmas.Bool.{true≢false}
+use Rattle.std.proofs.{Common.{◌≡◌, ◌+◌, ◌*◌, ◌≤◌, ℕ, List, [], map, refl, sym, ap, subst}, lemmas.Bool.true≢false}
 use Rattle.std.proofs.lemmas.Result.{err_from_is_err_and}
 use Rattle.disk.specs.Facts.{Content, Handed, Lent}
-use Rattle.simdisk.specs.declared.waiting.Waiting.{Waiting}
-use Rattle.simdisk.specs.Cached.{shown}
-use Rattle.simdisk.specs.CacheLaws.{length_shown}
-use Rattle.simdisk.proofs.Kept.{stays_over}
+use Rattle.simdisk.{specs.{declared.waiting.Waiting.Waiting, Cached.shown, CacheLaws.length_shown}, proofs.Kept.stays_over}
 use Rattle.simdisk.proofs.Calls.{none_waits, split_over, waits_none}
 use Rattle.simdisk.proofs.cached_disk.CachedDiskDisk.split.Goals as goal
 

@@ -1,5 +1,4 @@
-use Rattle.std.proofs.Common.{◌∙◌, Err, ap}
-use Rattle.std.proofs.lemmas.Result.{err_from_is_err_and}
+use Rattle.std.proofs.{Common.{◌∙◌, Err, ap}, lemmas.Result.err_from_is_err_and}
 use Rattle.disk.specs.Facts.{Lent, Stays}
 use Rattle.simdisk.specs.Cached.{facts_of}
 use Rattle.simdisk.proofs.Calls.{any_cached, any_alone, device_cached, none_waits, other_error, sync_failed, sync_ok, synced_so}

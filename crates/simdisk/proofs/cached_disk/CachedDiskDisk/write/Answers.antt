@@ -1,10 +1,7 @@
-use Rattle.std.proofs.Common.{◌∙◌, ◌+◌, ◌≤◌, ℕ, List, length, refl, ap, subst, arith, rules}
-use Rattle.std.proofs.lemmas.Grind.{common_steps}
+use Rattle.std.proofs.{Common.{◌∙◌, ◌+◌, ◌≤◌, ℕ, List, length, refl, ap, subst, arith, rules}, lemmas.Grind.common_steps}
 use Rattle.std.proofs.lemmas.Result.{err_from_is_err_and}
 use Rattle.disk.specs.Facts.{Lent}
-use Rattle.simdisk.specs.declared.waiting.Waiting.{Waiting}
-use Rattle.simdisk.specs.CacheLaws.{length_shown}
-use Rattle.simdisk.proofs.Caches.{cached_more}
+use Rattle.simdisk.{specs.{declared.waiting.Waiting.Waiting, CacheLaws.length_shown}, proofs.Caches.cached_more}
 use Rattle.simdisk.proofs.Calls.{any_cached, any_alone, one_item, waits_cached, waits_called, waits_written, write_cached, write_failed, write_called}
 use Rattle.simdisk.proofs.cached_disk.CachedDiskDisk.write.Goals as goal
 

@@ -1,10 +1,6 @@
 use Rattle.std.proofs.Common.{◌≡◌, ◌<◌, ◌≤◌, ◌+◌, ◌*◌, ℕ, length, sym, ap, ◌∙◌, subst, arith}
-use Rattle.disk.specs.Facts.{Content}
-use Rattle.disk.specs.WriteLog.{WriteLog, synced, newest, ranges, AgreesOutside}
-use Rattle.simdisk.specs.History.{log_of, Stands}
-use Rattle.simdisk.specs.Latest.{HasPlace}
-use Rattle.simdisk.specs.Views.{IsLatest, lent_of}
-use Rattle.simdisk.proofs.Copying.{same_facts, same_latest}
+use Rattle.disk.specs.{Facts.Content, WriteLog.{WriteLog, synced, newest, ranges, AgreesOutside}}
+use Rattle.simdisk.{specs.{History.{log_of, Stands}, Latest.HasPlace, Views.{IsLatest, lent_of}}, proofs.Copying.{same_facts, same_latest}}
 use Rattle.simdisk.proofs.copies.SimDiskCopyDisk.copy.Goals as goal
 
 pub invariant_of-result : goal.invariant_of-result

@@ -1,17 +1,9 @@
-use Rattle.std.proofs.Common.{◌≡◌, ◌∙◌, ◌+◌, ◌*◌, ◌≤◌, ℕ, List, length, map, ap, sym, subst, refl, arith}
-use Rattle.disk.specs.Facts.{Content, Lent, Joined, counted, lane_at, lane_failures}
-use Rattle.simdisk.specs.Lanes.{lane_view, newest_view, lane_state}
-use Rattle.simdisk.specs.LaneStates.{CameBack, CountsLanes}
-use Rattle.simdisk.specs.declared.lane.SimLane.{SimLane}
-use Rattle.simdisk.specs.History.{log_of}
-use Rattle.simdisk.specs.Latest.{latest_of, HasPlace}
-use Rattle.std.proofs.lemmas.List.{length-map}
-use Rattle.simdisk.specs.Views.{lent_of, pieces}
-use Rattle.disk.specs.WriteLog.{newest, ranges, synced}
-use Rattle.simdisk.proofs.Epochs.{stands_apart}
-use Rattle.simdisk.proofs.Notes.{agrees_join}
-use Rattle.simdisk.proofs.Rows.{newest_long, written_back, counted_once}
+use Rattle.std.proofs.{Common.{◌≡◌, ◌∙◌, ◌+◌, ◌*◌, ◌≤◌, ℕ, List, length, map, ap, sym, subst, refl, arith}, lemmas.List.length-map}
+use Rattle.disk.specs.{Facts.{Content, Lent, Joined, counted, lane_at, lane_failures}, WriteLog.{newest, ranges, synced}}
 use Rattle.disk.proofs.Stretches.{passes_ranges}
+use Rattle.simdisk.specs.{Lanes.{lane_view, newest_view, lane_state}, LaneStates.{CameBack, CountsLanes}, declared.lane.SimLane.SimLane}
+use Rattle.simdisk.{specs.{History.log_of, Latest.{latest_of, HasPlace}, Views.{lent_of, pieces}}, proofs.Epochs.stands_apart}
+use Rattle.simdisk.proofs.{Notes.agrees_join, Rows.{newest_long, written_back, counted_once}}
 use Rattle.simdisk.proofs.device.SimDiskDisk.join.Goals.{After-drop-lanes}
 use Rattle.simdisk.proofs.device.SimDiskDisk.join.Goals as goal
 

@@ -1,9 +1,6 @@
-use Rattle.std.proofs.Common.{refl, sym, inl, true≢false, arith}
-use Rattle.std.proofs.lemmas.Grind.{common_steps}
-use Rattle.disk.specs.WriteLog.{synced}
-use Rattle.simdisk.specs.History.{log_of}
-use Rattle.disk.proofs.Stretches.{passes_ranges}
-use Rattle.simdisk.proofs.Causes.{strikes_cause, waits_same, runs, called_once}
+use Rattle.std.proofs.{Common.{refl, sym, inl, true≢false, arith}, lemmas.Grind.common_steps}
+use Rattle.disk.{specs.WriteLog.synced, proofs.Stretches.passes_ranges}
+use Rattle.simdisk.{specs.History.log_of, proofs.Causes.{strikes_cause, waits_same, runs, called_once}}
 use Rattle.simdisk.proofs.device.SimDiskDisk.read.Goals as goal
 
 pub returns-then-strikes-clause-found : goal.returns-then-strikes-clause-found

@@ -1,15 +1,8 @@
-use Rattle.std.proofs.Common.{◌≡◌, ◌∙◌, ◌++◌, ◌∷◌, [], ℕ, ◌*◌, length, ap, sym, rules}
-use Rattle.std.proofs.lemmas.List.{length-map}
-use Rattle.disk.specs.Facts.{Content, Lent, Torn, Passes}
-use Rattle.simdisk.specs.Latest.{latest_of}
+use Rattle.std.proofs.{Common.{◌≡◌, ◌∙◌, ◌++◌, ◌∷◌, [], ℕ, ◌*◌, length, ap, sym, rules}, lemmas.List.length-map}
+use Rattle.disk.{specs.Facts.{Content, Lent, Torn, Passes}, proofs.{Ranges.agrees_push, Pieces.put_same, Stretches.passes_range}}
 use Rattle.disk.specs.WriteLog.{laid_over, more_written, range, ranges, synced, newest, lent_piece, sim_facts}
-use Rattle.simdisk.specs.Views.{piece, pieces}
-use Rattle.simdisk.specs.History.{log_of}
-use Rattle.disk.proofs.Ranges.{agrees_push}
-use Rattle.simdisk.proofs.Epochs.{length_newest}
+use Rattle.simdisk.{specs.{Latest.latest_of, Views.{piece, pieces}, History.log_of}, proofs.Epochs.length_newest}
 use Rattle.simdisk.proofs.Notes.{newest_more, ranges_written, last_last, range_lent}
-use Rattle.disk.proofs.Pieces.{put_same}
-use Rattle.disk.proofs.Stretches.{passes_range}
 use Rattle.simdisk.proofs.device.SimDiskDisk.split.Goals as goal
 
 pub invariant_of-self-2 : goal.invariant_of-self-2

@@ -1,12 +1,7 @@
-use Rattle.std.proofs.Common.{◌∷◌, [], refl, sym, inl, true≢false, arith}
-use Rattle.std.proofs.lemmas.Grind.{common_steps}
-use Rattle.disk.specs.WriteLog.{lent_piece, synced}
-use Rattle.simdisk.specs.History.{log_of}
-use Rattle.simdisk.specs.Views.{lent_of}
-use Rattle.simdisk.proofs.Epochs.{fits_synced}
-use Rattle.disk.proofs.Stretches.{passes_sync, passes_ranges}
+use Rattle.std.proofs.{Common.{◌∷◌, [], refl, sym, inl, true≢false, arith}, lemmas.Grind.common_steps}
+use Rattle.disk.{specs.WriteLog.{lent_piece, synced}, proofs.Stretches.{passes_sync, passes_ranges}}
+use Rattle.simdisk.{specs.{History.log_of, Views.lent_of}, proofs.{Epochs.fits_synced, Notes.{newest_synced, durable_then, lent_fewer}}}
 use Rattle.simdisk.proofs.Causes.{strikes_cause, waits_same, runs, called_once}
-use Rattle.simdisk.proofs.Notes.{newest_synced, durable_then, lent_fewer}
 use Rattle.simdisk.proofs.device.SimDiskDisk.sync.Goals as goal
 
 pub invariant_of-self-2-clause-newest : goal.invariant_of-self-2-clause-newest

@@ -1,14 +1,9 @@
 use Rattle.std.proofs.Common.{◌≡◌, ◌∙◌, ◌++◌, ◌∷◌, [], ℕ, ◌*◌, ◌<◌, length, ap, sym, refl, inl, true≢false, arith}
-use Rattle.disk.specs.Facts.{Content, Lent, Passes, Torn}
-use Rattle.disk.specs.WriteLog.{laid_over, newest, ranges, sim_facts, synced}
-use Rattle.simdisk.specs.Views.{pieces, lent_of, IsLatest}
-use Rattle.simdisk.specs.History.{log_of}
-use Rattle.simdisk.specs.Latest.{latest_of}
-use Rattle.disk.proofs.Ranges.{agrees_write, agrees_push}
-use Rattle.simdisk.proofs.Causes.{strikes_cause, waits_same, runs, called_once}
+use Rattle.disk.specs.{Facts.{Content, Lent, Passes, Torn}, WriteLog.{laid_over, newest, ranges, sim_facts, synced}}
+use Rattle.disk.proofs.{Ranges.{agrees_write, agrees_push}, Stretches.passes_range}
+use Rattle.simdisk.specs.{Views.{pieces, lent_of, IsLatest}, History.log_of, Latest.latest_of}
+use Rattle.simdisk.proofs.{Causes.{strikes_cause, waits_same, runs, called_once}, device.SimDiskDisk.write.Goals.In-Ok}
 use Rattle.simdisk.proofs.Notes.{newest_more, ranges_written, last_push, apart_lent}
-use Rattle.disk.proofs.Stretches.{passes_range}
-use Rattle.simdisk.proofs.device.SimDiskDisk.write.Goals.{In-Ok}
 use Rattle.simdisk.proofs.device.SimDiskDisk.write.Goals as goal
 
 -- once the write is noted: its range comes last

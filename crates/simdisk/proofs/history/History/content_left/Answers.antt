@@ -1,7 +1,6 @@
 use Rattle.std.proofs.Common.{◌≡◌, ◌∙◌}
-use Rattle.simdisk.specs.History.{log_of}
+use Rattle.simdisk.{specs.History.log_of, proofs.Epochs.{leave_fits, leave_last, leave_long}}
 use Rattle.disk.specs.WriteLog.{synced}
-use Rattle.simdisk.proofs.Epochs.{leave_fits, leave_last, leave_long}
 use Rattle.simdisk.proofs.history.History.content_left.Goals as goal
 
 pub leave-requires : goal.leave-requires

@@ -1,13 +1,7 @@
 use Rattle.std.proofs.Common.{◌≡◌, ◌∙◌, All, length, ap, sym, rules}
-use Rattle.disk.specs.Facts.{Content}
-use Rattle.simdisk.specs.History.{log_of}
-use Rattle.simdisk.specs.Latest.{latest_of}
-use Rattle.simdisk.specs.declared.patch.Patch.{Patch}
-use Rattle.disk.specs.WriteLog.{synced}
-use Rattle.simdisk.specs.Views.{pieces}
-use Rattle.simdisk.proofs.Comparing.{left_settled, stood_settled}
-use Rattle.simdisk.proofs.Epochs.{fits_synced, leave_fits, leave_last, leave_long}
-use Rattle.simdisk.proofs.Notes.{left_agrees}
+use Rattle.disk.specs.{Facts.Content, WriteLog.synced}
+use Rattle.simdisk.{specs.{History.log_of, Latest.latest_of, declared.patch.Patch.Patch, Views.pieces}, proofs.Notes.left_agrees}
+use Rattle.simdisk.proofs.{Comparing.{left_settled, stood_settled}, Epochs.{fits_synced, leave_fits, leave_last, leave_long}}
 use Rattle.simdisk.proofs.history.History.cut.Goals.{After-part}
 use Rattle.simdisk.proofs.history.History.cut.Goals as goal
 

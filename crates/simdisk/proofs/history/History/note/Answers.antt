@@ -1,9 +1,6 @@
-use Rattle.std.proofs.Common.{◌≡◌, ◌++◌, ◌∷◌, [], length, rules}
-use Rattle.std.proofs.lemmas.List.{map-append}
-use Rattle.disk.specs.WriteLog.{synced}
-use Rattle.simdisk.specs.History.{log_of}
-use Rattle.simdisk.specs.Views.{pieces}
-use Rattle.disk.proofs.Pieces.{fits_push}
+use Rattle.std.proofs.{Common.{◌≡◌, ◌++◌, ◌∷◌, [], length, rules}, lemmas.List.map-append}
+use Rattle.disk.{specs.WriteLog.synced, proofs.Pieces.fits_push}
+use Rattle.simdisk.specs.{History.log_of, Views.pieces}
 use Rattle.simdisk.proofs.history.History.note.Goals as goal
 
 pub invariant_of-self-2 : goal.invariant_of-self-2

@@ -1,11 +1,6 @@
-use Rattle.std.proofs.Common.{◌≡◌, ◌∙◌, List, length, ap}
-use Rattle.std.specs.List.{flat_map}
-use Rattle.disk.specs.Facts.{Content}
-use Rattle.simdisk.specs.History.{log_of}
-use Rattle.simdisk.specs.Pokes.{parted}
-use Rattle.disk.specs.WriteLog.{Piece, synced, synced_after}
-use Rattle.simdisk.specs.Views.{pieces}
-use Rattle.simdisk.proofs.Parted.{fits_parted}
+use Rattle.std.{proofs.Common.{◌≡◌, ◌∙◌, List, length, ap}, specs.List.flat_map}
+use Rattle.disk.specs.{Facts.Content, WriteLog.{Piece, synced, synced_after}}
+use Rattle.simdisk.{specs.{History.log_of, Pokes.parted, Views.pieces}, proofs.Parted.fits_parted}
 use Rattle.simdisk.proofs.history.History.set_sector.Goals as goal
 
 pub invariant_of-self : goal.invariant_of-self

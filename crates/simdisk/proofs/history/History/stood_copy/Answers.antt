@@ -1,9 +1,6 @@
-use Rattle.std.proofs.Common.{◌≡◌, ◌∙◌, Bool, if◌then◌else◌, All, ap, rules}
-use Rattle.std.proofs.lemmas.Result.{IfOk-weaker}
+use Rattle.std.proofs.{Common.{◌≡◌, ◌∙◌, Bool, if◌then◌else◌, All, ap, rules}, lemmas.Result.IfOk-weaker}
 use Rattle.disk.specs.WriteLog.{synced}
-use Rattle.simdisk.specs.History.{log_of}
-use Rattle.simdisk.specs.declared.patch.Patch.{Patch}
-use Rattle.simdisk.proofs.Comparing.{stood_settled}
+use Rattle.simdisk.{specs.{History.log_of, declared.patch.Patch.Patch}, proofs.Comparing.stood_settled}
 use Rattle.simdisk.proofs.history.History.stood_copy.Goals as goal
 
 pub returns-then-are_empty-clause-is : goal.returns-then-are_empty-clause-is

@@ -1,11 +1,7 @@
 use Rattle.std.proofs.Common.{◌≡◌, ◌∙◌, ◌++◌, ◌∷◌, [], List, map, refl, sym, ap}
-use Rattle.disk.specs.Facts.{Content}
-use Rattle.simdisk.specs.declared.history.History.{History}
-use Rattle.simdisk.specs.History.{log_of}
-use Rattle.disk.specs.WriteLog.{AgreesOutside, Piece, piece_in, ranges, replay, synced, synced_after}
-use Rattle.simdisk.specs.Views.{pieces}
-use Rattle.simdisk.proofs.Epochs.{fits_synced}
+use Rattle.disk.specs.{Facts.Content, WriteLog.{AgreesOutside, Piece, piece_in, ranges, replay, synced, synced_after}}
 use Rattle.disk.proofs.Pieces.{synced_push, replay_copied}
+use Rattle.simdisk.{specs.{declared.history.History.History, History.log_of, Views.pieces}, proofs.Epochs.fits_synced}
 use Rattle.simdisk.proofs.history.History.sync.Goals as goal
 
 -- what stands after an epoch more

@@ -1,13 +1,7 @@
-use Rattle.std.proofs.Common.{◌≡◌, ◌∙◌, ◌*◌, ◌<◌, ◌≤◌, ◌+◌, ℕ, length, set, ap, sym, arith}
-use Rattle.std.proofs.Math.Nat.{zero-mul}
-use Rattle.std.proofs.lemmas.List.{length-map}
-use Rattle.simdisk.specs.History.{log_of}
+use Rattle.std.proofs.{Common.{◌≡◌, ◌∙◌, ◌*◌, ◌<◌, ◌≤◌, ◌+◌, ℕ, length, set, ap, sym, arith}, Math.Nat.zero-mul, lemmas.List.length-map}
+use Rattle.simdisk.{specs.{History.log_of, Views.{piece, pieces}}, proofs.{Epochs.{fits_synced, length_newest}, Notes.ranges_set}}
+use Rattle.simdisk.proofs.{Replaced.{newest_retaken, range_copied, torn_nothing}, Walks.fits_read}
 use Rattle.disk.specs.WriteLog.{range, ranges, synced, newest}
-use Rattle.simdisk.specs.Views.{piece, pieces}
-use Rattle.simdisk.proofs.Epochs.{fits_synced, length_newest}
-use Rattle.simdisk.proofs.Notes.{ranges_set}
-use Rattle.simdisk.proofs.Replaced.{newest_retaken, range_copied, torn_nothing}
-use Rattle.simdisk.proofs.Walks.{fits_read}
 use Rattle.simdisk.proofs.history.History.take_newest.Goals as goal
 
 pub retake-requires : goal.retake-requires

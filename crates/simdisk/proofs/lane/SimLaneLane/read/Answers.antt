@@ -1,5 +1,4 @@
-use Rattle.std.proofs.Common.{refl, sym, true≢false, arith}
-use Rattle.std.proofs.lemmas.Grind.{common_steps}
+use Rattle.std.proofs.{Common.{refl, sym, true≢false, arith}, lemmas.Grind.common_steps}
 use Rattle.simdisk.proofs.lane.SimLaneLane.read.Goals as goal
 
 pub returns-then-strikes-clause-found : goal.returns-then-strikes-clause-found

@@ -1,5 +1,4 @@
-use Rattle.std.proofs.Common.{◌∙◌, refl, sym, ap, true≢false, arith}
-use Rattle.std.proofs.lemmas.Grind.{common_steps}
+use Rattle.std.proofs.{Common.{◌∙◌, refl, sym, ap, true≢false, arith}, lemmas.Grind.common_steps}
 use Rattle.disk.specs.Facts.{Content}
 use Rattle.simdisk.specs.Views.{last_of}
 use Rattle.simdisk.proofs.lane.SimLaneLane.write.Goals as goal

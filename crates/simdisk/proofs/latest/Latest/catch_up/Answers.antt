@@ -1,10 +1,6 @@
-use Rattle.std.proofs.Common.{◌≡◌, ◌≤◌, ◌∙◌, ℕ, Bool, false, if◌then◌else◌, length, ap, sym, subst, rules}
-use Rattle.std.specs.Vec.{vec_capacity}
-use Rattle.disk.specs.Facts.{Content}
-use Rattle.disk.specs.WriteLog.{AgreesOutside, AreWithin, ranges}
-use Rattle.disk.proofs.Pieces.{replay_copied}
-use Rattle.simdisk.specs.Views.{pieces}
-use Rattle.simdisk.proofs.latest.Latest.catch_up.Goals.{After-copy_patches}
+use Rattle.std.{proofs.Common.{◌≡◌, ◌≤◌, ◌∙◌, ℕ, Bool, false, if◌then◌else◌, length, ap, sym, subst, rules}, specs.Vec.vec_capacity}
+use Rattle.disk.{specs.{Facts.Content, WriteLog.{AgreesOutside, AreWithin, ranges}}, proofs.Pieces.replay_copied}
+use Rattle.simdisk.{specs.Views.pieces, proofs.latest.Latest.catch_up.Goals.After-copy_patches}
 use Rattle.simdisk.proofs.latest.Latest.catch_up.Goals as goal
 
 -- it is kept apart, and what the patches leave of it is what stands

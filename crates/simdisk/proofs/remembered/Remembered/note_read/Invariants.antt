@@ -1,6 +1,5 @@
 use Rattle.std.proofs.Common.{[], ◌∷◌, ◌++◌}
-use Rattle.disk.specs.WriteLog.{new_log}
-use Rattle.disk.specs.declared.device.LaneCall.TheVariants.{Read}
+use Rattle.disk.specs.{WriteLog.new_log, declared.device.LaneCall.TheVariants.Read}
 use Rattle.simdisk.proofs.remembered.Remembered.note_read.Given as goal
 
 abbrev pub ghost-with_parts : goal.ghost-with_parts

@@ -1,9 +1,6 @@
 use Rattle.std.proofs.Common.{◌≡◌, refl, ap}
-use Rattle.simdisk.specs.Views.{left_by_fill, pieces}
-use Rattle.simdisk.specs.History.{log_of}
+use Rattle.simdisk.{specs.{Views.{left_by_fill, pieces}, History.log_of}, proofs.{Epochs.fits_synced, Notes.{fresh_of, left_agrees}}}
 use Rattle.disk.specs.WriteLog.{new_log, synced}
-use Rattle.simdisk.proofs.Epochs.{fits_synced}
-use Rattle.simdisk.proofs.Notes.{fresh_of, left_agrees}
 use Rattle.simdisk.proofs.sim.SimDisk.after_cut.Goals as goal
 
 pub returns-clause-left : goal.returns-clause-left

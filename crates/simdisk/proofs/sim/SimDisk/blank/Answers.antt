@@ -1,5 +1,4 @@
-use Rattle.std.proofs.Common.{◌≡◌, ◌∙◌, ℕ, replicate, sym}
-use Rattle.std.proofs.lemmas.List.{ext_get_or, length-replicate}
+use Rattle.std.proofs.{Common.{◌≡◌, ◌∙◌, ℕ, replicate, sym}, lemmas.List.{ext_get_or, length-replicate}}
 use Rattle.simdisk.proofs.sim.SimDisk.blank.Goals as goal
 
 pub returns-clause-fresh : goal.returns-clause-fresh

@@ -1,7 +1,6 @@
 use Rattle.std.proofs.Common.{◌≡◌, ap}
-use Rattle.simdisk.specs.History.{log_of}
+use Rattle.simdisk.{specs.History.log_of, proofs.Notes.fresh_of}
 use Rattle.disk.specs.WriteLog.{new_log, synced}
-use Rattle.simdisk.proofs.Notes.{fresh_of}
 use Rattle.simdisk.proofs.sim.SimDisk.holding.Goals as goal
 
 pub returns-clause-fresh : goal.returns-clause-fresh

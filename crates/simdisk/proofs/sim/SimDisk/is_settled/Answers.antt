@@ -1,9 +1,6 @@
 use Rattle.std.proofs.Common.{◌≡◌, All, rules}
-use Rattle.simdisk.specs.History.{log_of}
-use Rattle.simdisk.specs.declared.patch.Patch.{Patch}
+use Rattle.simdisk.{specs.{History.log_of, declared.patch.Patch.Patch}, proofs.{Comparing.left_settled, Epochs.fits_synced}}
 use Rattle.disk.specs.WriteLog.{synced}
-use Rattle.simdisk.proofs.Comparing.{left_settled}
-use Rattle.simdisk.proofs.Epochs.{fits_synced}
 use Rattle.simdisk.proofs.sim.SimDisk.is_settled.Goals as goal
 
 pub returns : goal.returns

@@ -1,9 +1,6 @@
 use Rattle.std.proofs.Common.{refl}
-use Rattle.simdisk.specs.Views.{pieces}
-use Rattle.simdisk.specs.History.{log_of}
+use Rattle.simdisk.{specs.{Views.pieces, History.log_of}, proofs.{Epochs.fits_synced, Notes.left_agrees}}
 use Rattle.disk.specs.WriteLog.{synced}
-use Rattle.simdisk.proofs.Epochs.{fits_synced}
-use Rattle.simdisk.proofs.Notes.{left_agrees}
 use Rattle.simdisk.proofs.sim.SimDisk.left.Goals as goal
 
 pub returns-clause-left : goal.returns-clause-left

@@ -1,13 +1,8 @@
 use Rattle.std.proofs.Common.{◌≡◌, ◌∙◌, ◌<◌, ◌∷◌, [], List, ℕ, length, get_or, ap, refl, subst, sym, arith, rules}
 use Rattle.std.proofs.lemmas.List.{get_or_default}
-use Rattle.disk.specs.Facts.{Content}
-use Rattle.simdisk.specs.declared.fill.Fill.TheVariants.{New}
-use Rattle.simdisk.specs.History.{log_of, Stands}
-use Rattle.simdisk.specs.Latest.{latest_of}
-use Rattle.simdisk.specs.Pokes.{bytes_put, poked, poked_log}
-use Rattle.disk.specs.WriteLog.{laid_over, synced}
-use Rattle.simdisk.proofs.Epochs.{fits_synced}
-use Rattle.simdisk.proofs.AfterPoke.{fills_poked, agrees_poked, crash_poked}
+use Rattle.disk.specs.{Facts.Content, WriteLog.{laid_over, synced}}
+use Rattle.simdisk.{specs.{declared.fill.Fill.TheVariants.New, History.{log_of, Stands}, Latest.latest_of}, proofs.Epochs.fits_synced}
+use Rattle.simdisk.{specs.Pokes.{bytes_put, poked, poked_log}, proofs.AfterPoke.{fills_poked, agrees_poked, crash_poked}}
 use Rattle.simdisk.proofs.sim.SimDisk.poke.Goals as goal
 
 -- what the sector holds, which was read from the content

@@ -1,6 +1,4 @@
-use Rattle.std.proofs.Common.{◌≡◌, ◌<◌, length, get_or, arith}
-use Rattle.std.proofs.lemmas.Grind.{common_steps}
-use Rattle.std.proofs.lemmas.Result.{err_from_is_err_and}
+use Rattle.std.proofs.{Common.{◌≡◌, ◌<◌, length, get_or, arith}, lemmas.{Grind.common_steps, Result.err_from_is_err_and}}
 use Rattle.simdisk.proofs.Caches.{more_fits, handed_more, handed_failed}
 use Rattle.simdisk.proofs.waiting.QueueHandOn.hand_on.Goals as goal
 

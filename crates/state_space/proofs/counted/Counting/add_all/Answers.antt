@@ -1,7 +1,5 @@
 use Rattle.std.proofs.Common.{◌≡◌, ◌∙◌, ℕ, subst, arith}
-use Rattle.state_space.specs.Counted.{AreCounted, Spends, row_counted}
-use Rattle.state_space.specs.Successors.{found_count}
-use Rattle.state_space.proofs.Listing.{listed_more}
+use Rattle.state_space.{specs.{Counted.{AreCounted, Spends, row_counted}, Successors.found_count}, proofs.Listing.listed_more}
 use Rattle.state_space.proofs.counted.Counting.add_all.Goals as goal
 
 pub loop-index-preserved : goal.loop-index-preserved

@@ -1,6 +1,5 @@
 use Rattle.std.proofs.Common.{◌≡◌}
-use Rattle.state_space.specs.Counted.{AreCounted}
-use Rattle.state_space.specs.Successors.{found_width}
+use Rattle.state_space.specs.{Counted.AreCounted, Successors.found_width}
 use Rattle.state_space.proofs.counted.Counting.add_all.Given as goal
 
 abbrev pub invariant-loop-index : goal.invariant-loop-index

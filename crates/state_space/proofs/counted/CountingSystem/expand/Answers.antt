@@ -1,10 +1,6 @@
-use Rattle.std.proofs.Common.{◌≡◌, ◌-◌, ℕ, List, length, take, drop, sym, ap, subst}
-use Rattle.std.specs.Prelude.{slice_index}
-use Rattle.state_space.specs.Counted.{AreCounted, StandsCounted, counted_rules}
-use Rattle.state_space.specs.Successors.{found_count, found_event, found_row}
-use Rattle.state_space.specs.Systems.{IsExpanded, UnlessHalts}
-use Rattle.state_space.proofs.Spending.{after_one, expanded_counted}
-use Rattle.state_space.proofs.Priced.{lifted}
+use Rattle.std.{proofs.Common.{◌≡◌, ◌-◌, ℕ, List, length, take, drop, sym, ap, subst}, specs.Prelude.slice_index}
+use Rattle.state_space.specs.{Counted.{AreCounted, StandsCounted, counted_rules}, Successors.{found_count, found_event, found_row}}
+use Rattle.state_space.{specs.Systems.{IsExpanded, UnlessHalts}, proofs.{Spending.{after_one, expanded_counted}, Priced.lifted}}
 use Rattle.state_space.proofs.counted.CountingSystem.expand.Goals as goal
 
 pub returns-clause-successors : goal.returns-clause-successors

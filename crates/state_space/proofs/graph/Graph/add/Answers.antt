@@ -1,5 +1,4 @@
-use Rattle.std.proofs.Common.{◌≡◌, length, refl, rules, arith}
-use Rattle.std.proofs.lemmas.Grind.{common_steps}
+use Rattle.std.proofs.{Common.{◌≡◌, length, refl, rules, arith}, lemmas.Grind.common_steps}
 use Rattle.state_space.proofs.Growth.{whole_added}
 use Rattle.state_space.proofs.graph.Graph.add.Goals as goal
 

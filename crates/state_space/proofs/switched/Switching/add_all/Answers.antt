@@ -1,7 +1,5 @@
 use Rattle.std.proofs.Common.{◌≡◌, ◌∙◌, ℕ, subst, arith}
-use Rattle.state_space.specs.Successors.{found_count}
-use Rattle.state_space.specs.Switched.{AreListed, IsPriced, row_within}
-use Rattle.state_space.proofs.Listing.{listed_more}
+use Rattle.state_space.{specs.{Successors.found_count, Switched.{AreListed, IsPriced, row_within}}, proofs.Listing.listed_more}
 use Rattle.state_space.proofs.switched.Switching.add_all.Goals as goal
 
 pub loop-index-preserved : goal.loop-index-preserved

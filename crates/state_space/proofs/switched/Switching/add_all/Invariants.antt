@@ -1,7 +1,5 @@
 use Rattle.std.proofs.Common.{◌≡◌}
-use Rattle.state_space.specs.Bounded.{Budget}
-use Rattle.state_space.specs.Successors.{found_width}
-use Rattle.state_space.specs.Switched.{AreListed, last_number}
+use Rattle.state_space.specs.{Bounded.Budget, Successors.found_width, Switched.{AreListed, last_number}}
 use Rattle.state_space.proofs.switched.Switching.add_all.Given as goal
 
 abbrev pub invariant-loop-index : goal.invariant-loop-index

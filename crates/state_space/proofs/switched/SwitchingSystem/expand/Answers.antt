@@ -1,10 +1,6 @@
-use Rattle.std.proofs.Common.{◌≡◌, ◌-◌, ℕ, List, length, take, drop, sym, ap, subst}
-use Rattle.std.specs.Prelude.{slice_index}
-use Rattle.state_space.specs.Bounded.{Waits}
-use Rattle.state_space.specs.Successors.{found_count, found_event, found_row}
-use Rattle.state_space.specs.Switched.{IsSaid, StandsWithin, within_rules}
-use Rattle.state_space.specs.Systems.{IsExpanded, UnlessHalts}
-use Rattle.state_space.proofs.Priced.{after_two, expanded_within, lifted}
+use Rattle.std.{proofs.Common.{◌≡◌, ◌-◌, ℕ, List, length, take, drop, sym, ap, subst}, specs.Prelude.slice_index}
+use Rattle.state_space.specs.{Bounded.Waits, Successors.{found_count, found_event, found_row}, Systems.{IsExpanded, UnlessHalts}}
+use Rattle.state_space.{specs.Switched.{IsSaid, StandsWithin, within_rules}, proofs.Priced.{after_two, expanded_within, lifted}}
 use Rattle.state_space.proofs.switched.SwitchingSystem.expand.Goals as goal
 
 pub returns-clause-successors : goal.returns-clause-successors

@@ -1,7 +1,5 @@
-use Rattle.std.proofs.Common.{◌∙◌, ◌<◌, length, length-set, sym, subst, arith}
-use Rattle.std.proofs.lemmas.List.Elements.{All-same}
-use Rattle.state_space.specs.Carried.{AreMade, IsMade}
-use Rattle.state_space.proofs.Carrying.{all_later, later_on}
+use Rattle.std.proofs.{Common.{◌∙◌, ◌<◌, length, length-set, sym, subst, arith}, lemmas.List.Elements.All-same}
+use Rattle.state_space.{specs.Carried.{AreMade, IsMade}, proofs.Carrying.{all_later, later_on}}
 use Rattle.state_space.proofs.windows.Workers.enter_all.Goals as goal
 
 pub enter_share-requires-clause-setting : goal.enter_share-requires-clause-setting

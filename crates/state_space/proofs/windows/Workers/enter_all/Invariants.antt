@@ -1,9 +1,5 @@
-use Rattle.std.proofs.Common.{◌≡◌, length}
-use Rattle.std.specs.Prelude.{All}
-use Rattle.state_space.specs.Carried.{AreMade, IsLater}
-use Rattle.state_space.specs.Graphs.{IsSearched}
-use Rattle.state_space.specs.Numbered.{row_width}
-use Rattle.state_space.specs.Successors.{found_width}
+use Rattle.std.{proofs.Common.{◌≡◌, length}, specs.Prelude.All}
+use Rattle.state_space.specs.{Carried.{AreMade, IsLater}, Graphs.IsSearched, Numbered.row_width, Successors.found_width}
 use Rattle.state_space.proofs.windows.Workers.enter_all.Given as goal
 
 abbrev pub invariant-loop-index : goal.invariant-loop-index

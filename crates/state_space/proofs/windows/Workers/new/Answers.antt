@@ -1,6 +1,5 @@
 use Rattle.std.proofs.lemmas.List.Elements.{All-push, All-same}
-use Rattle.state_space.specs.Carried.{IsBeside}
-use Rattle.state_space.specs.declared.workers.Worker.{Worker}
+use Rattle.state_space.specs.{Carried.IsBeside, declared.workers.Worker.Worker}
 use Rattle.state_space.proofs.windows.Workers.new.Goals as goal
 
 pub loop-preserved : goal.loop-preserved

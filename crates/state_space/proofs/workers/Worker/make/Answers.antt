@@ -1,7 +1,5 @@
 use Rattle.std.proofs.Common.{is_ok, All, IfSome, List, Option, subst, sym}
-use Rattle.state_space.specs.Carried.{IsMade}
-use Rattle.state_space.specs.declared.workers.Made.{Made}
-use Rattle.state_space.proofs.Carrying.{all_stay, pushed_each}
+use Rattle.state_space.{specs.{Carried.IsMade, declared.workers.Made.Made}, proofs.Carrying.{all_stay, pushed_each}}
 use Rattle.state_space.proofs.workers.Worker.make.Goals as goal
 
 pub returns-in-Ok-Some-clause-made : goal.returns-in-Ok-Some-clause-made

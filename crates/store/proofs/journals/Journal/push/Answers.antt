@@ -1,10 +1,7 @@
 use Rattle.std.proofs.Common.{◌≡◌, ◌∙◌, ◌++◌, ◌∷◌, [], List, true, sym, ap, subst}
-use Rattle.board_model.specs.declared.durable.Command.{Command}
-use Rattle.board_model.specs.declared.durable.Entry.{Entry}
+use Rattle.board_model.specs.declared.durable.{Command.Command, Entry.Entry}
 use Rattle.board_model.specs.declared.durable.Entry.TheVariants as entries
-use Rattle.store.specs.Entries.{are_plain}
-use Rattle.store.specs.Journals.{command_in, entries_in}
-use Rattle.store.specs.declared.journals.Kept.{Kept}
+use Rattle.store.specs.{Entries.are_plain, Journals.{command_in, entries_in}, declared.journals.Kept.Kept}
 use Rattle.store.proofs.Entering.{command_more, suspension_more}
 use Rattle.store.proofs.journals.Journal.push.Goals as goal
 

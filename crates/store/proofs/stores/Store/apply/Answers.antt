@@ -1,8 +1,5 @@
-use Rattle.std.proofs.Common.{◌∙◌, Err, refl, ap, rules, sym}
-use Rattle.std.proofs.lemmas.Result.{err_from_is_err_and, IfOk-from_err}
-use Rattle.store.specs.Lives.{Applied}
-use Rattle.store.specs.Views.{view_of}
-use Rattle.store.proofs.Answering.{refused_up, the_error, not_of_memory, by_disk, none_doubted}
+use Rattle.std.proofs.{Common.{◌∙◌, Err, refl, ap, rules, sym}, lemmas.Result.{err_from_is_err_and, IfOk-from_err}}
+use Rattle.store.{specs.{Lives.Applied, Views.view_of}, proofs.Answering.{refused_up, the_error, not_of_memory, by_disk, none_doubted}}
 use Rattle.store.proofs.Found.{none_in_doubt}
 use Rattle.store.proofs.stores.Store.apply.Goals as goal
 

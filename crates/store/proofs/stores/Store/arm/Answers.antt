@@ -1,10 +1,7 @@
 use Rattle.std.proofs.Common.{◌≡◌, ◌≤◌, ℕ, None, map, true, sym, subst}
-use Rattle.board_model.specs.Durable.{refusal_of, after, fold}
-use Rattle.board_model.specs.Views.{change_in}
+use Rattle.board_model.specs.{Durable.{refusal_of, after, fold}, Views.change_in}
 use Rattle.disk.specs.Facts.{Content}
-use Rattle.store.specs.Taken.{are_taken}
-use Rattle.store.specs.Standing.{state_of, memory_in}
-use Rattle.store.proofs.Armed.{still_keeps, still_failed}
+use Rattle.store.{specs.{Taken.are_taken, Standing.{state_of, memory_in}}, proofs.Armed.{still_keeps, still_failed}}
 use Rattle.store.proofs.stores.Store.arm.Goals as goal
 
 pub invariant_of-self : goal.invariant_of-self

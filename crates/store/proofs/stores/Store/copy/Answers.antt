@@ -1,10 +1,8 @@
 use Rattle.std.proofs.Common.{◌≡◌, ◌∙◌, ◌≤◌, ℕ, List, length, ap, sym, subst, arith, true, false, Err, refl}
-use Rattle.board_model.specs.declared.durable.Entry.{Entry}
-use Rattle.store.specs.Entries.{are_plain, drop_image}
-use Rattle.store.proofs.Armed.{still_keeps, still_failed}
-use Rattle.store.proofs.Copied.{still_folded, still_legal, still_doubted, still_allowed, same_life}
 use Rattle.std.proofs.lemmas.Result.{IfOk-from_err, err_from_is_err_and}
-use Rattle.board_model.proofs.Exits.{on_err}
+use Rattle.board_model.{specs.declared.durable.Entry.Entry, proofs.Exits.on_err}
+use Rattle.store.{specs.Entries.{are_plain, drop_image}, proofs.Armed.{still_keeps, still_failed}}
+use Rattle.store.proofs.Copied.{still_folded, still_legal, still_doubted, still_allowed, same_life}
 use Rattle.store.proofs.stores.Store.copy.Goals as goal
 
 pub invariant_of-result : goal.invariant_of-result

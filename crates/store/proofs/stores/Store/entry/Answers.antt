@@ -1,9 +1,5 @@
-use Rattle.std.proofs.Common.{◌≡◌, ◌∙◌, ◌-◌, ℕ, List, length, map, sym, ap, arith, inr}
-use Rattle.std.proofs.lemmas.List.{length-map}
-use Rattle.std.proofs.Math.ListN.{get_or-map}
-use Rattle.board_model.specs.Durable.{Change}
-use Rattle.board_model.specs.Views.{change_in}
-use Rattle.board_model.specs.declared.durable.Entry.{Entry}
+use Rattle.std.proofs.{Common.{◌≡◌, ◌∙◌, ◌-◌, ℕ, List, length, map, sym, ap, arith, inr}, lemmas.List.length-map, Math.ListN.get_or-map}
+use Rattle.board_model.specs.{Durable.Change, Views.change_in, declared.durable.Entry.Entry}
 use Rattle.store.specs.Standing.{memory_in}
 use Rattle.store.proofs.stores.Store.entry.Goals as goal
 

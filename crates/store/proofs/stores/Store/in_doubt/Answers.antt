@@ -1,8 +1,6 @@
-use Rattle.std.proofs.Common.{◌≡◌, Some, ap}
-use Rattle.std.specs.Prelude.{option_map}
+use Rattle.std.{proofs.Common.{◌≡◌, Some, ap}, specs.Prelude.option_map}
 use Rattle.board_model.specs.Views.{change_in}
-use Rattle.store.specs.Standing.{memory_in}
-use Rattle.store.specs.declared.doubts.Doubt.{Doubt}
+use Rattle.store.specs.{Standing.memory_in, declared.doubts.Doubt.Doubt}
 use Rattle.store.proofs.stores.Store.in_doubt.Goals as goal
 
 pub returns : goal.returns

@@ -1,19 +1,10 @@
 use Rattle.std.proofs.Common.{◌≡◌, ◌∙◌, ◌+◌, ◌++◌, ℕ, List, [], ◌∷◌, Err, Some, length, false, inl, inr, refl, sym, ap, subst, rules, arith}
 use Rattle.std.proofs.lemmas.List.{length-map}
-use Rattle.board_model.specs.Durable.{Change}
-use Rattle.board_model.specs.Views.{change_in}
-use Rattle.board_model.specs.declared.durable.Entry.{Entry}
+use Rattle.board_model.specs.{Durable.Change, Views.change_in, declared.durable.Entry.Entry}
 use Rattle.disk.specs.Facts.{Lent}
-use Rattle.store.specs.Commits.{IsUp}
-use Rattle.store.specs.Entries.{drop_image}
-use Rattle.store.specs.Standing.{memory_in}
-use Rattle.store.specs.declared.doubts.Doubt.{Doubt}
-use Rattle.store.proofs.Found.{keeps_up, keeps_doubt, of_no_doubt, of_one_doubt}
-use Rattle.store.proofs.Applies.{Issues, told, none_maps, life_is, issues}
-use Rattle.store.proofs.Answering.{wrote, goes_to, refused_so}
-use Rattle.store.proofs.Entering.{one_longer}
-use Rattle.store.proofs.Going.{going_plain, going_image}
-use Rattle.store.proofs.stores.Store.issue.Given.{Over}
+use Rattle.store.{specs.{Commits.IsUp, Entries.drop_image, Standing.memory_in, declared.doubts.Doubt.Doubt}, proofs.Entering.one_longer}
+use Rattle.store.proofs.{Found.{keeps_up, keeps_doubt, of_no_doubt, of_one_doubt}, Applies.{Issues, told, none_maps, life_is, issues}}
+use Rattle.store.proofs.{Answering.{wrote, goes_to, refused_so}, Going.{going_plain, going_image}, stores.Store.issue.Given.Over}
 use Rattle.store.proofs.stores.Store.issue.Goals.{After-commit}
 use Rattle.store.proofs.stores.Store.issue.Goals as goal
 

@@ -1,12 +1,8 @@
 use Rattle.std.proofs.Common.{◌≡◌, ◌∙◌, ◌≤◌, Err, Some, None, length, map, true, refl, sym, ap, subst, arith, rules}
 use Rattle.std.proofs.lemmas.Result.{err_from_is_err_and}
-use Rattle.board_model.specs.Durable.{refusal_of, after, fold}
-use Rattle.board_model.specs.Shapes.{ram_bytes_of}
+use Rattle.board_model.specs.{Durable.{refusal_of, after, fold}, Shapes.ram_bytes_of, Views.change_in}
 use Rattle.disk.specs.Facts.{Content}
-use Rattle.board_model.specs.Views.{change_in}
-use Rattle.store.specs.Taken.{are_taken}
-use Rattle.store.specs.Standing.{state_of, memory_in, saved_memory}
-use Rattle.store.specs.Views.{now_state}
+use Rattle.store.specs.{Taken.are_taken, Standing.{state_of, memory_in, saved_memory}, Views.now_state}
 use Rattle.store.proofs.Loading.{read_alone, none_read, stays_keeps, kept_range, kept_counts, image_now, load_refused}
 use Rattle.store.proofs.stores.Store.load_image.Goals as goal
 

@@ -1,7 +1,5 @@
-use Rattle.std.proofs.Common.{◌≡◌, inl, inr, Result, Ok, Err, OnOk, refl, ap, ⊎_elim}
-use Rattle.std.proofs.lemmas.Result.{err_from_is_err_and}
-use Rattle.board_model.specs.Durable.{Change}
-use Rattle.board_model.specs.declared.refusal.Refusal.{Refusal}
+use Rattle.std.proofs.{Common.{◌≡◌, inl, inr, Result, Ok, Err, OnOk, refl, ap, ⊎_elim}, lemmas.Result.err_from_is_err_and}
+use Rattle.board_model.specs.{Durable.Change, declared.refusal.Refusal.Refusal}
 use Rattle.store.specs.Lives.{Life, TakesNone, SuspendRefused}
 use Rattle.store.proofs.stores.Store.may_suspend.Goals as goal
 

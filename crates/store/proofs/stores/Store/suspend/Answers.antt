@@ -1,22 +1,12 @@
 use Rattle.std.proofs.Common.{◌≡◌, ◌∙◌, ◌≤◌, ℕ, option_map, Result, Ok, Err, OnOk, refl, sym, ap, subst, ⊎_elim, rules, arith}
 use Rattle.std.proofs.lemmas.Result.{err_from_is_err_and, IfOk-from_err}
-use Rattle.board_model.specs.Durable.{Suspend}
-use Rattle.board_model.specs.declared.durable.Durable.{Durable}
-use Rattle.board_model.specs.declared.refusal.Refusal.{Refusal}
+use Rattle.board_model.specs.{Durable.Suspend, declared.{durable.Durable.Durable, refusal.Refusal.Refusal}, Shapes.Size}
 use Rattle.board_model.specs.declared.refusal.Refusal.TheVariants.{Device, Down, Memory}
-use Rattle.disk.specs.Facts.{Facts, counted, most}
-use Rattle.disk.specs.FaultState.{FaultState}
+use Rattle.disk.specs.{Facts.{Facts, counted, most}, FaultState.FaultState}
 use Rattle.image.specs.Refusals.{WriteRefused}
-use Rattle.store.specs.Leaves.{LeavesOnly}
-use Rattle.store.specs.Lives.{Suspended}
-use Rattle.store.specs.Follows.{FitsBoard}
-use Rattle.store.specs.Standing.{state_of}
-use Rattle.board_model.specs.Shapes.{Size}
-use Rattle.store.specs.Views.{life_of, found_state, now_state, view_of}
-use Rattle.store.proofs.Suspending.{now_still}
+use Rattle.store.{specs.{Leaves.LeavesOnly, Lives.Suspended, Follows.FitsBoard, Standing.state_of}, proofs.Suspending.now_still}
+use Rattle.store.{specs.Views.{life_of, found_state, now_state, view_of}, proofs.{Found.{none_in_doubt, doubt_or_none}, States.up_leaves}}
 use Rattle.store.proofs.Answering.{refused_up, then_issued, unwritten, the_error, not_of_memory, by_disk, none_doubted}
-use Rattle.store.proofs.Found.{none_in_doubt, doubt_or_none}
-use Rattle.store.proofs.States.{up_leaves}
 use Rattle.store.proofs.stores.Store.suspend.Goals as goal
 
 -- what a refusal to write the area is, and is not

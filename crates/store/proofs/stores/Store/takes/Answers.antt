@@ -1,9 +1,6 @@
-use Rattle.std.proofs.Common.{sym, inr, refl, ◌∙◌, ◌≡◌, ℕ, List, length, map, arith}
-use Rattle.std.proofs.lemmas.List.{length-map}
-use Rattle.board_model.specs.Views.{change_in}
-use Rattle.board_model.specs.declared.durable.Entry.{Entry}
-use Rattle.store.specs.Standing.{memory_in}
-use Rattle.store.proofs.Copied.{none_of}
+use Rattle.std.proofs.{Common.{sym, inr, refl, ◌∙◌, ◌≡◌, ℕ, List, length, map, arith}, lemmas.List.length-map}
+use Rattle.board_model.specs.{Views.change_in, declared.durable.Entry.Entry}
+use Rattle.store.{specs.Standing.memory_in, proofs.Copied.none_of}
 use Rattle.store.proofs.stores.Store.takes.Goals as goal
 
 pub returns-clause-ok : goal.returns-clause-ok

@@ -1,7 +1,5 @@
 use Rattle.std.proofs.Common.{subst}
-use Rattle.tallies.specs.declared.book_views.BookView.{BookView}
-use Rattle.tallies.specs.Books.{Each, IsPart}
-use Rattle.tallies.proofs.Closing.{part_stands}
+use Rattle.tallies.{specs.{declared.book_views.BookView.BookView, Books.{Each, IsPart}}, proofs.Closing.part_stands}
 use Rattle.tallies.proofs.book.Book+J+Entry.recall.Goals as goal
 
 pub returns-clause-stands : goal.returns-clause-stands

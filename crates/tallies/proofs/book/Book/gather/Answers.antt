@@ -1,8 +1,6 @@
 use Rattle.std.proofs.Common.{sym, ap, ◌∙◌, subst}
 use Rattle.atomic_table.specs.Table.{Me, Joins}
-use Rattle.tallies.specs.declared.book_views.BookView.{BookView}
-use Rattle.tallies.specs.Books.{first_of, with_part, nobody, IsKept}
-use Rattle.tallies.proofs.BookKeeps.{takes_in}
+use Rattle.tallies.{specs.{declared.book_views.BookView.BookView, Books.{first_of, with_part, nobody, IsKept}}, proofs.BookKeeps.takes_in}
 use Rattle.tallies.proofs.book.Book.gather.Goals as goal
 
 pub join_seat-requires : goal.join_seat-requires

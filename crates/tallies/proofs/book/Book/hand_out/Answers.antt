@@ -1,6 +1,5 @@
 use Rattle.std.proofs.Common.{◌<◌, length, sym, ◌∙◌, subst}
-use Rattle.tallies.specs.declared.book_views.BookView.{BookView}
-use Rattle.tallies.proofs.BookKeeps.{parts_off}
+use Rattle.tallies.{specs.declared.book_views.BookView.BookView, proofs.BookKeeps.parts_off}
 use Rattle.tallies.proofs.book.Book.hand_out.Goals as goal
 
 pub split_seat-seat-requires : goal.split_seat-seat-requires

@@ -1,10 +1,7 @@
 use Rattle.std.proofs.Common.{◌≡◌, ℕ, ◌<◌, length, sym, ap, ◌∙◌, subst}
-use Rattle.tallies.specs.Sums.{total}
+use Rattle.tallies.{specs.{Sums.total, declared.book_views.BookView.BookView, Books.{Each, is_of}}, proofs.BookKeeps.looks}
 use mathlib.Core.Option.{none}
 use Rattle.atomic_table.specs.Table.{Me, step}
-use Rattle.tallies.specs.declared.book_views.BookView.{BookView}
-use Rattle.tallies.specs.Books.{Each, is_of}
-use Rattle.tallies.proofs.BookKeeps.{looks}
 use Rattle.tallies.proofs.book.Book.look.Goals as goal
 
 pub load-requires : goal.load-requires

@@ -1,7 +1,6 @@
 use Rattle.std.proofs.Common.{◌≡◌, ◌<◌, length, sym, ap, ◌∙◌, subst, arith}
 use Rattle.atomic_table.specs.Table.{Me, Joins}
-use Rattle.tallies.specs.declared.book_views.BookView.{BookView}
-use Rattle.tallies.specs.Books.{keeper_view, part_seat, first_of, with_entry, nobody, IsKept}
+use Rattle.tallies.specs.{declared.book_views.BookView.BookView, Books.{keeper_view, part_seat, first_of, with_entry, nobody, IsKept}}
 use Rattle.tallies.proofs.BookKeeps.{notes, parts_off}
 use Rattle.tallies.proofs.book.Book.note_as.Goals as goal
 

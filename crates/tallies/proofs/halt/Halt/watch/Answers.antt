@@ -1,8 +1,7 @@
 use Rattle.std.proofs.Common.{[]}
 use mathlib.Core.Option.{none}
 use Rattle.atomic_table.specs.Table.{step}
-use Rattle.tallies.specs.Halts.{no_looks}
-use Rattle.tallies.proofs.HaltKeeps.{enters}
+use Rattle.tallies.{specs.Halts.no_looks, proofs.HaltKeeps.enters}
 use Rattle.tallies.proofs.halt.Halt.watch.Goals as goal
 
 pub load_new_seat-found-requires : goal.load_new_seat-found-requires

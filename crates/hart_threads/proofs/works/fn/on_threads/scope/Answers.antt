@@ -1,8 +1,5 @@
-use Rattle.std.proofs.Common.{◌∙◌, [], arith, sym, subst}
-use Rattle.std.specs.List.{AllZip}
-use Rattle.std.specs.Vec.Iter.{into_iter_items}
-use Rattle.hart_threads.proofs.Ending.{one_started, one_refused}
-use Rattle.hart_threads.proofs.Promising.{all_kept, one_taken}
+use Rattle.std.{proofs.Common.{◌∙◌, [], arith, sym, subst}, specs.{List.AllZip, Vec.Iter.into_iter_items}}
+use Rattle.hart_threads.proofs.{Ending.{one_started, one_refused}, Promising.{all_kept, one_taken}}
 use Rattle.hart_threads.proofs.works.fn.on_threads.scope.Goals as goal
 
 pub loop-work-preserved : goal.loop-work-preserved
