@@ -14,11 +14,10 @@ ghost use Rattle.tallies.specs.Halts.{watched};
 ghost use Rattle.tests.specs.Begun.{IsBegun};
 
 use crate::dozing::UntilWoken;
-use crate::fixtures::{NEVER, formatted};
+use crate::fixtures::formatted;
 use board::{Board, BoardParts, Payloads};
-use board_model::{BootMode, ConsoleCommand, Entry, Refusal, Shape, Slot};
+use board_model::{BootMode, Entry, Refusal, Shape, Slot};
 use board_session::console;
-use disk::ArmedFault;
 use hart_threads::{
     AfterConsole, BookPart, BootedHarts, BusTurn, Closing, Gate, HartParts, Heard, Journal, Locks,
     NewBook, Rested, SharedBoard, SharedBus, SharedStore, Threaded, Unshared, Why, drive,
@@ -65,20 +64,6 @@ pub fn parts_of(
     }
 }
 
-/// Those parts, with a fault of the disk armed.
-fn armed(parts: BoardParts<SimDisk>, shape: &Shape, fault: ArmedFault) -> BoardParts<SimDisk>
-    requires held { IsHeld shape.now parts.harts.items parts.tables (Some parts.seats) parts.bus.doze }
-    requires begun { IsBegun shape.now parts.store }
-    ensures held { IsHeld shape.now result.harts.items result.tables (Some result.seats) result.bus.doze }
-    ensures begun { IsBegun shape.now result.store }
-    ensures bus { result.bus ≡ parts.bus }
-{
-    let _ = shape;
-    let mut parts = parts;
-    parts.store.arm(fault);
-    parts
-}
-
 /// More turns than a test has time for.
 pub const ENDLESS: u64 = 1_000_000_000_000;
 
@@ -90,23 +75,18 @@ pub struct BoardTrial<'a> {
     pub payload: &'a [u8],
     /// How many turns a hart makes at most.
     pub turns: u64,
-    /// What is issued before the harts run, whatever it is answered under that fault of the disk.
-    pub commands: &'a [ConsoleCommand],
-    pub fault: ArmedFault,
     /// What the console reads; it waits for this gate first, and tells it when it has left.
     pub input: &'a [u8],
     pub until: Option<&'a UntilWoken>,
 }
 
 impl<'a> BoardTrial<'a> {
-    /// So many turns of one hart that boots nothing, with no command, and a console that returns at once.
+    /// So many turns of one hart that boots nothing, and a console that returns at once.
     pub fn of(turns: u64) -> BoardTrial<'a> {
         BoardTrial {
             size: (1, 1, 1),
             payload: &[],
             turns,
-            commands: &[],
-            fault: NEVER,
             input: b"",
             until: None,
         }
@@ -136,20 +116,6 @@ fn end_of<J: Threaded>(loops: &[Rested<'_, J>]) -> Option<End> {
             None => None,
         },
     })
-}
-
-/// Issues these commands, whatever they are answered, for the console that is to be.
-fn issue<J: Journal>(
-    store: &mut SharedStore<SimDisk, J>,
-    part: BookPart<J, Entry>,
-    heard: &mut Heard<J>,
-    commands: &[ConsoleCommand],
-) {
-    let mut part = part;
-    for command in commands {
-        let (told, _answered) = store.apply(part, heard, command.command());
-        part = told;
-    }
 }
 
 /// What the console of a trial writes.
@@ -219,20 +185,18 @@ pub fn driven<R: Threads + Wait + Clock + Abort + Sync>(
     let Ok((parts, shape)) = parts_of(alloc, &size, trial.payload) else {
         rt.panic("no board")
     };
-    let parts = armed(parts, &shape, trial.fault);
     let marks = new_marks(rt, alloc, shape.harts() + 2);
     driven_as::<Brand, R>(rt, alloc, gate, trial, parts, marks, &shape)
 }
 
-/// The store of a life that has just begun, with its books, shared by its console and so many harts once these commands were issued;
-/// the console's part, those of the harts, and what the console has heard.
+/// The store of a life that has just begun, with its books, shared by its console and so many harts; the console's part, those of the
+/// harts, and what the console has heard.
 fn shared<J: Threaded>(
     rt: &impl Abort,
     alloc: Global,
     begun: (Store<SimDisk>, (NewBook<Entry>, NewBook<Entry>)),
     bus: &mut SharedBus<J>,
     harts: usize,
-    commands: &[ConsoleCommand],
 ) -> (
     SharedStore<SimDisk, J>,
     BookPart<J, Entry>,
@@ -252,14 +216,12 @@ fn shared<J: Threaded>(
     ensures runs { map (λ p. p.run) result.2.items ≡ fresh_from 2 harts }
 {
     let (store, books) = begun;
-    let (mut whole, boot, mut heard) = Unshared::<SimDisk, J>::new(store, books.0, books.1, bus);
+    let (mut whole, _boot, heard) = Unshared::<SimDisk, J>::new(store, books.0, books.1, bus);
     let part = whole.hand_out();
     let Ok(given) = whole.hand_out_all(alloc, harts, bus) else {
         rt.panic("no memory")
     };
-    let mut store = whole.share();
-    issue(&mut store, boot, &mut heard, commands);
-    (store, part, given, heard)
+    (whole.share(), part, given, heard)
 }
 
 /// Runs those parts of a board, of a journal that has a name, with the marks of its life.
@@ -310,7 +272,6 @@ fn driven_as<J: Threaded + Send + Sync, R: Threads + Wait + Clock + Abort + Sync
         (store, (commands, doubts)),
         &mut bus,
         harts.len(),
-        trial.commands,
     );
     let booted = BootedHarts {
         harts,

@@ -1,10 +1,8 @@
 //! Boards that sleep in their RAM, on threads (docs/THREADS.md, "A doze").
 
 use crate::boards::{BoardTrial, ENDLESS, driven};
-use crate::fixtures::{NEVER, has_come, same};
-use crate::many::CountingGate;
-use board_model::{ConsoleCommand, HartId, RAM_BASE};
-use disk::ArmedFault;
+use crate::fixtures::{has_come, same};
+use board_model::{HartId, RAM_BASE};
 use hart_threads::{Gate, Why};
 use std::sync::atomic::{AtomicBool, AtomicU64, Ordering};
 use std::time::Clock;
@@ -84,40 +82,4 @@ fn a_board_that_sleeps_in_its_ram_is_woken_by_its_console(rt: HostRuntime) {
     same(&rt, said.as_slice(), told.as_slice());
     same(&rt, (end.regs, end.pc), ((0, 9), SITE));
     same(&rt, end.why, Why::Gate);
-}
-
-/// A suspend to RAM by `system_suspend`, to go on where it begins: AUIPC x11, 0; ADDI x10, x0, 0; ADDI x12, x0, -1;
-/// ADDI x16, x0, 0; LUI x17, 0x53555; ADDI x17, x17, 0x350; ECALL, the seventh instruction.
-const DOZER: [u8; 28] = [
-    0x97, 0x05, 0x00, 0x00, 0x13, 0x05, 0x00, 0x00, 0x13, 0x06, 0xf0, 0xff, 0x13, 0x08, 0x00, 0x00,
-    0xb7, 0x58, 0x55, 0x53, 0x93, 0x88, 0x08, 0x35, 0x73, 0x00, 0x00, 0x00,
-];
-
-/// Where its ECALL stands, and the hart while it dozes.
-const ASKS: u64 = RAM_BASE + 24;
-
-/// As many commands as a life acknowledges.
-const FULL: [ConsoleCommand; 4096] = [ConsoleCommand::Slot(1); 4096];
-
-/// What is issued before the board dozes, under a fault of its disk: a store takes commands, is full or down.
-static STORES: [(&[ConsoleCommand], ArmedFault); 3] = [
-    (&[], NEVER),
-    (&FULL, NEVER),
-    (&[ConsoleCommand::Slot(1)], ArmedFault::FailAt(3)),
-];
-
-/// A store that is full or down, and so refuses every command: the board dozes, and no receipt is told.
-#[test]
-fn a_board_dozes_whatever_its_store_would_refuse(rt: HostRuntime) {
-    for &(commands, fault) in &STORES {
-        let trial = BoardTrial {
-            payload: &DOZER,
-            commands,
-            fault,
-            ..BoardTrial::of(10)
-        };
-        let (end, _said) = driven(&rt, rt.alloc(), &CountingGate::new(None), trial);
-        same(&rt, (end.made, end.why, end.pc), (10, Why::Turns, ASKS));
-        same(&rt, end.receipt, None);
-    }
 }

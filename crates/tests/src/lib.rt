@@ -52,8 +52,6 @@ mod looped;
 #[cfg(test)]
 mod many;
 #[cfg(test)]
-mod many_writes;
-#[cfg(test)]
 mod meeting;
 #[cfg(test)]
 mod memory_files;
@@ -89,8 +87,6 @@ mod stopped;
 mod stored;
 #[cfg(test)]
 mod streams;
-#[cfg(test)]
-mod suspensions;
 #[cfg(test)]
 mod tables;
 #[cfg(test)]

@@ -25,7 +25,7 @@ fn asking(rt: &impl Abort, extension: u64, function: u64) -> Hart {
 }
 
 /// Which call the registers ask for, by the numbers of the extension and of the function in it.
-static CALLS: [(u64, u64, Call); 27] = [
+static CALLS: [(u64, u64, Call); 23] = [
     (0x10, 0, Call::SpecVersion),
     (0x10, 1, Call::ImplementationId),
     (0x10, 2, Call::ImplementationVersion),
@@ -56,7 +56,6 @@ static CALLS: [(u64, u64, Call); 27] = [
         },
     ),
     (0x48534d, 4, Call::Unknown),
-    (0x48534d, u64::MAX, Call::Unknown),
     (0x735049, 0, Call::SendIpi { mask: A0, base: A1 }),
     (0x735049, 1, Call::Unknown),
     (
@@ -78,12 +77,9 @@ static CALLS: [(u64, u64, Call); 27] = [
         },
     ),
     (0x53555350, 1, Call::Unknown),
-    // other extensions, and two of these numbers plus 2^32
+    // other extensions, and one of these numbers plus 2^32
     (0, 0, Call::Unknown),
-    (1, 0, Call::Unknown),
-    (0x54494d45, 0, Call::Unknown),
     (0x1_0000_0010, 0, Call::Unknown),
-    (0x1_0048_534d, 0, Call::Unknown),
     (u64::MAX, 0, Call::Unknown),
 ];
 
@@ -107,10 +103,8 @@ fn answered(rt: &impl Abort, answer: SbiRet) -> (u64, u64, u64, u64) {
 }
 
 /// Answers, each with what a0 and a1 hold then: an error is negative in a0, and its value is 0.
-static ANSWERS: [(SbiRet, i64, u64); 11] = [
-    (Ok(0), 0, 0),
+static ANSWERS: [(SbiRet, i64, u64); 9] = [
     (Ok(7), 0, 7),
-    (Ok(u64::MAX), 0, u64::MAX),
     (Err(SbiError::Failed), -1, 0),
     (Err(SbiError::NotSupported), -2, 0),
     (Err(SbiError::InvalidParam), -3, 0),

@@ -1,17 +1,19 @@
 //! Sectors byte by byte, as docs/STORE.md has them.
 
-use crate::fixtures::{same, zeros_behind};
+use crate::fixtures::same;
 use board_model::{Addr, Boots, HartId, ImageHead, PageNo, Reason, Refusal, Shape, Slot, Trial};
 use layout::{
-    PlaceHead, Record, Saved, Side, Version, area_start, gate_bytes, lane_start, parse_place_head,
-    parse_record, parse_superblock, place_head_bytes, place_start, record_bytes, selected,
-    superblock_bytes,
+    PlaceHead, Record, Saved, Side, Version, parse_place_head, parse_record, parse_superblock,
+    place_head_bytes, record_bytes, superblock_bytes,
 };
 use std::process::Abort;
 
 /// The sector has these bytes, and zeros after them.
-fn is_of(sector: &[u8; 512], bytes: &[u8]) -> bool {
-    zeros_behind(sector, bytes).is_some()
+fn is_of(sector: &[u8], bytes: &[u8]) -> bool {
+    match sector.strip_prefix(bytes) {
+        Some(rest) => rest.iter().all(|byte| *byte == 0),
+        None => false,
+    }
 }
 
 /// The sector with another byte at that place.
@@ -56,76 +58,41 @@ fn a_trial(rt: &impl Abort) -> Trial {
 }
 
 /// A record in that version, with that image or none, and with that trial or none.
-fn a_record(rt: &impl Abort, version: Version, has_image: bool, has_trial: bool) -> Record {
-    let (saved, trial) = (an_image(rt), a_trial(rt));
-    Record {
+fn a_record(version: Version, image: Option<Saved>, trial: Option<Trial>) -> Option<Record> {
+    Some(Record {
         version,
-        slot: Slot::new(3).expect(rt, "slot 3"),
+        slot: Slot::new(3)?,
         reason: Reason::SystemFailure,
         next: 7,
-        image: has_image.then_some(saved),
-        trial: has_trial.then_some(trial),
-    }
+        image,
+        trial,
+    })
 }
 
-/// Such records, each with its bytes: version, slot, reason and whether it has an image; the next serial; of the image its serial,
-/// hart and area, address, opaque value and counts; and the trial. Without one the versions differ in byte 0 alone.
-static RECORDS: [(Version, bool, bool, &[u8]); 5] = [
-    (
-        Version::Two,
-        true,
-        true,
-        b"\x02\0\0\0\x03\0\0\0\x01\0\0\0\x01\0\0\0\x07\0\0\0\0\0\0\0\
+/// Its bytes with both: version, slot, reason and whether it has an image; the next serial; of the image its serial, hart and area,
+/// address, opaque value and counts; and the trial.
+const WITH_BOTH: &[u8] = b"\x02\0\0\0\x03\0\0\0\x01\0\0\0\x01\0\0\0\x07\0\0\0\0\0\0\0\
 \x06\0\0\0\0\0\0\0\x01\0\0\0\x01\0\0\0\0\x10\0\x80\0\0\0\0\x08\x07\x06\x05\x04\x03\x02\x01\
-\x02\0\0\0\x02\0\0\0\x01\0\0\0\0\0\0\0\x01\0\0\0\x02\0\0\0\x05\0\0\0",
-    ),
-    (
-        Version::Two,
-        true,
-        false,
-        b"\x02\0\0\0\x03\0\0\0\x01\0\0\0\x01\0\0\0\x07\0\0\0\0\0\0\0\
-\x06\0\0\0\0\0\0\0\x01\0\0\0\x01\0\0\0\0\x10\0\x80\0\0\0\0\x08\x07\x06\x05\x04\x03\x02\x01\
-\x02\0\0\0\x02\0\0\0\x01\0\0\0\0\0\0\0",
-    ),
-    (
-        Version::One,
-        true,
-        false,
-        b"\x01\0\0\0\x03\0\0\0\x01\0\0\0\x01\0\0\0\x07\0\0\0\0\0\0\0\
-\x06\0\0\0\0\0\0\0\x01\0\0\0\x01\0\0\0\0\x10\0\x80\0\0\0\0\x08\x07\x06\x05\x04\x03\x02\x01\
-\x02\0\0\0\x02\0\0\0\x01\0\0\0\0\0\0\0",
-    ),
-    (
-        Version::Two,
-        false,
-        false,
-        b"\x02\0\0\0\x03\0\0\0\x01\0\0\0\0\0\0\0\x07\0\0\0\0\0\0\0",
-    ),
-    (
-        Version::One,
-        false,
-        false,
-        b"\x01\0\0\0\x03\0\0\0\x01\0\0\0\0\0\0\0\x07\0\0\0\0\0\0\0",
-    ),
-];
+\x02\0\0\0\x02\0\0\0\x01\0\0\0\0\0\0\0\x01\0\0\0\x02\0\0\0\x05\0\0\0";
+
+/// And in the first version with neither.
+const BARE: &[u8] = b"\x01\0\0\0\x03\0\0\0\x01\0\0\0\0\0\0\0\x07\0\0\0\0\0\0\0";
+
+/// The record has those bytes, and is read again.
+fn is_record(rt: &impl Abort, record: Option<Record>, bytes: &[u8]) {
+    let shape = Shape::new(2, 5, 3).expect(rt, "a shape");
+    let record = record.expect(rt, "a record");
+    let sector = record_bytes(&record);
+    assert!(rt; is_of(&sector, bytes));
+    same(rt, parse_record(&sector, &shape), Ok(record));
+}
 
 #[test]
 fn records_byte_by_byte(rt: HostRuntime) {
-    let shape = Shape::new(2, 5, 3).expect(&rt, "a shape");
-    for &(version, has_image, has_trial, bytes) in &RECORDS {
-        let record = a_record(&rt, version, has_image, has_trial);
-        let sector = record_bytes(&record);
-        assert!(&rt; is_of(&sector, bytes));
-        same(&rt, parse_record(&sector, &shape), Ok(record));
-    }
-}
-
-#[test]
-fn a_gate_by_its_parity(rt: HostRuntime) {
-    let one = Side::first().other();
-    same(&rt, gate_bytes(one)[0], 1);
-    same(&rt, selected(&[255; 512]), one);
-    same(&rt, selected(&[254; 512]), Side::first());
+    let (image, trial) = (an_image(&rt), a_trial(&rt));
+    let with_both = a_record(Version::Two, Some(image), Some(trial));
+    is_record(&rt, with_both, WITH_BOTH);
+    is_record(&rt, a_record(Version::One, None, None), BARE);
 }
 
 #[test]
@@ -142,15 +109,4 @@ fn a_place_head_byte_by_byte(rt: HostRuntime) {
         let other = parse_place_head(&with_byte(sector, place, byte), &shape);
         same(&rt, other, Err(Refusal::BadImage));
     }
-}
-
-/// A board of 5 pages and 4 lanes has 2 places in a lane: 18 sectors, 72 in an area.
-#[test]
-fn where_lanes_begin(rt: HostRuntime) {
-    let shape = Shape::new(1, 5, 4).expect(&rt, "a shape");
-    let one = Side::first().other();
-    let areas = (area_start(&shape, Side::first()), area_start(&shape, one));
-    same(&rt, areas, (8, 80));
-    let lane = lane_start(&shape, one, 3);
-    same(&rt, (shape.places(), lane, place_start(1)), (2, 134, 9));
 }

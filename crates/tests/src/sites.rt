@@ -24,38 +24,14 @@ fn disk_for(rt: &impl Abort, alloc: Global, shape: &Shape) -> SimDisk
     disk
 }
 
-/// Pages of which page k is filled with the byte k after the first.
-fn page_bytes(rt: &impl Abort, alloc: Global, pages: u32, first: u8) -> Vec<u8> {
-    let mut bytes = Vec::new(alloc);
-    let mut byte = first;
-    for _ in 0..pages {
-        bytes
-            .extend_from_slice(&[byte; 4096])
-            .expect(rt, "no memory");
-        byte = byte.wrapping_add(1);
-    }
-    bytes
-}
-
-/// A memory in which page k is filled with the byte k after the first.
-pub fn memory(rt: &impl Abort, alloc: Global, shape: &Shape, first: u8) -> Ram
+/// A memory of zeros for a board of that shape.
+fn memory(rt: &impl Abort, alloc: Global, shape: &Shape) -> Ram
     ensures { length result ≡ ram_bytes_of shape.now }
 {
-    let bytes = page_bytes(rt, alloc, shape.pages(), first);
-    let Ok(mut ram) = Ram::new(alloc, *shape) else {
+    let Ok(ram) = Ram::new(alloc, *shape) else {
         rt.panic("no memory")
     };
-    boot_within(&mut ram, &bytes);
     ram
-}
-
-/// The bytes at the memory's begin, where they fit.
-fn boot_within(ram: &mut Ram, bytes: &[u8])
-    ensures { length ram.new ≡ length ram.old }
-{
-    if bytes.len() <= ram.bytes().len() {
-        ram.boot(bytes);
-    }
 }
 
 /// How many calls were made of lanes 0 to 3.
@@ -68,7 +44,7 @@ fn lane_calls(disk: &SimDisk) -> [u64; 4] {
     ]
 }
 
-/// What a write of a board's memory into the first area answers, how many places of each lane are in use, and how many calls it
+/// What a write of a board's memory, of zeros, into the first area answers, how many places of each lane are in use, and how many calls it
 /// made of each lane. The disk has that fault.
 pub fn saved<C: Crew>(
     rt: &impl Abort,
@@ -77,7 +53,7 @@ pub fn saved<C: Crew>(
     shape: &Shape,
     fault: ArmedFault,
 ) -> (Result<LaneCounts, Refusal>, [u64; 4]) {
-    let ram = memory(rt, alloc, shape, 9);
+    let ram = memory(rt, alloc, shape);
     let mut disk = disk_for(rt, alloc, shape);
     disk.arm(fault);
     let snapshot = Snapshot {

@@ -1,4 +1,4 @@
-//! The store over disks that hand on to another: one of one's own (docs/PORTING.md), one with a log, and one with a cache.
+//! The store over disks that hand on to another: one of one's own (docs/PORTING.md), and one with a cache.
 ghost use Rattle.std.specs.Prelude.{◌≡◌};
 
 use crate::caches::{blank, cut};
@@ -6,7 +6,6 @@ use crate::fixtures::{blank_disk, open, same, set_slot, slot_of};
 use crate::mine::Mine;
 use board_model::{Refusal, Shape};
 use disk::{ArmedFault, Disk};
-use simdisk::{Fill, LoggedDisk};
 use std::alloc::Global;
 use std::process::Abort;
 use store::{Store, format};
@@ -51,14 +50,6 @@ fn cached(rt: &impl Abort, alloc: Global, call: u64) -> (CommandAnswers, Result<
     (answers, slot_of(alloc, cut(disk)))
 }
 
-/// What two commands are answered over a disk that keeps nothing back, and the slot that stands in its device.
-fn logged(rt: &impl Abort, alloc: Global, call: u64) -> (CommandAnswers, Result<u32, Refusal>) {
-    let device = LoggedDisk::new(blank_disk(rt, alloc, 26));
-    let (answers, disk) = two_commands(rt, alloc, device, call);
-    let left = disk.into_device().after_cut(Fill::Byte(9));
-    (answers, slot_of(alloc, left))
-}
-
 /// What two commands are answered over a disk of one's own, and the slot that one more open finds.
 fn own(rt: &impl Abort, alloc: Global, call: u64) -> (CommandAnswers, Result<u32, Refusal>) {
     let device = Mine::new(blank_disk(rt, alloc, 26));
@@ -77,7 +68,6 @@ static CALLS: [(u64, CommandAnswers); 3] = [(0, (Ok(1), Ok(2), 0)), (1, FAILED),
 fn a_failure_of_the_device_is_refused_and_nothing_is_lost(rt: HostRuntime) {
     for &(call, answers) in &CALLS {
         same(&rt, cached(&rt, rt.alloc(), call), (answers, Ok(3)));
-        same(&rt, logged(&rt, rt.alloc(), call), (answers, Ok(3)));
         same(&rt, own(&rt, rt.alloc(), call), (answers, Ok(3)));
     }
 }
