@@ -1,8 +1,8 @@
 //! `examples`: runs each script of a folder and of `cases` there, once with each crew, and compares what it
-//! writes with the report beside it; makes the runs of `runs` there, and compares what each comes to; and checks the
-//! kernels of `checks` as the command lines of the transcript there ask, and compares what is told of them; and does what
-//! the lists of `stories` ask of a disk each, and compares what is seen (README.md). Status 0 where all is so; else 1, and standard error names the first that is not. The folder is the word on the
-//! command line, or the one that the program runs in.
+//! writes with the report beside it; tries `malformed-lines` there; makes the runs of `runs`, and compares what each comes to; checks the
+//! kernels of `checks` as the command lines of the transcript there ask, and has the sessions of `sessions`, and compares what is told of
+//! them; and does what the lists of `stories` ask of a disk each, and compares what is seen (README.md). Status 0 where all is so; else 1,
+//! and standard error names the first that is not. The folder is the word on the command line, or the one that the program runs in.
 //!
 //! With the word `--left` it runs the script of standard input alone, and writes how that ended, what a power-on
 //! over the disk that is left finds, and the report, as far as it was written (tools/trials/refuse-memory). With `--stories`
@@ -10,12 +10,16 @@
 #![tactic(auto)]
 
 mod checks;
+mod console;
+mod disks;
 mod files;
 mod left;
 mod lists;
+mod malformed;
 mod pages;
 mod reported;
 mod runs;
+mod sessions;
 mod stories;
 mod streams;
 mod told;
@@ -23,14 +27,17 @@ mod told;
 use crate::checks::retell;
 use crate::files::Folder;
 use crate::left::tell;
+use crate::malformed::first_taken;
 use crate::reported::{AsReported, ExampleFault, compare_report};
 use crate::runs::{AsTold, RunFault, compare_run};
+use crate::sessions::recite;
 use crate::stories::see_all;
 use bench_sweep::line_apart;
 use crew::{Crew, Sequential, Threads};
 use std::io::Read;
 use std::path::Path;
 use std::process::ExitCode;
+use std::sync::Wait;
 use std::{env, fs, io, thread};
 
 /// The word that asks for what a script leaves.
@@ -50,6 +57,12 @@ const CHECKS: &str = "checks";
 
 /// The file there that has command lines of `sbicheck`, and what is told of each.
 const TRANSCRIPT: &str = "transcript";
+
+/// The file of lines that no script may have.
+const MALFORMED: &str = "malformed-lines";
+
+/// The file of sessions of `sbiboard`, and what comes of each.
+const SESSIONS: &str = "sessions/transcript";
 
 /// The file of lists that ask of a disk each.
 const LISTS: &str = "stories/lists";
@@ -167,6 +180,41 @@ fn compare_runs<R: thread::Threads + Sync>(
     Ok(true)
 }
 
+/// Tries the lines of the folder that no script may have. Answers whether each is refused.
+fn try_malformed(rt: &HostRuntime, folder: &str) -> io::Result<bool> {
+    let lines = file_of(rt, folder, MALFORMED, "")?;
+    match first_taken(rt.alloc(), &lines)? {
+        None => {
+            println!(rt; "{MALFORMED} as refused")?;
+            Ok(true)
+        }
+        Some(line) => {
+            eprintln!(rt; "examples: {MALFORMED}: line {line} is not refused")?;
+            Ok(false)
+        }
+    }
+}
+
+/// Compares what was told anew with the file that has it. Answers whether it is the same.
+fn compare_told(
+    rt: &HostRuntime,
+    name: &str,
+    how: &str,
+    told: &[u8],
+    wanted: &[u8],
+) -> io::Result<bool> {
+    match line_apart(told, wanted) {
+        None => {
+            println!(rt; "{name} as {how}")?;
+            Ok(true)
+        }
+        Some(line) => {
+            eprintln!(rt; "examples: {name}: differs from line {line} on")?;
+            Ok(false)
+        }
+    }
+}
+
 /// Checks the kernels of the folder as its transcript asks. Answers whether that is what comes of it.
 fn compare_checks<R: thread::Threads + Sync>(
     threads: &R,
@@ -180,14 +228,19 @@ fn compare_checks<R: thread::Threads + Sync>(
         eprintln!(rt; "examples: no command line in {CHECKS}/{TRANSCRIPT}")?;
         return Ok(false);
     }
-    match line_apart(told.as_slice(), transcript.as_slice()) {
-        None => println!(rt; "{CHECKS}/{TRANSCRIPT} as told")?,
-        Some(line) => {
-            eprintln!(rt; "examples: {CHECKS}/{TRANSCRIPT}: differs from line {line} on")?;
-            return Ok(false);
-        }
-    }
-    Ok(true)
+    let name = format!(in rt.alloc(); "{CHECKS}/{TRANSCRIPT}")?;
+    Ok(compare_told(rt, &name, "told", &told, &transcript)?)
+}
+
+/// Has the sessions of the folder's transcript. Answers whether that is what comes of them.
+fn compare_sessions<R: thread::Threads + Wait + Sync>(
+    threads: &R,
+    folder: Folder<'_>,
+) -> anyhow::Result<bool> {
+    let rt = folder.rt;
+    let transcript = file_of(rt, folder.path, SESSIONS, "")?;
+    let told = recite(threads, folder, str::from_utf8(&transcript)?)?;
+    Ok(compare_told(rt, SESSIONS, "told", &told, &transcript)?)
 }
 
 /// Does what the lists of the folder ask. Answers whether that is what is seen of them.
@@ -197,19 +250,12 @@ fn compare_stories<R: thread::Threads + Sync>(folder: Folder<'_>) -> anyhow::Res
     let wanted = file_of(rt, folder.path, SEEN, "")?;
     let mut seen = Vec::new(rt.alloc());
     see_all::<R, _>(rt.alloc(), str::from_utf8(&lists)?, &mut seen)?;
-    match line_apart(seen.as_slice(), wanted.as_slice()) {
-        None => println!(rt; "{LISTS} as seen")?,
-        Some(line) => {
-            eprintln!(rt; "examples: {LISTS}: another is seen from line {line} on")?;
-            return Ok(false);
-        }
-    }
-    Ok(true)
+    Ok(compare_told(rt, LISTS, "seen", &seen, &wanted)?)
 }
 
-/// Compares the scripts of the folder and of its `cases`, makes its `runs`, checks the kernels of its `checks`, and does what
-/// the lists of its `stories` ask. Answers whether all is well.
-fn compare_folder<R: thread::Threads + Sync>(
+/// Compares the scripts of the folder and of its `cases`, tries its malformed lines, makes its `runs`, checks the kernels of its
+/// `checks`, has its `sessions`, and does what the lists of its `stories` ask. Answers whether all is well.
+fn compare_folder<R: thread::Threads + Wait + Sync>(
     rt: &HostRuntime,
     threads: &R,
     folder: &str,
@@ -224,8 +270,10 @@ fn compare_folder<R: thread::Threads + Sync>(
     };
     let is_well = compare_all(rt, &crews.0, &crews.1, folder)?
         && compare_all(rt, &crews.0, &crews.1, &cases)?
+        && try_malformed(rt, folder)?
         && compare_runs(threads, Folder { rt, path: folder }, &runs)?
         && compare_checks(threads, checked)?
+        && compare_sessions(threads, Folder { rt, path: folder })?
         && compare_stories::<R>(Folder { rt, path: folder })?;
     Ok(is_well)
 }

@@ -1,7 +1,7 @@
 //! Runs of `sbibench` by the words of a command line, over streams in memory (README.md, "Runs").
 
 use crate::files::Folder;
-use crate::streams::{Input, Output, Room};
+use crate::streams::{ALL, Input, Output, Room};
 use bench_program::{Pipe, Telling, run_on};
 use bench_sweep::line_apart;
 use std::alloc::Global;
@@ -48,13 +48,6 @@ struct GivenStreams {
     output: Room,
     faults: Room,
 }
-
-/// A stream that takes all.
-const ALL: Room = Room {
-    bytes: usize::MAX,
-    fault: ErrorKind::StorageFull,
-    is_terminal: false,
-};
 
 /// A stream of which the reader is gone.
 const CLOSED: Room = Room {

@@ -35,6 +35,13 @@ pub struct Room {
     pub is_terminal: bool,
 }
 
+/// A stream that takes all.
+pub const ALL: Room = Room {
+    bytes: usize::MAX,
+    fault: ErrorKind::StorageFull,
+    is_terminal: false,
+};
+
 /// An output that keeps what it takes.
 #[derive(Drop)]
 pub struct Output {

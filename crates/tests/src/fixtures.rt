@@ -21,31 +21,6 @@ pub fn same<T: PartialEq + Drop>(rt: &impl Abort, found: T, wanted: T) {
     assert!(rt; found == wanted);
 }
 
-/// The words of a command line, with a blank between two.
-pub fn words_of(rt: &impl Abort, alloc: Global, line: &'static str) -> Vec<&'static str> {
-    line.split(' ').collect(alloc).expect(rt, "memory")
-}
-
-/// Whether each of the bytes is that one.
-pub fn are_all(bytes: &[u8], wanted: u8) -> bool {
-    for byte in bytes {
-        if *byte != wanted {
-            return false;
-        }
-    }
-    true
-}
-
-/// How many zeros stand after that start of the bytes; none where they are anything else.
-pub fn zeros_behind(bytes: &[u8], start: &[u8]) -> Option<usize> {
-    let rest = bytes.strip_prefix(start)?;
-    if are_all(rest, 0) {
-        Some(rest.len())
-    } else {
-        None
-    }
-}
-
 /// The most sleeps of 1 ms for which a test waits at once.
 const MOST_SLEEPS: u32 = 10_000;
 

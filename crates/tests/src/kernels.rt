@@ -1,6 +1,6 @@
 //! Kernels as `sbicheck` checks them: what several threads tell of one, and bytes that are none.
 
-use crate::fixtures::{same, words_of};
+use crate::fixtures::same;
 use elf_image::ElfFault;
 use kernel_check::{CheckFault, CheckOptions, KernelFault, check_bytes, options_of};
 use std::alloc::Global;
@@ -27,7 +27,8 @@ static ASKED: [&str; 4] = [
 
 /// What a command line asks for.
 fn asked(rt: &impl Abort, alloc: Global, line: &'static str) -> CheckOptions {
-    options_of(alloc, &words_of(rt, alloc, line)).expect(rt, "the words are right")
+    let words: Vec<&str> = line.split(' ').collect(alloc).expect(rt, "memory");
+    options_of(alloc, &words).expect(rt, "the words are right")
 }
 
 /// What is told where so many threads search.

@@ -1,12 +1,10 @@
 //! Tests: values are compared with the standard, docs/, an outside assembler, emulator or debugger; disks fail, lose power or have
-//! their process killed; tables, crews and whole boards run on threads; and sessions of the console run over files in memory. Here is
-//! what no clause says, and what no script of `crates/examples` shows.
+//! their process killed; and tables, crews and whole boards run on threads. Here is what no clause says, and what no script or session of
+//! `crates/examples` shows.
 #![tactic(auto)]
 
 #[cfg(test)]
 mod areas;
-#[cfg(test)]
-mod blocks;
 #[cfg(test)]
 mod boards;
 #[cfg(test)]
@@ -22,8 +20,6 @@ mod decoder;
 #[cfg(test)]
 mod dozing;
 #[cfg(test)]
-mod examiner;
-#[cfg(test)]
 mod files;
 #[cfg(test)]
 mod first_slot;
@@ -33,10 +29,6 @@ mod first_use;
 mod fixtures;
 #[cfg(test)]
 mod folders;
-#[cfg(test)]
-mod guest;
-#[cfg(test)]
-mod inputs;
 #[cfg(test)]
 mod kept;
 #[cfg(test)]
@@ -54,31 +46,17 @@ mod many;
 #[cfg(test)]
 mod meeting;
 #[cfg(test)]
-mod memory_files;
-#[cfg(test)]
 mod mine;
 #[cfg(test)]
 mod model;
 #[cfg(test)]
 mod packets;
 #[cfg(test)]
-mod programs;
-#[cfg(test)]
 mod race;
 #[cfg(test)]
 mod registers;
 #[cfg(test)]
-mod runs;
-#[cfg(test)]
-mod script_faults;
-#[cfg(test)]
-mod script_limits;
-#[cfg(test)]
-mod scripts;
-#[cfg(test)]
 mod sectors;
-#[cfg(test)]
-mod sessions;
 #[cfg(test)]
 mod sites;
 #[cfg(test)]
@@ -86,11 +64,7 @@ mod stopped;
 #[cfg(test)]
 mod stored;
 #[cfg(test)]
-mod streams;
-#[cfg(test)]
 mod tables;
-#[cfg(test)]
-mod trials;
 #[cfg(test)]
 mod two_tables;
 #[cfg(test)]

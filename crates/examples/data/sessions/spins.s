@@ -1,0 +1,2 @@
+# It jumps to itself.
+        j       .
