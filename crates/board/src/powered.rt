@@ -2,8 +2,8 @@
 
 mod copies;
 
+use crate::begun::BegunBoard;
 use crate::payloads::Payloads;
-use crate::ready::ready;
 use board_model::{BootMode, CallWords, ConsoleCommand, Durable, Entry, HartId, Refusal, Shape};
 use crew::Crew;
 use disk::{ArmedFault, Disk};
@@ -119,26 +119,18 @@ impl<D: Disk + Drop> Board<D> {
             (disk_of (store_of board)) (fault_state_of (store_of board)))
             (λ e. GivesDisk (D.facts disk) (D.fault_state disk) e.refusal (D.facts e.disk) (D.fault_state e.disk)) }
     {
-        let mut store = match Store::open(alloc, disk) {
-            Ok(store) => store,
-            Err((disk, refusal)) => {
-                return Err(Unpowered {
-                    disk,
-                    found: None,
-                    now: None,
-                    refusal,
-                });
-            }
-        };
-        match ready(alloc, &mut store, mode, payloads) {
-            Ok(machine) => Ok(Board { store, machine }),
-            Err(refusal) => Err(Unpowered {
-                found: Some(store.found()),
-                now: Some(store.now()),
-                disk: store.into_disk(),
-                refusal,
-            }),
+        match BegunBoard::power_on(alloc, disk, mode, payloads) {
+            Ok(begun) => Ok(begun.into_board()),
+            Err(unpowered) => Err(unpowered),
         }
+    }
+
+    /// The board of that store and that machine.
+    pub(crate) fn of(store: Store<D>, machine: Machine) -> Board<D>
+        ensures store { store_of result ≡ store }
+        ensures machine { machine_of result ≡ machine }
+    {
+        Board { store, machine }
     }
 
     /// The memory and the harts.

@@ -19,7 +19,7 @@ ghost use Rattle.board.specs.Unbooted.{IsStartRefusal, RefusesMode};
 use crate::payloads::Payloads;
 use board_model::{BootMode, Command, Durable, HartId, Refusal};
 use disk::Disk;
-use machine::Machine;
+use machine::BegunMachine;
 use std::alloc::Global;
 use store::Store;
 
@@ -62,7 +62,7 @@ fn resting<D: Disk + Drop>(
     store: &Store<D>,
     mode: BootMode,
     payloads: &Payloads,
-) -> Result<Machine, Refusal>
+) -> Result<BegunMachine, Refusal>
     requires { HasItsHart (size_of_store store.now) (found_state store.now) }
     ensures fits { OnOk result (PayloadsFit (size_of_store store.now) payloads.now) }
     ensures least { 4096 ≤ ram_bytes_of (size_of_store store.now) }
@@ -74,11 +74,11 @@ fn resting<D: Disk + Drop>(
     if !payloads.fit(&shape) {
         return Err(Refusal::BadShape);
     }
-    Machine::new(alloc, &shape, first_hart(store, mode))
+    BegunMachine::new(alloc, &shape, first_hart(store, mode))
 }
 
 /// Boots the slot of the state now, on a board that was just made.
-fn boot_slot<D: Disk + Drop>(machine: &mut Machine, store: &Store<D>, payloads: &Payloads)
+fn boot_slot<D: Disk + Drop>(machine: &mut BegunMachine, store: &Store<D>, payloads: &Payloads)
     requires resting { machine.old ≡ resting (size_of_store store.now) 0 }
     requires fits { PayloadsFit (size_of_store store.now) payloads.now }
     ensures { machine.new ≡ booted payloads.now (now_state store.now) (size_of_store store.now) }
@@ -141,7 +141,7 @@ fn issue_boot<D: Disk + Drop>(store: &mut Store<D>, mode: BootMode) -> Result<()
 /// Begins what the mode asks for, on a board that was just made: boots the slot that stands once the mode's
 /// commands were acknowledged; or goes on with the image.
 fn begin<D: Disk + Drop>(
-    machine: &mut Machine,
+    machine: &mut BegunMachine,
     store: &mut Store<D>,
     mode: BootMode,
     payloads: &Payloads,
@@ -178,7 +178,7 @@ pub fn ready<D: Disk + Drop>(
     store: &mut Store<D>,
     mode: BootMode,
     payloads: &Payloads,
-) -> Result<Machine, Refusal>
+) -> Result<BegunMachine, Refusal>
     requires { IsOpen (view_of store.old) }
     ensures allowed { OnOk result (boot_refusal (found_state store.old) mode ≡ None) }
     ensures fits { OnOk result (PayloadsFit (size_of_store store.old) payloads.now) }

@@ -3,11 +3,11 @@
 ghost use Rattle.std.specs.Prelude.{◌≡◌, ◌<◌, ◌+◌, ℕ, [], true, false, Some, All, IfOk, IfErr, map, vec_len, vec_capacity};
 ghost use Rattle.board_model.specs.declared.refusal.Refusal.TheVariants.{Memory};
 ghost use Rattle.sbi_calls.specs.Both.{AreTablesOf, known};
-ghost use Rattle.machine.specs.Held.{IsHeld};
+ghost use Rattle.machine.specs.Held.{AreUntouched, IsHeld, board_of};
 ghost use Rattle.hart_threads.specs.Bused.{fresh_part};
 ghost use Rattle.hart_threads.specs.Seated.{AreNamed, AreOfHart, IsSeated};
 ghost use Rattle.hart_threads.specs.Threads.{seated};
-ghost use Rattle.hart_threads.specs.Begun.{AreFromLast, BeginsAs, IsFromBoot, board_of};
+ghost use Rattle.hart_threads.specs.Begun.{AreFromLast, BeginsAs, IsFromBoot};
 ghost use Rattle.tallies.specs.Books.{fresh_from};
 
 use crate::closing::{Closing, HaltReason};
@@ -29,7 +29,7 @@ use std::thread::{Promise, Threads};
 use susp::Doze;
 use tallies::Journal;
 
-/// The harts that are to be driven, as the boot left them, and what their loops are given.
+/// The harts that are to be driven, as the boot left them, and what their loops are given. No hart has noted a step in the tables.
 #[derive(Drop)]
 pub struct BootedHarts<J: Journal> {
     pub harts: Vec<Hart>,
@@ -116,6 +116,7 @@ pub fn drive<
     requires runs { map (λ p. p.run) booted.parts.items ≡ fresh_from 2 (vec_len booted.parts) }
     requires fresh { All (λ p. p.receipts.told ≡ []) booted.parts.items }
     requires held { IsHeld board.shape.now booted.harts.items board.tables.now (Some booted.seats) booted.doze }
+    requires untouched { AreUntouched board.shape.now.harts board.tables.now booted.seats }
     requires machine { J.machine ≡ board_of board.shape.now J.memory booted.doze booted.harts.items booted.seats }
     requires tables { AreNamed J.starts J.raises board.tables.now }
     ensures said { IfOk result (λ r. K.post console side r.1) }

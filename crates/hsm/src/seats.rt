@@ -68,6 +68,7 @@ impl HartTable {
         requires { started < shape.harts }
         ensures seat { IfOk result (λ t. IsSeatOf t.0 t.1) }
         ensures harts { IfOk result (λ t. harts_of t.0 ≡ shape.harts) }
+        ensures first { IfOk result (λ t. started_in t.0 ≡ started) }
         ensures opening { IfOk result (λ t. hart_view_of_seat t.1 ≡ opening_view shape.harts started) }
         ensures stands { IfOk result (λ t. (h : ℕ) → h < shape.harts
             → stands h (if h == started then Running else Out) (harts_in t.1)) }

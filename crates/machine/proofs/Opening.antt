@@ -6,15 +6,15 @@ use mathlib.Core.Logic.{dite}
 use native.Mathlib.Decide.{ℕ_discrete, dec_le}
 use Rattle.board_model.specs.Shapes.{Size, ram_bytes_of}
 use Rattle.hart.specs.State.{ArchState, never_started}
-use Rattle.hsm.specs.{declared.view.Stage.{Stage, TheVariants.{Out, Running}}, Words.HartSeatView, Rule.stands, Outcomes.opening_states}
+use Rattle.hsm.specs.{declared.view.Stage.{Stage, TheVariants.{Out, Running}}, Words.HartSeatView, Rule.stands, Outcomes.{opening_states, opening_view}, Seating.started_in}
 use Rattle.hsm.specs.{States.{HartState, stopped, started, Shows, IsIn}, Views.{listed, AreStates}}
-use Rattle.ipi.specs.{Ledger.{PendingSeatView as Pairs}, Views.{pair_at, ArePairs}}
+use Rattle.ipi.specs.{Ledger.{PendingSeatView as Pairs, opening_pending_view}, Views.{pair_at, ArePairs}}
 use Rattle.ipi.specs.Pairs as shown
 use Rattle.sbi_calls.specs.declared.tables.{Tables.Tables, Seats.Seats}
 use Rattle.sbi_calls.specs.Both.{TableState, AreTablesOf, AreSeatsOfBoth, AreOfAll, IsTable, views, harts_known, pair_crew}
 use Rattle.turns.specs.Turns.{Rests}
 use Rattle.machine.specs.Machine.{Machine, stopped_harts, only_first, none_pending, resting}
-use Rattle.machine.{specs.Held.{shown_by, AreWhole, IsHeld, AreNumbered}, proofs.Holding.{IsOneList, IsOneSet, one_shown}}
+use Rattle.machine.{specs.Held.{AreUntouched, shown_by, AreWhole, IsHeld, AreNumbered}, proofs.Holding.{IsOneList, IsOneSet, one_shown}}
 
 pub long : (n : ℕ) → length (stopped_harts n) ≡ n
 long zero = refl
@@ -76,6 +76,9 @@ pub record AreMade (size : Size) (t : Tables) (s : Seats) (first : ℕ) : Type 0
   pub stood : (h : ℕ) → h < size.harts → stands h (if h == first then Running else Out) (views s)
   pub pairs : shown.Shows size.harts (pair_crew s) (λ _ _. false)
   pub sits : (h : ℕ) → h < size.harts → shown.Sits h (pair_crew s)
+  pub with_first : started_in t.harts ≡ first
+  pub no_start : harts_known s ≡ opening_view size.harts first
+  pub no_raise : pair_crew s ≡ opening_pending_view size.harts
 
 abbrev pub opening_table : ℕ → ℕ → TableState
 opening_table harts first = record { states = only_first harts first; pairs = none_pending harts }
@@ -101,6 +104,13 @@ module _ (size : Size) (t : Tables) (s : Seats) (first : ℕ) (one : IsOneList) 
     numbered = subst AreNumbered (sym same) (stopped_numbered size.harts);
     tables = made.tables;
     seats = opening_whole;
+  }
+
+  pub untouched : AreUntouched size.harts t s
+  untouched = record {
+    starts = made.no_start ∙ ap (opening_view size.harts) (sym made.with_first);
+    raises = made.no_raise;
+    shows = shows_it ∙ ap (opening_table size.harts) (sym made.with_first);
   }
 
   pub is_resting : (ram : List ℕ) (harts : List ArchState) → ram ≡ replicate (ram_bytes_of size) 0 → harts ≡ stopped_harts size.harts → ◌≡◌ {A = Machine} (record { size = size; memory = ram; doze = None; harts = harts; table = shown_by size.harts s }) (resting size first)

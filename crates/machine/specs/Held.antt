@@ -2,7 +2,10 @@
 use Rattle.std.specs.Prelude.{◌≡◌, ℕ, ◌<◌, List, [], length, get_or, nat_lt, if◌then◌else◌, Option, Some, None}
 use Rattle.board_model.specs.Shapes.{Size}
 use Rattle.hart.specs.State.{ArchState, never_started}
+use Rattle.hsm.specs.Outcomes.{opening_view}
+use Rattle.hsm.specs.Seating.{started_in}
 use Rattle.hsm.specs.Views.{states_in}
+use Rattle.ipi.specs.Ledger.{opening_pending_view}
 use Rattle.ipi.specs.Views.{pairs_in}
 use Rattle.sbi_calls.specs.declared.tables.Tables.{Tables}
 use Rattle.sbi_calls.specs.declared.tables.Seats.{Seats}
@@ -15,6 +18,7 @@ use Rattle.sbi_calls.specs.Both.{TableState, AreTablesOf, AreSeatsOfBoth, AreOfA
 use Rattle.susp.specs.Dozes.{doze_of}
 use Rattle.susp.specs.declared.buses.Doze.{Doze}
 use Rattle.turns.specs.Turns.{Rests}
+use Rattle.machine.specs.Machine.{Machine, none_pending, only_first}
 
 -- what seats of all harts show
 abbrev pub shown_by : ℕ → Seats → TableState
@@ -23,6 +27,18 @@ shown_by harts s = record { states = states_in harts (harts_known s); pairs = pa
 abbrev pub table_of : ℕ → Option Seats → TableState
 table_of harts None = record { states = []; pairs = [] }
 table_of harts (Some s) = shown_by harts s
+
+-- the board that these make, with the tables as the one seat of all harts shows them
+abbrev pub board_of : Size → List ℕ → Option Doze → List ArchState → Seats → Machine
+board_of size memory doze harts seats =
+    record { size = size; memory = memory; doze = doze; harts = harts; table = shown_by size.harts seats }
+
+-- No hart has noted a step: the seats of all harts know of each hart where it stands at the start, with the hart that the table was made
+-- with STARTED, and that it did nothing; so they show that hart STARTED, every other one STOPPED, and no pending interrupt.
+pub record AreUntouched (harts : ℕ) (t : Tables) (s : Seats) : Type 0 where
+  pub starts : harts_known s ≡ opening_view harts (started_in t.harts)
+  pub raises : pair_crew s ≡ opening_pending_view harts
+  pub shows : shown_by harts s ≡ record { states = only_first harts (started_in t.harts); pairs = none_pending harts }
 
 -- where a hart stands once a durable call of it was made: a doze is quiet, and after a suspension to disk the
 -- quiet is ended

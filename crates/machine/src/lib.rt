@@ -5,6 +5,7 @@
 //! The report lines of a script that show a board's memory and harts, or say what a hart did (docs/SCRIPT.md).
 #![tactic(auto)]
 
+mod begun;
 mod calls;
 mod copies;
 mod holds;
@@ -16,6 +17,7 @@ mod parts;
 mod shows;
 mod states;
 
+pub use begun::BegunMachine;
 pub use hsm::State;
 pub use laws::{a_doze_stands, machine_determines_turn};
 pub use line::{MachineLine, MemBytes};

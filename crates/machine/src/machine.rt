@@ -3,21 +3,16 @@
 //! `hart::step_keeps_number`.
 
 ghost use Rattle.std.specs.Prelude.{◌≡◌, ◌⊎◌, ◌≤◌, ◌<◌, ◌+◌, ◌-◌, ◌*◌, ◌++◌, ℕ, length, replicate, IfOk, IfErr, IsOk, IsErrOf, OnOk, OnErr, true, Ok, Err, Some, None, IsTrue, ◌↔◌};
-ghost use Rattle.board_model.specs.Durable.{Image};
-ghost use Rattle.board_model.specs.Shapes.{ram_bytes_of};
 ghost use Rattle.board_model.specs.declared.refusal.Refusal.TheVariants.{Memory, NotDozing};
 ghost use Rattle.turns.specs.Turns.{has_pending, TurnOf};
 ghost use Rattle.susp.specs.Dozes.{doze_of, can_wake, after_wake};
 ghost use Rattle.sbi_calls.specs.declared.words.Turned.TheVariants.{Durable};
 ghost use Rattle.disk.specs.Facts.{Failed, counted};
-ghost use Rattle.store.specs.Lives.{IsLoaded};
 ghost use Rattle.store.specs.Views.{disk_of, size_of_store, now_state, failures_at_open, view_of};
-ghost use Rattle.store.specs.Answers.{StaysOpen};
-ghost use Rattle.susp.specs.Wakes.{IsUnloaded, IsConsumed, WakeStops};
-ghost use Rattle.machine.specs.Machine.{hart_at, status_at, stopped_harts, resting, machine_begun, woken};
+ghost use Rattle.machine.specs.Machine.{hart_at, status_at};
 ghost use Rattle.turns.specs.Many.{RowOf};
 ghost use Rattle.machine.specs.Turns.{MakesTurn, MakesRow, MakesOneCall, DoneBy, DozeTurn, CallOf, calling};
-ghost use Rattle.machine.specs.Held.{IsHeld, shown_by};
+ghost use Rattle.machine.specs.Held.{IsHeld, board_of, shown_by};
 ghost use Rattle.machine.specs.Durables.{StandsAtCall, MakesCall};
 ghost use Rattle.machine.specs.Dozes.{Dozes};
 ghost use Rattle.sbi.specs.Words.{word_of_sleep};
@@ -28,19 +23,18 @@ use crate::copies::{copy_harts, copy_tables};
 use crate::holds::make_held;
 use crate::parts::Parts;
 use crate::states::see;
-use board_model::{CallWords, HartId, RAM_BASE, Reason, Refusal, Shape};
+use board_model::{CallWords, HartId, Refusal, Shape};
 use crew::Crew;
 use disk::Disk;
 use hart::Hart;
-use hsm::{HartTable, State};
-use ipi::PendingTable;
+use hsm::State;
 use ram::Ram;
 use sbi::Word;
 use sbi_calls::{Did, Seats, Tables, Turned};
 use std::alloc::Global;
 use std::marker::Model;
 use store::{Saving, Store};
-use susp::{Bus, Doze, doze_of, wake_image};
+use susp::{Bus, Doze, doze_of};
 
 /// A board's memory, harts and tables, which contracts see as the record `Machine` of specs/. The seats are
 /// out of their place only within a call.
@@ -65,98 +59,25 @@ impl Model for Machine {
     ghost invariant = { λ m. IsHeld m.shape m.harts.items m.tables m.seats m.bus.doze };
 }
 
-/// The harts of a board, none of which ever ran.
-fn stopped_harts(alloc: Global, shape: &Shape) -> Result<Vec<Hart>, Refusal>
-    ensures harts { IfOk result (λ harts. harts.items ≡ stopped_harts shape.now.harts) }
-    ensures refused { OnErr result (result ≡ Err Memory) }
-{
-    let mut harts = Vec::new(alloc);
-    for number in 0..u64::from(shape.harts()) {
-        if let Some(id) = shape.hart(number) {
-            harts.push(Hart::stopped(id))?;
-        }
-    }
-    Ok(harts)
-}
-
-/// Puts the payload first in a memory of zeros, that of a board of that shape. Without a payload nothing is written.
-fn put_payload(shape: &Shape, ram: &mut Ram, payload: &[u8])
-    requires zeros { ram.old ≡ replicate (ram_bytes_of shape.now) 0 }
-    requires fits { length payload.now ≤ ram_bytes_of shape.now }
-    ensures { ram.new ≡ payload.now ++ replicate (ram_bytes_of shape.now - length payload.now) 0 }
-{
-    if !payload.is_empty() {
-        ram.boot(payload);
-    }
-}
-
 impl Machine {
-    /// A board of that shape before a boot, whose hart `first` is to begin: RAM is zeros, every other hart is
-    /// STOPPED, and no interrupt is pending. Refused 11 where there is no room for it.
-    pub fn new(alloc: Global, shape: &Shape, first: HartId) -> Result<Self, Refusal>
-        requires { first < shape.now.harts }
-        ensures resting { IfOk result (λ m. m ≡ resting shape.now first) }
-        ensures refused { OnErr result (result ≡ Err Memory) }
+    /// The machine that these parts make.
+    pub(crate) fn of(shape: Shape, parts: Parts) -> Machine
+        requires { IsHeld shape parts.harts.items parts.tables (Some parts.seats) parts.bus.doze }
+        ensures { result ≡ board_of shape parts.bus.ram parts.bus.doze parts.harts.items parts.seats }
     {
-        let ram = Ram::new(alloc, *shape)?;
-        let all = stopped_harts(alloc, shape)?;
-        let starts = HartTable::new(alloc, *shape, first)?;
-        let raises = PendingTable::new(alloc, *shape)?;
-        hsm::seat_determines_states();
-        ipi::seat_determines_pairs();
-        Ok(Machine {
-            bus: Bus { ram, doze: None },
-            harts: all,
-            shape: *shape,
-            tables: Tables {
-                harts: starts.0,
-                pending: raises.0,
-            },
-            seats: Some(Seats {
-                harts: starts.1,
-                pending: raises.1,
-            }),
-        })
-    }
-
-    /// Boots a payload on a board of that shape that was just made, whose hart 0 is to begin.
-    pub fn boot(&mut self, shape: &Shape, payload: &[u8], reason: Reason)
-        requires resting { self.old ≡ resting shape.now 0 }
-        requires fits { length payload.now ≤ ram_bytes_of shape.now }
-        ensures { self.new ≡ machine_begun payload.now reason shape.now }
-    {
-        put_payload(shape, &mut self.bus.ram, payload);
-        if let Some(first) = shape.hart(0) {
-            self.harts[0] = Hart::fresh(first, RAM_BASE, u64::from(reason.number()));
+        let Parts {
+            harts,
+            seats,
+            tables,
+            bus,
+        } = parts;
+        Machine {
+            bus,
+            harts,
+            shape,
+            tables,
+            seats: Some(seats),
         }
-    }
-
-    /// Resumes a board that was just made, whose first hart is that of the image that stands, as
-    /// `susp::wake_image` has it: the memory of the image is loaded, then the image is consumed, and only
-    /// then its hart stands at its address. No memory is taken. After a refusal the machine is of no use.
-    pub fn resume<D: Disk + Drop>(&mut self, store: &mut Store<D>) -> Result<(), Refusal>
-        requires resting { (i : Image) → (now_state store.old).image ≡ Some i
-            → (self.old ≡ resting (size_of_store store.old) i.hart) × (i.hart < (size_of_store store.old).harts) }
-        ensures woken { OnOk result
-            ((i : Image) × ((now_state store.old).image ≡ Some i) × (self.new ≡ woken i (size_of_store store.old))
-            × (length i.memory ≡ length self.old.memory)) }
-        ensures consumed { OnOk result ((n : ℕ) × IsConsumed store.old (Ok n) store.new) }
-        ensures refused { IfErr result (λ e. IsUnloaded store.old self.old.memory e store.new
-            ⊎ (IsLoaded (now_state store.old) self.new.memory × IsConsumed store.old (Err e) store.new)) }
-        ensures untouched { IfErr result (λ e. (e ≡ Refusal.BadShape) ⊎ (e ≡ Refusal.NoImage)
-            → (self.new ≡ self.old) × (store.new ≡ store.old)) }
-        ensures life { IsErrOf result Refusal.Down
-            → Failed (failures_at_open store.new) (disk_of store.new).failures }
-        ensures stays { StaysOpen (view_of store.old) (view_of store.new) }
-        ensures calls { OnOk result ((disk_of store.new).calls
-            ≡ counted (disk_of store.old).calls (2 * (size_of_store store.old).pages + 4)) }
-        ensures stops { IfErr result (λ e. WakeStops (size_of_store store.old).pages e (disk_of store.old).calls
-            (disk_of store.new).calls) }
-    {
-        let hart = wake_image(store, &mut self.bus.ram)?;
-        let place = hart.id().index();
-        self.harts[place] = hart;
-        Ok(())
     }
 
     /// Whether the board has a hart of that number.

@@ -3,11 +3,10 @@
 ghost use Rattle.std.specs.Prelude.{◌≡◌, ◌+◌, ℕ, [], true, None, Some, All, IfOk, map, vec_len};
 ghost use Rattle.disk.specs.Facts.{Content};
 ghost use Rattle.store.specs.Views.{disk_of, found_state, failures_at_open};
-ghost use Rattle.hart_threads.specs.Begun.{board_of};
 ghost use Rattle.hart_threads.specs.Bused.{begun_bus};
 ghost use Rattle.hart_threads.specs.Seated.{AreNamed};
 ghost use Rattle.hart_threads.specs.Views.{bus_parts};
-ghost use Rattle.machine.specs.Held.{IsHeld};
+ghost use Rattle.machine.specs.Held.{AreUntouched, IsHeld, board_of};
 ghost use Rattle.tallies.specs.BookViews.{id_of, parts_of};
 ghost use Rattle.tallies.specs.Books.{fresh_from};
 ghost use Rattle.tallies.specs.Halts.{watched};
@@ -15,7 +14,7 @@ ghost use Rattle.tests.specs.Begun.{IsBegun};
 
 use crate::dozing::UntilWoken;
 use crate::fixtures::formatted;
-use board::{Board, BoardParts, Payloads};
+use board::{BegunBoard, BoardParts, Payloads};
 use board_model::{BootMode, Entry, Refusal, Shape, Slot};
 use board_session::console;
 use hart_threads::{
@@ -50,14 +49,15 @@ pub fn parts_of(
     payload: &[u8],
 ) -> Result<(BoardParts<SimDisk>, Shape), Refusal>
     ensures held { IfOk result (λ p. IsHeld p.1 p.0.harts.items p.0.tables (Some p.0.seats) p.0.bus.doze) }
+    ensures untouched { IfOk result (λ p. AreUntouched p.1.harts p.0.tables p.0.seats) }
     ensures begun { IfOk result (λ p. IsBegun p.1 p.0.store) }
     ensures awake { IfOk result (λ p. p.0.bus.doze ≡ None) }
 {
     let disk = formatted(alloc, shape)?;
     let payloads = booting(alloc, payload)?;
-    match Board::power_on(alloc, disk, BootMode::Fresh, &payloads) {
+    match BegunBoard::power_on(alloc, disk, BootMode::Fresh, &payloads) {
         Ok(board) => {
-            let shape = board.shape();
+            let shape = board.store.shape();
             Ok((board.into_parts(), shape))
         }
         Err(unpowered) => Err(unpowered.refusal),
@@ -235,6 +235,7 @@ fn driven_as<J: Threaded + Send + Sync, R: Threads + Wait + Clock + Abort + Sync
     shape: &Shape,
 ) -> (End, Vec<u8>)
     requires held { IsHeld shape.now parts.harts.items parts.tables (Some parts.seats) parts.bus.doze }
+    requires untouched { AreUntouched shape.now.harts parts.tables parts.seats }
     requires begun { IsBegun shape.now parts.store }
     requires named { (J.size ≡ shape.now) × (J.found ≡ found_state parts.store) × (J.issued ≡ [])
         × (J.memory ≡ parts.bus.ram) }

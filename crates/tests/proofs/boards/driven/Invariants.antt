@@ -1,7 +1,7 @@
 use Rattle.std.proofs.Common.{[], true}
 use Rattle.store.specs.Views.{disk_of, failures_at_open, found_state}
 use Rattle.tallies.specs.BookViews.{id_of, parts_of}
-use Rattle.hart_threads.specs.Begun.{board_of}
+use Rattle.machine.specs.Held.{board_of}
 use Rattle.tests.proofs.boards.driven.Given as goal
 
 -- the life that the board has just begun

@@ -1,6 +1,6 @@
 use Rattle.std.proofs.{Common.{◌≡◌, ◌∙◌, ◌++◌, ◌-◌, ℕ, List, [], ◌∷◌, ap, length, replicate, arith}, lemmas.Bool.Decides.nat_tests}
 use Rattle.board_model.specs.Shapes.{ram_bytes_of}
-use Rattle.machine.proofs.machine.put_payload.Goals as goal
+use Rattle.machine.proofs.begun.put_payload.Goals as goal
 
 -- zeros alone are what no payload leaves
 none_put : (payload ram : List ℕ) (n : ℕ) → length payload ≡ 0 → ram ≡ replicate n 0 → ram ≡ payload ++ replicate (n - length payload) 0

@@ -1,7 +1,7 @@
 use Rattle.std.proofs.Common.{refl}
 use Rattle.store.specs.Views.{found_state, now_state, view_of}
 use Rattle.board.proofs.{CallsMade.{off_calls, on_calls}, Doubted.leaves_life, Off.is_off, On.is_on, Opened.is_open}
-use Rattle.board.proofs.powered.Board.power_on.Goals as goal
+use Rattle.board.proofs.begun.BegunBoard.power_on.Goals as goal
 
 -- what the open made takes a boot
 pub ready-requires-after_bounds : goal.ready-requires-after_bounds

@@ -1,7 +1,7 @@
 use Rattle.std.proofs.Common.{sym, ◌∙◌}
 use Rattle.sbi_calls.specs.{Same.AreOfOneBoard, declared.tables.{Tables.Tables, Seats.Seats}}
-use Rattle.machine.proofs.{Opening.{AreMade, opening_held, is_resting}, machine.Machine.new.Goals.After-seat_determines_pairs}
-use Rattle.machine.proofs.machine.Machine.new.Goals as goal
+use Rattle.machine.proofs.{Opening.{AreMade, opening_held, is_resting, untouched}, begun.BegunMachine.new.Goals.After-seat_determines_pairs}
+use Rattle.machine.proofs.begun.BegunMachine.new.Goals as goal
 
 abbrev tables_made : (c : After-seat_determines_pairs) → AreOfOneBoard c.in_ok-starts.starts.0 c.in_ok-raises.raises.0 → Tables
 tables_made c same = record { harts = c.in_ok-starts.starts.0; pending = c.in_ok-raises.raises.0; same = same }
@@ -18,12 +18,19 @@ are_made c same = record {
   stood = c.in_ok-starts.ensures.stands;
   pairs = c.in_ok-raises.ensures.shows;
   sits = c.in_ok-raises.ensures.sits;
+  with_first = c.in_ok-starts.ensures.first;
+  no_start = c.in_ok-starts.ensures.opening;
+  no_raise = c.in_ok-raises.ensures.opening;
 }
 
-pub invariant_of-result-2 : goal.invariant_of-result-2
-invariant_of-result-2 c =
-    let at = (goal.at.invariant_of-result-2 c).After-seat_determines_pairs in
-    opening_held c.args.shape.now _ (seats_made at) c.args.first c.seat_determines_states.ensures.list c.seat_determines_pairs.ensures.list c.requires (are_made at _) c.in_ok-all.all.items c.in_ok-all.ensures.harts
+pub invariant_of-result : goal.invariant_of-result
+invariant_of-result c =
+    let at = (goal.at.invariant_of-result c).After-seat_determines_pairs in
+    let one = c.seat_determines_states.ensures.list in
+    let set = c.seat_determines_pairs.ensures.list in (
+      opening_held c.args.shape.now _ (seats_made at) c.args.first one set c.requires (are_made at _) c.in_ok-all.all.items c.in_ok-all.ensures.harts,
+      untouched c.args.shape.now _ (seats_made at) c.args.first one set c.requires (are_made at _),
+    )
 
 pub returns-clause-resting : goal.returns-clause-resting
 returns-clause-resting c =
