@@ -151,16 +151,16 @@ outcome_of (Some lefts.InputFailed) = Ok tt
 outcome_of (Some lefts.Unwritten) = Err Output
 
 -- ---- the harts of the session
--- the command that ended its loop, its own or another hart's, is that one
-abbrev pub IsOver : Option (ℕ × Entry) → HartEnd → Type 0
-IsOver last e = IfSome e.over (λ t. last ≡ Some t)
+-- the command that ended its loop, its own or another hart's, is the last of that journal
+abbrev pub IsOver : List Change → HartEnd → Type 0
+IsOver journal e = IfSome e.over (λ t. IsLastOf journal t.0 t.1)
 
 -- The ends of a session's harts are of that life: each hart was told the receipt that its end has of it, and no other; and the command that
 -- ended its loop, its own or another hart's, is the journal's last.
 abbrev pub AreOfLife : List (Option (ℕ × Entry)) → List Change → Option Left → List HartEnd → Type 0
 AreOfLife harts journal None ends = Unit {0}
 AreOfLife harts journal (Some left) ends =
-    (harts ≡ map own_receipt ends) × All (λ e. IfSome e.over (λ t. IsLastOf journal t.0 t.1)) ends
+    (harts ≡ map own_receipt ends) × All (IsOver journal) ends
 
 -- The board was on, over a disk that allows it, with the memory and harts that the mode begins. The disk given back is
 -- that of the life that it then began; and what was read and answered is of that life, with its receipts, and with the refusals and

@@ -155,6 +155,7 @@ pub(crate) fn run_board<
     requires turns { on.turns ≡ J.turns }
     requires lock { provisions.lock.id ≡ J.parting }
     requires halt { (provisions.halt ≡ J.halt) × (provisions.first ≡ watched J.halt true 0 None) }
+    requires over { (provisions.over ≡ J.over) × (provisions.ender ≡ watched J.over true 0 None) }
     requires ungated { J.gated ≡ false }
     requires taken { (are_taken J.found J.issued ≡ true) × (length J.issued ≤ 2) }
     requires book { (id_of provisions.book ≡ J.book) × (parts_of provisions.book ≡ J.parts)
@@ -185,12 +186,14 @@ pub(crate) fn run_board<
         runs,
         halt,
         first,
+        over,
+        ender,
         lock,
         room,
     } = provisions;
     let Hardware { shape, tables, bus } = hardware;
     let mut bus = SharedBus::<J>::new(bus, runs);
-    let (mut whole, boot, heard) = Unshared::<D, J>::new(store, book, doubts, &mut bus);
+    let (mut whole, boot, heard) = Unshared::<D, J>::new(store, book, doubts, &mut bus, ender);
     let part = whole.hand_out();
     let side = ConsoleSide {
         streams,
@@ -215,14 +218,14 @@ pub(crate) fn run_board<
         parts,
         turns: on.turns,
     };
-    let closing = Closing::new(lock, halt);
+    let closing = Closing::new(lock, halt, over);
     let reason = Mutex::new(closing.reason(first));
     let shared = SharedHardware { shape, tables, bus };
     let (whole, shared, driven) = drive_beside_console(
         rt, alloc, &reason, shared, whole, booted, side,
     );
     match driven {
-        Ok((loops, talked)) => after_console(rt, (whole, shared), loops, talked, boot, room),
+        Ok((loops, talked)) => after_console((whole, shared), loops, &closing, talked, boot, room),
         Err(back) => without_console(
             alloc,
             (whole, shared.bus),

@@ -9,10 +9,10 @@ use crate::waking::Waking;
 use crate::words::Said;
 use board_model::{ConsoleCommand, Entry};
 use disk::Disk;
-use hart_threads::{BookPart, Heard, Journal, SharedBus, SharedStore};
+use hart_threads::{BookPart, Heard, Journal, SharedBus, SharedStore, Threaded};
 
 /// Issues a command, which is answered by its word.
-fn issue<D: Disk + Drop, J: Journal>(
+fn issue<D: Disk + Drop, J: Threaded>(
     store: &mut SharedStore<D, J>,
     part: BookPart<J, Entry>,
     heard: &mut Heard<J>,
@@ -34,7 +34,7 @@ fn issue<D: Disk + Drop, J: Journal>(
 /// A command that was acknowledged is durable. Its receipt is its place in the journal of this life, where `Store::entry` has it
 /// from then on, and the console's part is told it. After a refusal what stands is what `Store::apply` says. The console hears of
 /// each refusal and of each state that it is shown. `wake` asks the bus (`rouse`), and the other lines ask nothing.
-pub fn obey<D: Disk + Drop, J: Journal>(
+pub fn obey<D: Disk + Drop, J: Threaded>(
     store: &mut SharedStore<D, J>,
     part: BookPart<J, Entry>,
     heard: &mut Heard<J>,

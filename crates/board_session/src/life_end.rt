@@ -8,11 +8,10 @@ ghost use Rattle.hart_threads.specs.Noted.{boot_told};
 ghost use Rattle.hart_threads.specs.Begun.{AreFromLast};
 ghost use Rattle.hart_threads.specs.Bused.{AreSaved, AreWakes};
 ghost use Rattle.hart_threads.specs.Views.{bus_parts, inside, moments_with, parts_with};
-ghost use Rattle.hart_threads.specs.Ends.{AreNumberedFrom, IsEnding, own_receipt};
+ghost use Rattle.hart_threads.specs.Ends.{AreNumberedFrom, own_receipt};
 ghost use Rattle.arrayvec.specs.ArrayVec.{array_vec_len};
 ghost use Rattle.hsm.specs.Seating.{all_harts};
 ghost use Rattle.ipi.specs.Seating.{all_pending_views};
-ghost use Rattle.sbi_calls.specs.Both.{known};
 ghost use Rattle.hart_threads.specs.declared.bus_turns.BusTurn.{BusTurn as TurnView};
 ghost use Rattle.tallies.specs.Logs.{Log};
 ghost use Rattle.board_session.specs.Backs.{AreBack};
@@ -23,55 +22,21 @@ use crate::seats_back::SeatsBack;
 use board_model::Entry;
 use disk::Disk;
 use hart_threads::{
-    BookPart, BusPart, HartEnd, HartLocal, HartParts, Heard, Moments, Parted, Rested, SharedBus,
-    Threaded, Unshared,
+    BookPart, BusPart, Closing, HartEnd, HartLocal, HartParts, Heard, Moments, Parted, Rested,
+    SharedBus, Threaded, Unshared,
 };
-use std::sync::Wait;
 use store::Store;
 
-/// Whether a loop that a command ended was ended by this one.
-fn is_over(last: &Option<(u32, Entry)>, end: &HartEnd) -> bool
-    ensures { result ≡ true → IsOver last.now end.now }
-{
-    match end.over {
-        Some(over) => *last == Some(over),
-        None => true,
-    }
-}
-
-/// How the hart ended of whose loop this is, in a life whose last command is that. That the command which ended the loop is the life's
-/// last no type says, so it is looked at here: another command would be waited for in vain, which no run comes to.
-fn end_of<'c, R: Wait, J: Threaded>(
-    rt: &R,
-    rested: &Rested<'c, J>,
-    parted: &Parted<'c, J>,
-    last: &Option<(u32, Entry)>,
-) -> HartEnd
-    ensures hart { result.hart ≡ rested.now.ended.hart }
-    ensures over { IsOver last.now result }
-    ensures told { own_receipt result ≡ rested.now.ended.told }
-    ensures well { IsEnding J.machine J.turns J.gated parted.now.token.value rested.now.ended.local.run
-        (known rested.now.ended.local.seats) result }
-{
-    let end = rested.end(parted);
-    if is_over(last, &end) {
-        return end;
-    }
-    for _ in rt.forever() {}
-    unreachable!()
-}
-
 /// How the harts of those loops ended, in the order of their numbers, from 0. In the list of loops the highest number comes first.
-/// `parted` holds what their console said of the harts when it left, and `last` the last command of their life. The parts of the
-/// loops come back to the store and to the bus, and their seats of the tables are given back.
-pub(crate) fn ends_of<'c, R: Wait, D: Disk + Drop, J: Threaded>(
-    rt: &R,
+/// `parted` holds what their console said of the harts when it left. The parts of the loops come back to the store and to the bus, and
+/// their seats of the tables are given back. A command that ended a loop is the last of the journal.
+pub(crate) fn ends_of<'c, D: Disk + Drop, J: Threaded>(
     whole: &mut Unshared<D, J>,
     bus: &mut SharedBus<J>,
     loops: Vec<Rested<'c, J>>,
+    closing: &Closing<J>,
     parted: &Parted<'c, J>,
     room: Vec<HartEnd>,
-    last: &Option<(u32, Entry)>,
 ) -> (Vec<HartEnd>, SeatsBack<J>)
     requires none { length (parts_with whole.old) ≡ 0 }
     requires empty { vec_len room ≡ 0 }
@@ -87,19 +52,13 @@ pub(crate) fn ends_of<'c, R: Wait, D: Disk + Drop, J: Threaded>(
     ensures seats { array_vec_len result.1.starts ≡ vec_len loops.entry }
     ensures well { All (EndsWith J.machine J.turns J.gated parted.now.token.value (bus_parts bus.new)
         (all_harts result.1.starts.items) (all_pending_views result.1.raises.items)) result.0.items }
-    ensures over { All (IsOver last.now) result.0.items }
+    ensures over { All (IsOver (journal_of (inside whole.new))) result.0.items }
 {
     let (mut loops, mut ends) = (loops, room);
     let mut back = SeatsBack::new();
     while let Some(rested) = loops.pop() {
-        ends.push_reserved(end_of(rt, &rested, parted, last));
-        let HartLocal {
-            seats,
-            doze: _,
-            part,
-            run,
-        } = rested.ended.local;
-        whole.gather(part);
+        let (end, seats, run) = rested.end(whole, closing, parted);
+        ends.push_reserved(end);
         bus.gather(run);
         back.push(seats);
     }
@@ -131,12 +90,13 @@ pub(crate) fn gather_loops<D: Disk + Drop, J: Threaded>(
 {
     let mut loops = loops;
     while let Some(rested) = loops.pop() {
+        let ended = rested.ended;
         let HartLocal {
             seats: _,
             doze: _,
             part,
             run: _,
-        } = rested.ended.local;
+        } = ended.local;
         whole.gather(part);
     }
 }

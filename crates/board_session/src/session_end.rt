@@ -20,10 +20,11 @@ use crate::sessions::{SessionEnd, Streams};
 use crate::talks::Left;
 use board_model::{Entry, Refusal};
 use disk::Disk;
-use hart_threads::{BookPart, HartEnd, HartParts, Moments, Rested, SharedBus, Threaded, Unshared};
+use hart_threads::{
+    BookPart, Closing, HartEnd, HartParts, Moments, Rested, SharedBus, Threaded, Unshared,
+};
 use std::alloc::Global;
 use std::io::{Read, Write};
-use std::sync::Wait;
 
 /// Whether the session was refused, by why its console left: `Output` where an answer could not be written.
 fn outcome(left: Left) -> Result<(), Refusal>
@@ -37,17 +38,10 @@ fn outcome(left: Left) -> Result<(), Refusal>
 
 /// What a session gives back whose console has left, once the loops of all harts have ended. `room` is for how they ended. The history of
 /// the bus ends with it, and so do the logs of the tables.
-pub(crate) fn after_console<
-    'c,
-    R: Wait,
-    D: Disk + Drop,
-    J: Threaded,
-    I: Read + Drop,
-    W: Write + Drop,
->(
-    rt: &R,
+pub(crate) fn after_console<'c, D: Disk + Drop, J: Threaded, I: Read + Drop, W: Write + Drop>(
     shared: (Unshared<D, J>, SharedHardware<J>),
     loops: Vec<Rested<'c, J>>,
+    closing: &Closing<J>,
     talked: Talked<'c, J, I, W>,
     boot: BookPart<J, Entry>,
     room: Vec<HartEnd>,
@@ -82,8 +76,7 @@ pub(crate) fn after_console<
         mut bus,
     } = hardware;
     let Talked { side, left, parted } = talked;
-    let last = whole.last();
-    let (harts, seats) = ends_of(rt, &mut whole, &mut bus, loops, &parted, room, &last);
+    let (harts, seats) = ends_of(&mut whole, &mut bus, loops, closing, &parted, room);
     seats.join(&tables);
     let ConsoleSide {
         streams,

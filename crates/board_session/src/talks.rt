@@ -15,7 +15,7 @@ use crate::words::{Said, line_said};
 use arrayvec::ArrayVec;
 use board_model::{Entry, Refusal};
 use disk::Disk;
-use hart_threads::{BookPart, Heard, Journal, Locks};
+use hart_threads::{BookPart, Heard, Locks, Threaded};
 use std::io::{BufWriter, Read, Write};
 use std::sync::Wait;
 
@@ -85,7 +85,7 @@ fn left_behind(ended: LineEnd) -> Option<Left>
 }
 
 /// Takes the next line of the input, with no lock held.
-fn take_line<I: Read, D: Disk + Drop, J: Journal>(
+fn take_line<I: Read, D: Disk + Drop, J: Threaded>(
     locks: &Locks<'_, D, J>,
     input: &mut I,
     line: &mut ArrayVec<u8, 257>,
@@ -99,7 +99,7 @@ fn take_line<I: Read, D: Disk + Drop, J: Journal>(
 
 /// Writes an answer as a line, of which nothing is held back, with no lock held. An `ok N` is written only where the console has the
 /// receipt of that command in its hand, which a shared store makes once the command is durable.
-fn write_answer<W: Write + Drop, D: Disk + Drop, J: Journal>(
+fn write_answer<W: Write + Drop, D: Disk + Drop, J: Threaded>(
     locks: &Locks<'_, D, J>,
     part: &BookPart<J, Entry>,
     out: &mut BufWriter<W>,
@@ -118,7 +118,7 @@ fn write_answer<W: Write + Drop, D: Disk + Drop, J: Journal>(
 
 /// Obeys a line: a command or `state` in one hold of the store alone, `wake` in one of the bus alone, and the others
 /// with no lock, so that `quit` waits for no suspension. Who holds the store must not wait for the bus.
-fn answer_to<R: Wait, D: Disk + Drop, J: Journal>(
+fn answer_to<R: Wait, D: Disk + Drop, J: Threaded>(
     rt: &R,
     locks: &mut Locks<'_, D, J>,
     part: BookPart<J, Entry>,
@@ -151,7 +151,7 @@ fn answer_to<R: Wait, D: Disk + Drop, J: Journal>(
 /// writes its answer with no lock held, of which nothing is held back. It leaves after `quit`, at the end of input, where the
 /// input fails, and where an answer could not be written. Its part of the journal's receipts is told those that it answers, and it has heard of
 /// each refusal and each state that it answers, and of each time that it woke the board.
-pub fn console<R: Wait, D: Disk + Drop, J: Journal, I: Read, W: Write + Drop>(
+pub fn console<R: Wait, D: Disk + Drop, J: Threaded, I: Read, W: Write + Drop>(
     rt: &R,
     locks: &mut Locks<'_, D, J>,
     part: BookPart<J, Entry>,

@@ -19,7 +19,7 @@ use Rattle.sbi.specs.Helds.{EndsReset, EndsSleep, MakesReset, MakesSleep, MakesH
 use Rattle.hart_threads.{specs.{Legal.IsNamed, Called.AddsBy}, proofs.Naming.{asked_named, slept_named}}
 
 -- that a suspension was answered with
-ends_with : (fell : Result Sleep SbiError) (e : SbiError) (s t : ArchState) (word : Word) → fell ≡ Err e → EndsSleep fell s t word → word ≡ Goes Next
+pub ends_with : (fell : Result Sleep SbiError) (e : SbiError) (s t : ArchState) (word : Word) → fell ≡ Err e → EndsSleep fell s t word → word ≡ Goes Next
 ends_with fell e s t word is ends = (subst (λ (x : Result Sleep SbiError). EndsSleep x s t word) is ends).1
 
 module _ {D L : Type 0} {g : Ghosts D L} {l : Lanes L} (found : DurableState) (size : Size) where

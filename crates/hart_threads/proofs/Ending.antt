@@ -44,7 +44,7 @@ said_so size answers hears turns made made' a b b' why why' told told' at many a
     (subst (λ (x : Seated). LoopOnce size answers hears turns made a x why told) (sym at) once)))
 
 -- ---- the turn that ended the life told a receipt, of a command that ends one
-asks_end : (size : Size) (call : Call) (by : ℕ) (end : LifeEnd) (entry : Entry) → AsksFor size call by end entry → is_end entry ≡ true
+pub asks_end : (size : Size) (call : Call) (by : ℕ) (end : LifeEnd) (entry : Entry) → AsksFor size call by end entry → is_end entry ≡ true
 asks_end size call by (ends.Reset type) entry (cause, asks, is) = subst (λ (e : Entry). is_end e ≡ true) (sym is) refl
 asks_end size call by ends.Asleep entry (site, opaque, asks, is) = subst (λ (e : Entry). is_end e ≡ true) (sym is) refl
 

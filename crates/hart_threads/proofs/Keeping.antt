@@ -4,20 +4,19 @@ use Rattle.std.proofs.{lemmas.{Bool.cases_lt, List.{append-nil, length-append, t
 use Rattle.std.{proofs.Math.Seq.{get_or-append_seam, take-length}, specs.Option.option_to_list}
 use Rattle.board_model.specs.{Durable.{DurableState, Change, after, fold, refusal_of, Reset, Suspend}, Shapes.Size, Views.number_of_refusal}
 use Rattle.board_model.specs.declared.refusal.Refusal.{Refusal, TheVariants.{BadShape, Device, Down, Over, JournalFull, Memory}}
-use Rattle.board_model.{proofs.Table.of_table, specs.declared.durable.Reason.Reason}
+use Rattle.board_model.{proofs.Table.of_table}
 use Rattle.disk.specs.{Facts.{Content, Facts, LeavesSince}, declared.{device.{Disk.Ghosts, Lane.{Ghosts as Lanes}}}}
 use Rattle.store.specs.{Answers.GoesTo, Asked.Asked, Leaves.{IsKept, Leaves, LeavesOnly, StandsForEither}, Standing.StandsFor}
-use Rattle.store.specs.{Lives.{Life, now_of, Applied, Refused, Suspended, SuspendRefused}, declared.stores.Store.Store, Follows.FitsBoard}
+use Rattle.store.specs.{Lives.{Life, now_of, Applied, Refused, Suspended, SuspendRefused}, declared.stores.Store.Store}
 use Rattle.store.specs.Views.{disk_of, doubt_of, journal_of, life_of, size_of_store}
 use Rattle.hart.specs.State.{ArchState}
-use Rattle.hsm.specs.Words.{HartView}
-use Rattle.sbi.specs.{Helds.{EndsReset, EndsSleep, MakesHeld, MakesReset}, declared.{resets.ResetType.ResetType, words.Word.Word}}
+use Rattle.sbi.specs.{Helds.{MakesHeld}, declared.{words.Word.Word}}
 use Rattle.sbi.specs.declared.words.Word.TheVariants.{Goes, Over as IsOver}
-use Rattle.sbi_abi.specs.declared.{call.Call.Call, ret.SbiError.SbiError}
-use Rattle.sbi_abi.specs.declared.call.Call.TheVariants as calls
-use Rattle.sbi_calls.specs.{Both.Known, declared.words.Did.Did}
-use Rattle.susp.specs.{Sleeps.{FallsAsleep, Settles, SleepsAt}, declared.{buses.Bus.Bus, sleeps.Sleep.{Sleep, TheVariants.{ToRam, ToDisk}}}}
-use Rattle.hart_threads.{specs.{Legal.IsNamed, Since.{AreKept, IsOfFirst, KeptSince, moments_after, sent}}, proofs.Naming.fold_more}
+use Rattle.sbi_abi.specs.declared.{call.Call.Call}
+use Rattle.sbi_calls.specs.{Both.Known}
+use Rattle.susp.specs.{declared.{buses.Bus.Bus}}
+use Rattle.hart_threads.specs.{Legal.IsNamed, Since.{AreKept, IsOfFirst, KeptSince, moments_after, sent}}
+use Rattle.hart_threads.proofs.{Answering.{Tells, held_told}, Naming.fold_more}
 
 -- ---- lives: what a command does to the journal, and to the one in doubt
 abbrev pub IsLeftBy : Change → Result ℕ Refusal → Life → Life → Type 0
@@ -262,45 +261,16 @@ module _ {D L : Type 0} {g : Ghosts D L} {l : Lanes L} (found : DurableState) (s
   slept_kept old new Fits c r (Some d) moments e is only_now asked was = down_kept old new r moments (asked.down d e) was
 
   -- ---- a durable call
-  module _ (old new : Store D L g l) (moments : List ℕ) (is : IsNamed found size old) (only_now : IsOnlyNow new) (was : Kept old moments) where
-    abbrev Told : Word → Type 0
-    Told word = Kept new (moments_by word (disk_of new).moment moments)
-
-    goes_on : (did : Did) (word : Word) → word ≡ Goes did → Kept new moments → Told word
-    goes_on did word on kept = subst Told (sym on) kept
-
-    unasked : (did : Did) (word : Word) → word ≡ Goes did → new ≡ old → Told word
-    unasked did word on same = goes_on did word on (same_kept old new moments same was)
-
-    reset_by : (kind : ResetType) (r : Result ℕ Refusal) (s t : ArchState) (word : Word) → EndsReset kind r s t word → Kept new (moments_after r (disk_of new).moment moments) → Told word
-    reset_by kind (Ok n) s t word ended kept = subst Told (sym ended.1) kept
-    reset_by kind (Err e) s t word ended kept = goes_on _ word ended.1 kept
-
-    reset_kept : (asked : Result (ResetType × Reason) SbiError) (s t : ArchState) (word : Word) → MakesReset asked s t old new word → Told word
-    reset_kept (Err e) s t word p = unasked _ word p.0.1 p.1
-    reset_kept (Ok reset) s t word p = reset_by reset.0 p.0 s t word p.2 (asked_kept old new (Reset reset.1) p.0 (doubt_of old) moments refl is only_now p.1 was)
-
-    by_end : (fell : Result Sleep SbiError) (e : SbiError) (s t : ArchState) (word : Word) → fell ≡ Err e → EndsSleep fell s t word → Kept new moments → Told word
-    by_end fell e s t word failed ended kept = goes_on _ word (subst (λ (x : Result Sleep SbiError). EndsSleep x s t word) failed ended).1 kept
-
-    disk_by : (r : Result ℕ Refusal) (by : ℕ) (mid vs : List HartView) (fell : Result Sleep SbiError) (s t : ArchState) (word : Word) → Settles by r mid fell vs → EndsSleep fell s t word
-        → Kept new (moments_after r (disk_of new).moment moments) → Told word
-    disk_by (Ok n) by mid vs fell s t word settles ended kept = subst Told (sym (subst (λ (x : Result Sleep SbiError). EndsSleep x s t word) settles.0 ended).1) kept
-    disk_by (Err e) by mid vs fell s t word settles ended kept = by_end fell _ s t word settles.0 ended kept
-
-    fallen_kept : (sleep : Sleep) (by site opaque : ℕ) (vs vs' : List HartView) (bus bus' : Bus) (fell : Result Sleep SbiError) (s t : ArchState) (word : Word) → FallsAsleep sleep by site opaque vs bus old fell vs' bus' new → EndsSleep fell s t word → Told word
-    fallen_kept ToRam by site opaque vs vs' bus bus' fell s t word p ended = unasked _ word (subst (λ (x : Result Sleep SbiError). EndsSleep x s t word) p.0.0 ended).1 p.0.2
-    fallen_kept ToDisk by site opaque vs vs' bus bus' fell s t word p ended =
-        disk_by p.0 by vs vs' fell s t word p.2 ended (slept_kept old new (FitsBoard (size_of_store old) bus.ram by site) (Suspend by site opaque bus.ram) p.0 (doubt_of old) moments refl is only_now p.1 was)
-
-    slept_by : (harts by : ℕ) (asked : Result (Sleep × ℕ) SbiError) (opaque : ℕ) (vs vs' : List HartView) (bus bus' : Bus) (fell : Result Sleep SbiError) (s t : ArchState) (word : Word) → SleepsAt harts by asked opaque vs bus old fell vs' bus' new → EndsSleep fell s t word → Told word
-    slept_by harts by (Err e) opaque vs vs' bus bus' fell s t word p ended = by_end fell e s t word p.0 ended (same_kept old new moments p.3 was)
-    slept_by harts by (Ok asked) opaque vs vs' bus bus' fell s t word p ended = elim (p.3) [
-      | inl denied ↦ by_end fell _ s t word denied.1 ended (same_kept old new moments denied.4 was)
-      | inr fallen ↦ fallen_kept asked.0 by asked.1 opaque p.1 vs' bus bus' fell s t word fallen.1 ended
-    ]
-
-    pub held_kept : (harts : ℕ) (call : Call) (s t : ArchState) (k k' : Known) (bus bus' : Bus) (word : Word) → MakesHeld harts call s t k k' bus bus' old new word → Told word
-    held_kept harts (calls.SystemReset kind cause) s t k k' bus bus' word p = reset_kept _ s t word p.0
-    held_kept harts (calls.SystemSuspend kind address opaque) s t k k' bus bus' word p = slept_by harts s.id p.1.asked opaque k.harts k'.harts bus bus' p.0 s t word p.1.slept p.3
-    held_kept harts call s t k k' bus bus' word p = unasked _ word p.0.1 p.1
+  pub held_kept : (old new : Store D L g l) (moments : List ℕ) → IsNamed found size old → IsOnlyNow new → Kept old moments → (harts : ℕ) (call : Call) (s t : ArchState) (k k' : Known) (bus bus' : Bus) (word : Word)
+      → MakesHeld harts call s t k k' bus bus' old new word → Kept new (moments_by word (disk_of new).moment moments)
+  held_kept old new moments is only_now was harts call s t k k' bus bus' word made =
+      let After : Change → Result ℕ Refusal → Type 0 = λ c r. Kept new (moments_after r (disk_of new).moment moments) in
+      let Told : Word → Type 0 = λ w. Kept new (moments_by w (disk_of new).moment moments) in
+      let so : Tells old new After Told = record {
+        same = λ did same. same_kept old new moments same was;
+        reset = λ cause r asked. asked_kept old new (Reset cause) r (doubt_of old) moments refl is only_now asked was;
+        slept = λ by site opaque memory r asked. slept_kept old new _ (Suspend by site opaque memory) r (doubt_of old) moments refl is only_now asked was;
+        over = λ c n end ends after. after;
+        goes = λ c e did after. after;
+      } in
+      held_told old new After Told so harts call s t k k' bus bus' word made

@@ -65,7 +65,7 @@ module _ (size : Size) (call : Call) (by : ℕ) (end : LifeEnd) (old new : List 
   begins_longer issued was = begins_on issued old new (change_in g.entry g.memory) was g.grown
 
   -- the last command is the one that was asked for
-  last_is : (n : ℕ) (entry : Entry) → IsLastOf new n entry → entry ≡ g.entry
+  pub last_is : (n : ℕ) (entry : Entry) → IsLastOf new n entry → entry ≡ g.entry
   last_is n entry last =
       let c = change_in g.entry g.memory in
       let d = change_in entry last.2.0 in

@@ -12,7 +12,7 @@ pub fold_more : (s : DurableState) (cs : List Change) (c : Change) → fold s (c
 fold_more s [] c = refl
 fold_more s (d ∷ cs) c = fold_more (after s d) cs c
 
-and_true : (a b : Bool) → a && b ≡ true → (a ≡ true) × (b ≡ true)
+pub and_true : (a b : Bool) → a && b ≡ true → (a ≡ true) × (b ≡ true)
 and_true true b e = (refl, e)
 and_true false b e = let n : ⊥ = cc in absurd n
 
@@ -38,13 +38,14 @@ applied_keeps found old new c n is told = subst (λ (x : Life). IsLifeOf found x
 pub record Stays (old new : Life) : Type 0 where
   pub found : new.found ≡ old.found
   pub journal : new.journal ≡ old.journal
+  pub over : new.over ≡ old.over
 
 same_stays : (old new : Life) → new ≡ old → Stays old new
-same_stays old new e = record { found = ap (λ (x : Life). x.found) e; journal = ap (λ (x : Life). x.journal) e }
+same_stays old new e = record { found = ap (λ (x : Life). x.found) e; journal = ap (λ (x : Life). x.journal) e; over = ap (λ (x : Life). x.over) e }
 
 pub refused_stays : (old new : Life) (c : Change) (e : Refusal) → Refused old c e new → Stays old new
 refused_stays old new c e (inl p) = same_stays old new p.2
-refused_stays old new c e (inr (inl p)) = record { found = ap (λ (x : Life). x.found) p.2; journal = ap (λ (x : Life). x.journal) p.2 }
+refused_stays old new c e (inr (inl p)) = record { found = ap (λ (x : Life). x.found) p.2; journal = ap (λ (x : Life). x.journal) p.2; over = ap (λ (x : Life). x.over) p.2 }
 refused_stays old new c e (inr (inr (inl p))) = same_stays old new p.2
 refused_stays old new c e (inr (inr (inr (inl p)))) = same_stays old new p.3
 refused_stays old new c e (inr (inr (inr (inr p)))) = same_stays old new p.3

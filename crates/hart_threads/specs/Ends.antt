@@ -31,6 +31,13 @@ EndsBy turns gated parting made over whys.Closed = IsClosedBy parting over
 EndsBy turns gated parting made over whys.Gate = (gated ≡ true) × (over ≡ None)
 EndsBy turns gated parting made over whys.Turns = (made ≡ turns) × (over ≡ None)
 
+-- the command that ended its life, where it ended the loop: its own, of which it has the receipt, or the one that closed it
+abbrev pub over_of : Why → Option (ℕ × Entry) → Option (ℕ × Entry) → Option (ℕ × Entry)
+over_of whys.Life told closed = told
+over_of whys.Closed told closed = closed
+over_of whys.Gate told closed = None
+over_of whys.Turns told closed = None
+
 -- the receipt that its hart was told: that of the command with which it ended the life itself
 abbrev pub receipt_by : Why → Option (ℕ × Entry) → Option (ℕ × Entry)
 receipt_by whys.Life over = over

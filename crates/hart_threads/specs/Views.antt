@@ -11,24 +11,25 @@ use Rattle.susp.specs.declared.buses.Bus.{Bus}
 use Rattle.hart_threads.specs.declared.bus_turns.BusTurn.{BusTurn}
 use Rattle.hart_threads.specs.declared.buses.SharedBus.{SharedBus}
 use Rattle.hart_threads.specs.declared.shared_store.SharedStore.{SharedStore}
+use Rattle.hart_threads.specs.declared.threaded.Threaded.{Ghosts as Living}
 use Rattle.hart_threads.specs.declared.unshared.Unshared.{Unshared}
 
-module _ {D J L : Type 0} {g : Ghosts D L} {j : Named J} {l : Lanes L} where
-  abbrev pub store_in : SharedStore D J L g l j → Store D L g l
+module _ {D J L : Type 0} {g : Ghosts D L} {j : Named J} {t : Living J} {l : Lanes L} where
+  abbrev pub store_in : SharedStore D J L g l t j → Store D L g l
   store_in kept = kept.store
 
-  abbrev pub inside : Unshared D J L g l j → Store D L g l
+  abbrev pub inside : Unshared D J L g l t j → Store D L g l
   inside whole = whole.store
 
   -- the parts that were not handed out, or are back
-  abbrev pub parts_with : Unshared D J L g l j → List (PartView Entry)
+  abbrev pub parts_with : Unshared D J L g l t j → List (PartView Entry)
   parts_with whole = whole.keeper.parts
 
   -- when its receipts were made
-  abbrev pub moments_in : SharedStore D J L g l j → List ℕ
+  abbrev pub moments_in : SharedStore D J L g l t j → List ℕ
   moments_in kept = kept.moments.at
 
-  abbrev pub moments_with : Unshared D J L g l j → List ℕ
+  abbrev pub moments_with : Unshared D J L g l t j → List ℕ
   moments_with whole = whole.moments.at
 
 module _ {J : Type 0} {j : Named J} where

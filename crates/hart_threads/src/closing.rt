@@ -1,22 +1,17 @@
 //! What ends the loops of all harts before they made their turns.
 
 ghost use Rattle.std.specs.Prelude.{◌≡◌, ◌<◌, ◌+◌, ◌-◌, ◌^◌, ℕ, true, None, Some, IsTrue, MatchResult, is_none, is_some};
-ghost use Rattle.board_model.specs.declared.durable.Entry.{Entry};
 ghost use Rattle.hart_threads.specs.Locks.{no_locks};
-ghost use Rattle.hart_threads.specs.Threads.{is_end};
 ghost use Rattle.hart_threads.specs.declared.closing.AfterConsole.TheVariants as afters;
-ghost use Rattle.hart_threads.specs.declared.loops.Why.TheVariants.{Life};
 ghost use Rattle.tallies.specs.Halts.{watched};
 
 use crate::locks::Locks;
-use crate::loops::Ended;
-use crate::receipts::CommandReceipt;
+use crate::over::{LastReceipt, LifeOver, OverWord};
 use crate::threaded::Threaded;
-use board_model::Entry;
 use disk::Disk;
 use std::marker::{Model, PhantomData};
 use std::sync::{Mutex, OnceLock, OnceToken, Wait};
-use tallies::{Halt, Journal, Watch};
+use tallies::{Halt, Watch};
 
 /// What the harts do once the console has left.
 #[derive(Clone, Copy, Drop)]
@@ -25,66 +20,6 @@ pub enum AfterConsole {
     RunOut,
     /// No further turn begins.
     Halt,
-}
-
-/// The receipt of the command with which a hart ended the life. Only one that was told makes it.
-#[derive(Drop)]
-pub struct LastReceipt<J: Journal> {
-    number: u32,
-    entry: Entry,
-    of: PhantomData<J>,
-}
-
-impl<J: Journal> Model for LastReceipt<J> {
-    ghost Value = { ℕ × Entry };
-
-    ghost view = { λ l. (l.number, l.entry) };
-
-    ghost invariant = { λ l. is_end l.entry ≡ true };
-}
-
-impl<J: Journal> LastReceipt<J> {
-    fn of(told: &CommandReceipt<J>) -> LastReceipt<J>
-        requires { is_end told.now.1 ≡ true }
-        ensures { result ≡ told.now }
-    {
-        LastReceipt {
-            number: told.number(),
-            entry: told.entry(),
-            of: PhantomData,
-        }
-    }
-
-    fn again(&self) -> LastReceipt<J>
-        ensures { result ≡ self.now }
-    {
-        LastReceipt {
-            number: self.number,
-            entry: self.entry,
-            of: PhantomData,
-        }
-    }
-
-    /// It ends the life.
-    pub fn stands(&self)
-        ensures { is_end self.now.1 ≡ true }
-    {
-        let _ = &self.number;
-    }
-
-    /// The place of the command in the journal, from 1.
-    pub fn number(&self) -> u32
-        ensures { result ≡ self.now.0 }
-    {
-        self.number
-    }
-
-    /// The command.
-    pub fn entry(&self) -> Entry
-        ensures { result ≡ self.now.1 }
-    {
-        self.entry
-    }
 }
 
 /// The console has halted the harts.
@@ -139,17 +74,18 @@ pub struct Parted<'a, J: Threaded> {
 #[derive(Drop)]
 pub enum Shut<'a, J: Threaded> {
     /// A hart ended the life.
-    Life(LastReceipt<J>),
+    Life(LifeOver<J>),
     /// The console has left, and halted the harts.
     Console(Halted<'a, J>),
 }
 
 impl<'a, J: Threaded> Shut<'a, J> {
-    fn again(&self) -> Shut<'a, J>
-        ensures { result ≡ self.now }
+    fn again(&mut self, closing: &Closing<J>) -> Shut<'a, J>
+        ensures same { self.new ≡ self.old }
+        ensures again { result ≡ self.old }
     {
         match self {
-            Shut::Life(last) => Shut::Life(last.again()),
+            Shut::Life(over) => Shut::Life(closing.over.again(over)),
             Shut::Console(halted) => Shut::Console(halted.again()),
         }
     }
@@ -180,8 +116,8 @@ impl<'c, J: Threaded> HaltReason<'c, J> {
         ensures same { watch.new ≡ watch.old }
         ensures why { self.old.why ≡ Some result }
     {
-        match &self.why {
-            Some(why) => why.again(),
+        match &mut self.why {
+            Some(why) => why.again(self.closing),
             None => {
                 self.closing.halt.compare(&mut self.watch, watch);
                 unreachable!()
@@ -256,25 +192,29 @@ impl<'l, D: Disk + Drop, J: Threaded> Unhalted<'l, D, J> {
 }
 
 /// What ends the loops of all harts: the halt, and the lock in which the console says once what the harts do when it has left. What the
-/// loops look at is the halt. Why it was set lies behind a lock of its own (`HaltReason`).
+/// loops look at is the halt. Why it was set lies behind a lock of its own (`HaltReason`). Beside them is the word by which the store
+/// says that the life is over.
 #[derive(Drop)]
 pub struct Closing<J: Threaded> {
     console: OnceLock<AfterConsole>,
     halt: Halt,
+    pub(crate) over: OverWord<J>,
     of: PhantomData<J>,
     pub ghost named: { console.id ≡ J.parting },
     pub ghost halts: { halt ≡ J.halt },
 }
 
 impl<J: Threaded> Closing<J> {
-    /// Nothing was said yet. The lock is the console's, and nothing was written into it; the halt is not set.
-    pub fn new(console: OnceLock<AfterConsole>, halt: Halt) -> Closing<J>
+    /// Nothing was said yet. The lock is the console's, and nothing was written into it; neither word is set.
+    pub fn new(console: OnceLock<AfterConsole>, halt: Halt, over: Halt) -> Closing<J>
         requires console { console.id ≡ J.parting }
         requires halt { halt ≡ J.halt }
+        requires over { over ≡ J.over }
     {
         Closing {
             console,
             halt,
+            over: OverWord::new(over),
             of: PhantomData,
         }
     }
@@ -310,19 +250,20 @@ impl<J: Threaded> Closing<J> {
         Ok(Unhalted { locks })
     }
 
-    /// A loop ended so: where it ended the life the halt is set, and no further turn of any hart begins.
+    /// A loop ended with that receipt: where it ended the life the halt is set, and no further turn of any hart begins.
     pub(crate) fn end_by<'c, R: Wait>(
         &self,
         rt: &R,
         reason: &Mutex<HaltReason<'c, J>>,
-        ended: &Ended<'c, J>,
+        told: &mut Option<LastReceipt<J>>,
     ) -> Option<HaltSet<J>>
-        ensures { ended.now.why ≡ Life → IsTrue (is_some result) }
+        ensures same { told.new ≡ told.old }
+        ensures set { IsTrue (is_some told.old) → IsTrue (is_some result) }
     {
-        match &ended.told {
+        match told {
             Some(told) => {
-                let last = LastReceipt::of(told);
-                Some(reason.lock(rt).set(Shut::Life(last)))
+                let over = told.over(&self.over);
+                Some(reason.lock(rt).set(Shut::Life(over)))
             }
             None => None,
         }

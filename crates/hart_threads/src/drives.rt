@@ -234,8 +234,8 @@ fn loop_of<
         run: parts.run,
     };
     let locks = Locks::new(board.bus, board.store);
-    let ended = hart_loop(rt, gate, board.of_loop(), locks, hart, local, turns);
-    let set = board.closing.end_by(rt, board.reason, &ended);
+    let mut ended = hart_loop(rt, gate, board.of_loop(), locks, hart, local, turns);
+    let set = board.closing.end_by(rt, board.reason, &mut ended.told);
     at_rest(ended, set, board.tables)
 }
 

@@ -1,19 +1,25 @@
 //! Where a hart stood once its loop had ended.
 
-ghost use Rattle.std.specs.Prelude.{◌≡◌, ◌<◌, IsTrue, is_some};
+ghost use Rattle.std.specs.Prelude.{◌≡◌, ◌∷◌, ◌<◌, IfSome, IsTrue, is_some};
 ghost use Rattle.hsm.specs.Calls.{StandsBy};
 ghost use Rattle.sbi_calls.specs.Both.{AreSeatsOfBoth, Known, harts_of_both, known, views};
-ghost use Rattle.hart_threads.specs.Ends.{EndsBy, HasGone, IsClosedBy, IsEnding, IsStateOf, own_receipt, receipt_by};
+ghost use Rattle.store.specs.Views.{journal_of};
+ghost use Rattle.hart_threads.specs.Called.{IsLastOf};
+ghost use Rattle.hart_threads.specs.Ends.{HasGone, IsClosedBy, IsEnding, IsStateOf, over_of, own_receipt};
 ghost use Rattle.hart_threads.specs.Seated.{AreNamed, AreOfHart, AreSeatsIn, StandsAfter};
 ghost use Rattle.hart_threads.specs.Threads.{seated};
+ghost use Rattle.hart_threads.specs.Views.{inside, moments_with, parts_with};
 ghost use Rattle.hart_threads.specs.declared.loops.Why.TheVariants.{Life};
 
-use crate::closing::{HaltSet, Parted, Shut, agree};
+use crate::bus_turns::BusPart;
+use crate::closing::{Closing, HaltSet, Parted, Shut, agree};
 use crate::loops::{Ended, Why};
-use crate::receipts::CommandReceipt;
+use crate::over::LastReceipt;
 use crate::shared::HartLocal;
 use crate::threaded::Threaded;
+use crate::unshared::Unshared;
 use board_model::Entry;
+use disk::Disk;
 use hart::Hart;
 use hsm::State;
 use sbi_calls::{Seats, Tables};
@@ -109,7 +115,7 @@ pub(crate) fn at_rest<'a, J: Threaded>(
 }
 
 /// The place of a command, and the command, of a receipt.
-fn told_of<J: Threaded>(told: &Option<CommandReceipt<J>>) -> Option<(u32, Entry)>
+fn told_of<J: Threaded>(told: &Option<LastReceipt<J>>) -> Option<(u32, Entry)>
     ensures { result ≡ told.now }
 {
     match told {
@@ -118,57 +124,97 @@ fn told_of<J: Threaded>(told: &Option<CommandReceipt<J>>) -> Option<(u32, Entry)
     }
 }
 
-/// The command of another hart that ended all loops; none where the console halted the harts. It agrees with what the console said when
-/// it left.
-fn closed_by<'a, J: Threaded>(
-    shut: &Option<Shut<'a, J>>,
+/// The command of another hart that ended all loops, which is the last of the journal; none where the console halted the harts. It agrees
+/// with what the console said when it left.
+fn closed_by<'a, D: Disk + Drop, J: Threaded>(
+    whole: &mut Unshared<D, J>,
+    closing: &Closing<J>,
+    shut: Option<Shut<'a, J>>,
     parted: &Parted<'a, J>,
 ) -> Option<(u32, Entry)>
-    ensures { IsTrue (is_some shut.now) → IsClosedBy parted.now.token.value result }
+    ensures store { inside whole.new ≡ inside whole.old }
+    ensures moments { moments_with whole.new ≡ moments_with whole.old }
+    ensures parts { parts_with whole.new ≡ parts_with whole.old }
+    ensures closed { IsTrue (is_some shut.entry) → IsClosedBy parted.now.token.value result }
+    ensures last { IfSome result (λ t. IsLastOf (journal_of (inside whole.new)) t.0 t.1) }
 {
     match shut {
-        Some(Shut::Life(last)) => {
-            last.stands();
-            Some((last.number(), last.entry()))
-        }
+        Some(Shut::Life(over)) => Some(whole.ended_by(closing, over)),
         Some(Shut::Console(halted)) => {
-            agree(halted, parted);
+            agree(&halted, parted);
             None
         }
         None => None,
     }
 }
 
-/// The command that ended the life, where it ended this loop.
-fn over_by<'a, J: Threaded>(ended: &Ended<'a, J>, parted: &Parted<'a, J>) -> Option<(u32, Entry)>
-    ensures { EndsBy J.turns J.gated parted.now.token.value ended.now.made result ended.now.why
-        × (receipt_by ended.now.why result ≡ ended.now.told) }
+/// The command that ended the life, where it ended the loop: its hart's own, or another hart's.
+fn over_by<J: Threaded>(
+    why: Why,
+    told: &Option<LastReceipt<J>>,
+    closed: Option<(u32, Entry)>,
+) -> Option<(u32, Entry)>
+    ensures { result ≡ over_of why told.now closed }
 {
-    match ended.why {
-        Why::Life => told_of(&ended.told),
-        Why::Closed => closed_by(&ended.shut, parted),
+    match why {
+        Why::Life => told_of(told),
+        Why::Closed => closed,
         Why::Gate => None,
         Why::Turns => None,
     }
 }
 
 impl<'a, J: Threaded> Rested<'a, J> {
-    /// How the hart ended. `parted` holds what its console said of the harts when it left.
-    pub fn end(&self, parted: &Parted<'a, J>) -> HartEnd
-        ensures hart { result.hart ≡ self.now.ended.hart }
-        ensures told { own_receipt result ≡ self.now.ended.told }
-        ensures well { IsEnding J.machine J.turns J.gated parted.now.token.value self.now.ended.local.run
-            (known self.now.ended.local.seats) result }
+    /// How the hart ended, with its seats and its part of the history of the bus; its part of the receipts comes back to the store.
+    /// `parted` holds what its console said of the harts when it left. Where a command ended its loop, its own or another hart's, it is the
+    /// last of the store's journal.
+    pub fn end<D: Disk + Drop>(
+        self,
+        whole: &mut Unshared<D, J>,
+        closing: &Closing<J>,
+        parted: &Parted<'a, J>,
+    ) -> (HartEnd, Seats, BusPart<J>)
+        ensures store { inside whole.new ≡ inside whole.old }
+        ensures moments { moments_with whole.new ≡ moments_with whole.old }
+        ensures parts { parts_with whole.new ≡ self.entry.ended.local.part ∷ parts_with whole.old }
+        ensures hart { result.0.hart ≡ self.entry.ended.hart }
+        ensures told { own_receipt result.0 ≡ self.entry.ended.told }
+        ensures theirs { AreSeatsIn J.starts J.raises result.1 }
+        ensures alone { AreOfHart result.0.hart.id result.1 }
+        ensures well { IsEnding J.machine J.turns J.gated parted.now.token.value result.2 (known result.1) result.0 }
+        ensures last { IfSome result.0.over (λ t. IsLastOf (journal_of (inside whole.new)) t.0 t.1) }
     {
-        let ended = &self.ended;
-        let over = over_by(ended, parted);
-        HartEnd {
-            hart: ended.hart.copy(),
-            state: self.state,
-            doze: ended.local.doze,
-            made: ended.made,
-            why: ended.why,
+        let Rested {
+            ended,
+            state,
+            set: _,
+        } = self;
+        let Ended {
+            hart,
+            local,
+            asked: _,
+            made,
+            why,
+            shut,
+            told,
+        } = ended;
+        let HartLocal {
+            seats,
+            doze,
+            part,
+            run,
+        } = local;
+        whole.gather_told(part);
+        let closed = closed_by(whole, closing, shut, parted);
+        let over = over_by(why, &told, closed);
+        let end = HartEnd {
+            hart,
+            state,
+            doze,
+            made,
+            why,
             over,
-        }
+        };
+        (end, seats, run)
     }
 }

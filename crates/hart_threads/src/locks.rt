@@ -8,6 +8,7 @@ ghost use Rattle.hart_threads.specs.Locks.{Held, no_locks, with_bus, with_store}
 use crate::bus_turns::BusPart;
 use crate::buses::SharedBus;
 use crate::shared_store::SharedStore;
+use crate::threaded::Threaded;
 use disk::Disk;
 use hart::{Hart, Outcome};
 use std::marker::{Brand, Model};
@@ -18,20 +19,20 @@ use tallies::Journal;
 /// where its work begins, and reaches neither lock otherwise. The bus is taken only by a holder of none, and the store at
 /// most once: so no thread that holds the store waits for the bus, and none for a lock that it has itself.
 #[derive(Drop)]
-pub struct Locks<'a, D: Disk + Drop, J: Journal> {
+pub struct Locks<'a, D: Disk + Drop, J: Threaded> {
     bus: &'a Mutex<SharedBus<J>>,
     store: &'a Mutex<SharedStore<D, J>>,
     has_bus: bool,
     has_store: bool,
 }
 
-impl<'a, D: Disk + Drop, J: Journal> Model for Locks<'a, D, J> {
+impl<'a, D: Disk + Drop, J: Threaded> Model for Locks<'a, D, J> {
     ghost Value = { Held };
 
     ghost view = { λ l. record { bus = l.has_bus; store = l.has_store } };
 }
 
-impl<'a, D: Disk + Drop, J: Journal> Locks<'a, D, J> {
+impl<'a, D: Disk + Drop, J: Threaded> Locks<'a, D, J> {
     /// For a thread that holds neither.
     pub fn new(bus: &'a Mutex<SharedBus<J>>, store: &'a Mutex<SharedStore<D, J>>) -> Locks<'a, D, J>
         ensures { result ≡ no_locks }
@@ -121,11 +122,11 @@ impl<'a, J: Journal> BusLock<'a, J> {
 
 /// What is left of a thread's locks meanwhile: nothing is taken with it.
 #[derive(Drop)]
-pub struct Apart<'a, D: Disk + Drop, J: Journal> {
+pub struct Apart<'a, D: Disk + Drop, J: Threaded> {
     store: &'a Mutex<SharedStore<D, J>>,
 }
 
-impl<'a, D: Disk + Drop, J: Journal> Apart<'a, D, J> {
+impl<'a, D: Disk + Drop, J: Threaded> Apart<'a, D, J> {
     /// The lock of the bus is back.
     #[inline(always)]
     pub fn whole(self, bus: BusLock<'a, J>) -> Locks<'a, D, J>

@@ -12,7 +12,7 @@ ghost use Rattle.hart_threads.specs.Threads.{seated, ends_life, has_ended, LoopO
 use crate::closing::{HaltPolls, Shut};
 use crate::gates::Gate;
 use crate::locks::Locks;
-use crate::receipts::CommandReceipt;
+use crate::over::LastReceipt;
 use crate::shared::{HartLocal, LoopBoard};
 use crate::threaded::Threaded;
 use crate::turn::{ask, tell, whole_turn};
@@ -50,7 +50,7 @@ pub struct Ended<'a, J: Threaded> {
     /// What ended it, where that was another hart or the console.
     pub shut: Option<Shut<'a, J>>,
     /// The receipt of the command that ended the life, where this loop ended with it.
-    pub told: Option<CommandReceipt<J>>,
+    pub told: Option<LastReceipt<J>>,
     pub ghost noted: { local.part.told ≡ option_to_list told },
     pub ghost ends: { ends_life told ≡ true },
     pub ghost ended: { has_ended J.turns J.gated made (is_some shut) told why ≡ true },
@@ -72,7 +72,7 @@ impl<J: Threaded> HartRun<J> {
         made: u64,
         why: Why,
         shut: Option<Shut<'a, J>>,
-        told: Option<CommandReceipt<J>>,
+        told: Option<LastReceipt<J>>,
     ) -> Ended<'a, J>
         requires noted { self.local.part.told ≡ option_to_list told }
         requires ends { ends_life told ≡ true }

@@ -82,15 +82,7 @@ impl<J: Threaded> HartLocal<J> {
             part,
             run,
         } = self;
-        let (seats, word, told, part, run) = store.call(
-            board.saving,
-            hart,
-            seats,
-            board.tables,
-            bus,
-            part,
-            run,
-        );
+        let (seats, word, told, part, run) = store.call(board, hart, seats, bus, part, run);
         let found = bus.doze();
         let doze = doze_by(word, found);
         let local = HartLocal {

@@ -5,7 +5,7 @@ ghost use Rattle.std.specs.Prelude.{◌≡◌};
 use crate::bus_turns::BusPart;
 use crate::buses::SharedBus;
 use crate::closing::{Closing, HaltReason};
-use crate::receipts::CommandReceipt;
+use crate::over::LastReceipt;
 use crate::shared_store::SharedStore;
 use crate::threaded::Threaded;
 use board_model::{Entry, Shape};
@@ -93,10 +93,10 @@ pub struct HartParts<J: Journal> {
 
 /// What a turn of a hart came to.
 #[derive(Drop)]
-pub(crate) struct TurnEnd<J: Journal> {
+pub(crate) struct TurnEnd<J: Threaded> {
     /// What the hart then has beside its registers.
     pub(crate) local: HartLocal<J>,
     pub(crate) word: Word,
     /// The receipt of the command with which the turn ended the life.
-    pub(crate) told: Option<CommandReceipt<J>>,
+    pub(crate) told: Option<LastReceipt<J>>,
 }

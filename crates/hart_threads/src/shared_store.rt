@@ -19,6 +19,7 @@ ghost use Rattle.hart_threads.specs.Heard.{after_look, heard_by};
 ghost use Rattle.hart_threads.specs.Bused.{AreSaved, IsCalled, Takes, call_turn, held_call, part_in, part_of_hart};
 ghost use Rattle.hart_threads.specs.Called.{IsToldBy, IsLastOf};
 ghost use Rattle.hart_threads.specs.Legal.{BeginsWith, IsNamed, MayAnswer, MayShow, number_told};
+ghost use Rattle.hart_threads.specs.Over.{IsMarked};
 ghost use Rattle.hart_threads.specs.Since.{AreKept, moments_after, moments_told};
 
 use crate::bus_turns::{BusPart, CallParts, held_part};
@@ -26,29 +27,33 @@ use crate::buses::SharedBus;
 use crate::doubts::{Doubts, is_up, newly_down};
 use crate::heard::Heard;
 use crate::moments::Moments;
+use crate::over::LastReceipt;
 use crate::receipts::CommandReceipt;
+use crate::shared::LoopBoard;
+use crate::threaded::Threaded;
 use crate::unshared::Unshared;
 use board_model::{Command, Durable, Entry, Refusal, Shape};
 use crew::Crew;
 use disk::Disk;
 use hart::Hart;
 use sbi::Word;
-use sbi_calls::{Seats, Tables};
+use sbi_calls::Seats;
 use std::marker::Brand;
-use store::{Saving, Store};
-use tallies::{Book, BookPart, Journal, Keeper};
+use store::Store;
+use tallies::{Book, BookPart, Keeper, Watch};
 
 /// A store whose journal is J's: its open found what J says, its board has that size, its journal begins with
 /// what the boot issued, and its state now is what the journal makes of what was found. The table of commands
 /// (docs/DURABLE.md) refuses none of them, one after another. Each reset and each suspension of it, also one in doubt, was asked for by a
 /// call of a hart, for which the store looked; a suspension carries the memory that it then found on the bus. At each moment since its
 /// boot was over, within a command and within a call of its disk too, a crash has left what some first commands of the journal make, all
-/// of those among them of which a receipt had been made by then, or these and the one in doubt.
+/// of those among them of which a receipt had been made by then, or these and the one in doubt. Until a command ends the life none of the
+/// journal does; then it is the last one, and the word says that the life is over.
 ///
 /// A type keeps that, and a lock keeps its value's type: so it holds of every store that a lock of this type
 /// gives, whatever other threads did.
 #[derive(Drop)]
-pub struct SharedStore<D: Disk + Drop, J: Journal> {
+pub struct SharedStore<D: Disk + Drop, J: Threaded> {
     pub(crate) store: Store<D>,
     pub(crate) count: u32,
     pub(crate) book: Book<J, Entry>,
@@ -58,6 +63,8 @@ pub struct SharedStore<D: Disk + Drop, J: Journal> {
     run: Option<BusPart<J>>,
     // For the functions of this file alone, each of which says what it does with them: under a lock no other can.
     moments: Moments,
+    // The watch that may set the word, until a command has ended the life.
+    ender: Option<Watch>,
     ghost named: { IsNamed J.found J.size store },
     ghost issued: { BeginsWith J.issued (journal_of store) },
     ghost there: { IsTrue (is_some run) },
@@ -70,9 +77,10 @@ pub struct SharedStore<D: Disk + Drop, J: Journal> {
     ghost doubted: { doubts ≡ entries_in (option_to_list (doubt_of store)) },
     ghost kept: { AreKept J.size J.found J.earlier J.moment (length J.issued) (journal_of store) (doubt_of store)
         (disk_of store) moments.at },
+    ghost marked: { IsMarked J.over ender (life_of store) },
 }
 
-impl<D: Disk + Drop, J: Journal> SharedStore<D, J> {
+impl<D: Disk + Drop, J: Threaded> SharedStore<D, J> {
     ghost use Rattle.hart_threads.specs.Views.{bus_in, store_in, inside, moments_in, moments_with, parts_with};
 
     /// The store, to be shared: all parts are handed out.
@@ -89,6 +97,7 @@ impl<D: Disk + Drop, J: Journal> SharedStore<D, J> {
             doubts,
             moments,
             run,
+            ender,
         } = whole;
         SharedStore {
             store,
@@ -98,6 +107,7 @@ impl<D: Disk + Drop, J: Journal> SharedStore<D, J> {
             doubts,
             moments,
             run,
+            ender,
         }
     }
 
@@ -178,33 +188,32 @@ impl<D: Disk + Drop, J: Journal> SharedStore<D, J> {
     }
 
     /// The durable call at which a hart stands, as `dispatch_held` with that bus, and the receipt of its command, where that
-    /// was acknowledged: then the life is over. A suspension carries the memory of the bus, which stays. A doze adds no
-    /// command, and has no receipt. It is noted in the hart's part of the history of the bus as that hart's call with that answer, and
+    /// was acknowledged: then the life is over, and the word says so. A suspension carries the memory of the bus, which stays. A doze adds
+    /// no command, and has no receipt. It is noted in the hart's part of the history of the bus as that hart's call with that answer, and
     /// nothing else is noted so.
     pub fn call<C: Crew>(
         &mut self,
-        saving: Saving<'_, C>,
+        board: LoopBoard<'_, '_, J, C>,
         hart: &mut Hart,
         seats: Seats,
-        tables: &Tables,
         bus: &mut SharedBus<J>,
         part: BookPart<J, Entry>,
         run: BusPart<J>,
     ) -> (
         Seats,
         Word,
-        Option<CommandReceipt<J>>,
+        Option<LastReceipt<J>>,
         BookPart<J, Entry>,
         BusPart<J>,
     )
-        requires seats { AreSeatsOfBoth tables.now seats }
+        requires seats { AreSeatsOfBoth board.tables.now seats }
         requires acts { Acts hart.old.id Running seats }
-        requires hart { hart.old.id < harts_of_both tables.now }
+        requires hart { hart.old.id < harts_of_both board.tables.now }
         requires run { run.who ≡ part_of_hart hart.old.id }
-        ensures gives { GivesBack tables.entry.now hart.old.id seats result.0 }
+        ensures gives { GivesBack board.entry.tables.now hart.old.id seats result.0 }
         ensures acts { Acts hart.old.id (stage_told result.1) result.0 }
         ensures id { hart.new.id ≡ hart.old.id }
-        ensures makes { MakesHeld (harts_of_both tables.entry.now) (call_of hart.old) hart.old hart.new
+        ensures makes { MakesHeld (harts_of_both board.entry.tables.now) (call_of hart.old) hart.old hart.new
             (known seats) (known result.0) (bus_in bus.old) (bus_in bus.new) (store_in self.old) (store_in self.new)
             result.1 }
         ensures memory { (bus_in bus.new).ram ≡ (bus_in bus.old).ram }
@@ -223,10 +232,10 @@ impl<D: Disk + Drop, J: Journal> SharedStore<D, J> {
             store: own,
         };
         let (seats, word, parts) = bus.call::<Brand, D, C>(
-            saving,
+            board.saving,
             hart,
             seats,
-            tables,
+            board.tables,
             &mut self.store,
             parts,
         );
@@ -247,7 +256,12 @@ impl<D: Disk + Drop, J: Journal> SharedStore<D, J> {
                 let told = CommandReceipt::new(self.count, entry);
                 let noted = told.entry();
                 let part = self.book.note(&mut self.keeper, part, noted);
-                (seats, word, Some(told), part, run)
+                let Some(ender) = self.ender.take() else {
+                    unreachable!()
+                };
+                let over = board.closing.over.set(ender);
+                let last = LastReceipt::new(told, over);
+                (seats, word, Some(last), part, run)
             }
         }
     }
@@ -266,6 +280,7 @@ impl<D: Disk + Drop, J: Journal> SharedStore<D, J> {
             doubts,
             moments,
             run,
+            ender,
         } = self;
         Unshared {
             store,
@@ -275,6 +290,7 @@ impl<D: Disk + Drop, J: Journal> SharedStore<D, J> {
             doubts,
             moments,
             run,
+            ender,
         }
     }
 }

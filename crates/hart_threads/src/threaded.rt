@@ -9,15 +9,17 @@ use std::marker::Brand;
 use tallies::Journal;
 
 /// The name of the life of a board on threads, beside that of its journal: how many turns each hart is given, the lock
-/// in which the console says once what the harts do when it has left, the word that halts all loops, whether the gate may end
-/// one, the board as the boot left it, with its memory, its harts and its tables, and which hart table and which table of pending
-/// interrupts these are. A type that has it stands for that life alone.
+/// in which the console says once what the harts do when it has left, the word that halts all loops, the word that says that the
+/// life is over, whether the gate may end a loop, the board as the boot left it, with its memory, its harts and its tables, and which
+/// hart table and which table of pending interrupts these are. A type that has it stands for that life alone.
 pub trait Threaded: Journal {
     ghost turns: { ℕ };
 
     ghost parting: { ℕ };
 
     ghost halt: { TableId };
+
+    ghost over: { TableId };
 
     ghost gated: { Bool };
 
@@ -34,6 +36,8 @@ impl Threaded for Brand {
     ghost parting = { 0 };
 
     ghost halt = { no_book };
+
+    ghost over = { no_book };
 
     ghost gated = { false };
 

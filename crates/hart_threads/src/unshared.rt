@@ -5,9 +5,10 @@ ghost use Rattle.std.specs.Prelude.{◌≡◌, ◌≤◌, ◌<◌, ◌+◌, ℕ,
 ghost use Rattle.std.specs.Prelude.{All, IfOk, IfErr, IfSome, IsTrue, is_some};
 ghost use Rattle.std.specs.Option.{option_to_list};
 ghost use Rattle.store.specs.Views.{size_of_store, found_state, journal_of, life_of, receipts, doubt_of, failures_at_open, disk_of};
-ghost use Rattle.tallies.specs.Books.{entries_of, fresh_from};
+ghost use Rattle.tallies.specs.Books.{Each, entries_of, fresh_from};
 ghost use Rattle.tallies.specs.Closed.{AreStanding, AreReceiptsOf, told_in};
 ghost use Rattle.tallies.specs.BookViews.{id_of, parts_of};
+ghost use Rattle.tallies.specs.Halts.{watched};
 ghost use Rattle.store.specs.Taken.{are_taken};
 ghost use Rattle.hart_threads.specs.Bused.{AreSaved, AreWakes, IsSavedIn, part_in};
 ghost use Rattle.hart_threads.specs.Called.{IsLastOf};
@@ -15,26 +16,31 @@ ghost use Rattle.hart_threads.specs.declared.bus_turns.BusTurn.{BusTurn as TurnV
 ghost use Rattle.hart_threads.specs.Doubts.{IsDoubtOf};
 ghost use Rattle.hart_threads.specs.Heard.{heard_nothing};
 ghost use Rattle.hart_threads.specs.Legal.{BeginsWith, IsNamed};
+ghost use Rattle.hart_threads.specs.Over.{IsLastEnd, IsMarked};
 ghost use Rattle.hart_threads.specs.Noted.{boot_told, entries_in};
 ghost use Rattle.hart_threads.specs.Since.{AreKept};
+ghost use Rattle.hart_threads.specs.Threads.{is_end};
 
 use crate::bus_turns::{BusPart, held_part};
 use crate::buses::SharedBus;
+use crate::closing::Closing;
 use crate::doubts::Doubts;
 use crate::heard::Heard;
 use crate::moments::Moments;
+use crate::over::LifeOver;
 use crate::shared::HartParts;
 use crate::shared_store::{SharedStore, last_entry};
+use crate::threaded::Threaded;
 use board_model::Entry;
 use disk::Disk;
 use std::alloc::{AllocError, Global};
 use store::Store;
-use tallies::{Book, BookPart, Journal, Keeper, NewBook};
+use tallies::{Book, BookPart, Journal, Keeper, NewBook, Watch};
 
 /// A store of the life J with the book of its receipts, which one holder has: it hands out the book's parts
 /// before it is shared, and takes them back when the life has ended.
 #[derive(Drop)]
-pub struct Unshared<D: Disk + Drop, J: Journal> {
+pub struct Unshared<D: Disk + Drop, J: Threaded> {
     pub(crate) store: Store<D>,
     pub(crate) count: u32,
     pub(crate) book: Book<J, Entry>,
@@ -42,6 +48,7 @@ pub struct Unshared<D: Disk + Drop, J: Journal> {
     pub(crate) doubts: Doubts<J>,
     pub(crate) moments: Moments,
     pub(crate) run: Option<BusPart<J>>,
+    pub(crate) ender: Option<Watch>,
     pub ghost named: { IsNamed J.found J.size store },
     pub ghost issued: { BeginsWith J.issued (journal_of store) },
     pub ghost there: { IsTrue (is_some run) },
@@ -53,20 +60,22 @@ pub struct Unshared<D: Disk + Drop, J: Journal> {
     pub ghost doubted: { doubts ≡ entries_in (option_to_list (doubt_of store)) },
     pub ghost kept: { AreKept J.size J.found J.earlier J.moment (length J.issued) (journal_of store) (doubt_of store)
         (disk_of store) moments.at },
+    pub ghost marked: { IsMarked J.over ender (life_of store) },
 }
 
-impl<D: Disk + Drop, J: Journal> Unshared<D, J> {
+impl<D: Disk + Drop, J: Threaded> Unshared<D, J> {
     ghost use Rattle.hart_threads.specs.Views.{bus_in, bus_parts, store_in, inside, moments_in, moments_with, parts_with};
 
     /// The store of a life that has just begun, with two new books: its journal has what the boot issued, and the
     /// boot's part, which goes off first, is told the receipt of each. The second book is for what is in doubt: nothing is
     /// yet. What the life's console will hear comes with them. The store and the console have a part each of the history of that bus, of
-    /// which none was handed out before.
+    /// which none was handed out before. `ender` may set the word that says that the life is over.
     pub fn new(
         store: Store<D>,
         book: NewBook<Entry>,
         doubts: NewBook<Entry>,
         bus: &mut SharedBus<J>,
+        ender: Watch,
     ) -> (Unshared<D, J>, BookPart<J, Entry>, Heard<J>)
         requires board { size_of_store store ≡ J.size }
         requires found { found_state store ≡ J.found }
@@ -75,6 +84,7 @@ impl<D: Disk + Drop, J: Journal> Unshared<D, J> {
         requires few { length J.issued ≤ 4096 }
         requires unended { (told : List (ℕ × TurnView)) → IsSavedIn J.size told (life_of store) }
         requires bus { bus_parts bus.old ≡ fresh_from 0 (J.size.harts + 2) }
+        requires ender { ender ≡ watched J.over true 0 None }
         requires book { id_of book ≡ J.book }
         requires parts { parts_of book ≡ J.parts }
         requires some { 0 < J.parts }
@@ -109,6 +119,7 @@ impl<D: Disk + Drop, J: Journal> Unshared<D, J> {
             doubts,
             moments,
             run: Some(own),
+            ender: Some(ender),
         };
         (whole, part, heard)
     }
@@ -177,12 +188,30 @@ impl<D: Disk + Drop, J: Journal> Unshared<D, J> {
         self.book.gather(&mut self.keeper, part);
     }
 
-    /// The last command of the journal, and its place; none where the journal is empty.
-    pub fn last(&self) -> Option<(u32, Entry)>
-        ensures { IfSome result (λ t. IsLastOf (journal_of (inside self.now)) t.0 t.1) }
+    /// A part comes back that was told what ended the life, or nothing: then that command is the journal's last.
+    pub(crate) fn gather_told(&mut self, part: BookPart<J, Entry>)
+        ensures store { inside self.new ≡ inside self.old }
+        ensures moments { moments_with self.new ≡ moments_with self.old }
+        ensures parts { parts_with self.new ≡ part ∷ parts_with self.old }
+        ensures last { Each (IsLastEnd (journal_of (inside self.new))) part.told }
     {
-        let entry = last_entry(&self.store, self.count)?;
-        Some((self.count, entry))
+        let part = self.book.recall(&mut self.keeper, part);
+        self.book.gather(&mut self.keeper, part);
+    }
+
+    /// The command that ended the life, and its place, for one who knows that it is over: it is the journal's last.
+    pub(crate) fn ended_by(&mut self, closing: &Closing<J>, over: LifeOver<J>) -> (u32, Entry)
+        ensures store { inside self.new ≡ inside self.old }
+        ensures moments { moments_with self.new ≡ moments_with self.old }
+        ensures parts { parts_with self.new ≡ parts_with self.old }
+        ensures end { is_end result.1 ≡ true }
+        ensures last { IsLastOf (journal_of (inside self.new)) result.0 result.1 }
+    {
+        closing.over.is_used(&mut self.ender, over);
+        let Some(entry) = last_entry(&self.store, self.count) else {
+            unreachable!()
+        };
+        (self.count, entry)
     }
 
     /// The store, whose life ends here. What the parts that are back were told stands in its journal, each
@@ -214,6 +243,7 @@ impl<D: Disk + Drop, J: Journal> Unshared<D, J> {
             doubts,
             moments,
             run,
+            ender: _,
         } = self;
         book.close(keeper);
         let woken = doubts.close(heard);

@@ -18,8 +18,8 @@ use board::{BegunBoard, BoardParts, Payloads};
 use board_model::{BootMode, Entry, Refusal, Shape, Slot};
 use board_session::console;
 use hart_threads::{
-    AfterConsole, BookPart, BootedHarts, BusTurn, Closing, Gate, HartParts, Heard, Journal, Locks,
-    NewBook, Rested, SharedBoard, SharedBus, SharedStore, Threaded, Unshared, Why, drive,
+    AfterConsole, BookPart, BootedHarts, BusTurn, Closing, Gate, HartParts, Heard, Locks, NewBook,
+    Rested, SharedBoard, SharedBus, SharedStore, Threaded, Unshared, Why, drive,
 };
 use rv_decode::Reg;
 use simdisk::SimDisk;
@@ -119,7 +119,7 @@ fn end_of<J: Threaded>(loops: &[Rested<'_, J>]) -> Option<End> {
 }
 
 /// What the console of a trial writes.
-fn talk<J: Journal, R: Wait + Clock + Abort>(
+fn talk<J: Threaded, R: Wait + Clock + Abort>(
     rt: &R,
     alloc: Global,
     bus: &Mutex<SharedBus<J>>,
@@ -150,24 +150,28 @@ struct Books {
     runs: NewBook<BusTurn>,
 }
 
-/// The marks of a life: its books, and what ends its loops: what the console says, and the halt with the watch that may set it.
-type Marks = (Books, (OnceLock<AfterConsole>, (Halt, Watch)));
+/// A word, with the watch that may set it.
+type Word = (Halt, Watch);
+
+/// The marks of a life: its books, and what ends its loops: what the console says, the halt, and the word that says that the life is over.
+type Marks = (Books, (OnceLock<AfterConsole>, (Word, Word)));
 
 /// New marks, of which the books of commands and of the bus have so many parts.
 fn new_marks(rt: &impl Abort, alloc: Global, parts: u32) -> Marks
     ensures { (parts_of result.0.commands ≡ parts) × (parts_of result.0.doubts ≡ 2) × (parts_of result.0.runs ≡ parts)
-        × (result.1.1.1 ≡ watched result.1.1.0 true 0 None) }
+        × (result.1.1.0.1 ≡ watched result.1.1.0.0 true 0 None) × (result.1.1.1.1 ≡ watched result.1.1.1.0 true 0 None) }
 {
     let commands = NewBook::new(alloc, parts).expect(rt, "memory");
     let doubts = NewBook::new(alloc, 2).expect(rt, "memory");
     let runs = NewBook::new(alloc, parts).expect(rt, "memory");
     let halt = Halt::new(alloc).expect(rt, "memory");
+    let over = Halt::new(alloc).expect(rt, "memory");
     let books = Books {
         commands,
         doubts,
         runs,
     };
-    (books, (OnceLock::new(), halt))
+    (books, (OnceLock::new(), (halt, over)))
 }
 
 /// Runs the harts of a board that was powered on fresh under that gate, with its console: how the loop of its first hart ends, and what
@@ -196,6 +200,7 @@ fn shared<J: Threaded>(
     alloc: Global,
     begun: (Store<SimDisk>, (NewBook<Entry>, NewBook<Entry>)),
     bus: &mut SharedBus<J>,
+    ender: Watch,
     harts: usize,
 ) -> (
     SharedStore<SimDisk, J>,
@@ -208,6 +213,7 @@ fn shared<J: Threaded>(
     requires book { (id_of begun.1.0 ≡ J.book) × (parts_of begun.1.0 ≡ J.parts) × (J.parts ≡ harts + 2) }
     requires doubts { (id_of begun.1.1 ≡ J.doubts) × (parts_of begun.1.1 ≡ 2) }
     requires bus { (bus_parts bus.old ≡ fresh_from 0 (J.size.harts + 2)) × (J.size.harts ≡ harts) }
+    requires ender { ender ≡ watched J.over true 0 None }
     requires opened { failures_at_open begun.0 ≡ J.failures }
     requires moment { (disk_of begun.0).moment ≡ J.moment }
     requires earlier { (t : ℕ) (c : Content) → (disk_of begun.0).since t c → J.earlier t c }
@@ -216,7 +222,9 @@ fn shared<J: Threaded>(
     ensures runs { map (λ p. p.run) result.2.items ≡ fresh_from 2 harts }
 {
     let (store, books) = begun;
-    let (mut whole, _boot, heard) = Unshared::<SimDisk, J>::new(store, books.0, books.1, bus);
+    let (mut whole, _boot, heard) = Unshared::<SimDisk, J>::new(
+        store, books.0, books.1, bus, ender,
+    );
     let part = whole.hand_out();
     let Ok(given) = whole.hand_out_all(alloc, harts, bus) else {
         rt.panic("no memory")
@@ -249,8 +257,9 @@ fn driven_as<J: Threaded + Send + Sync, R: Threads + Wait + Clock + Abort + Sync
     requires earlier { (t : ℕ) (c : Content) → (disk_of parts.store).since t c → J.earlier t c }
     requires machine { J.machine ≡ board_of shape.now J.memory parts.bus.doze parts.harts.items parts.seats }
     requires tables { AreNamed J.starts J.raises parts.tables }
-    requires driven { (marks.1.0.id ≡ J.parting) × (marks.1.1.0 ≡ J.halt) × (trial.turns ≡ J.turns) × (J.gated ≡ true)
-        × (marks.1.1.1 ≡ watched J.halt true 0 None) }
+    requires driven { (marks.1.0.id ≡ J.parting) × (marks.1.1.0.0 ≡ J.halt) × (trial.turns ≡ J.turns) × (J.gated ≡ true)
+        × (marks.1.1.0.1 ≡ watched J.halt true 0 None) }
+    requires over { (marks.1.1.1.0 ≡ J.over) × (marks.1.1.1.1 ≡ watched J.over true 0 None) }
 {
     let BoardParts {
         harts,
@@ -259,7 +268,7 @@ fn driven_as<J: Threaded + Send + Sync, R: Threads + Wait + Clock + Abort + Sync
         bus,
         store,
     } = parts;
-    let (books, halting) = marks;
+    let (books, (lock, ((halt, first), (over, ender)))) = marks;
     let Books {
         commands,
         doubts,
@@ -272,6 +281,7 @@ fn driven_as<J: Threaded + Send + Sync, R: Threads + Wait + Clock + Abort + Sync
         alloc,
         (store, (commands, doubts)),
         &mut bus,
+        ender,
         harts.len(),
     );
     let booted = BootedHarts {
@@ -283,8 +293,7 @@ fn driven_as<J: Threaded + Send + Sync, R: Threads + Wait + Clock + Abort + Sync
     };
     let bus: Mutex<SharedBus<J>> = Mutex::new(bus);
     let store = Mutex::new(store);
-    let (lock, (halt, first)) = halting;
-    let closing = Closing::new(lock, halt);
+    let closing = Closing::new(lock, halt, over);
     let reason = Mutex::new(closing.reason(first));
     let closing = reason.lock(rt).closing();
     let crew = crew::Threads::new(rt);

@@ -2,6 +2,7 @@ use Rattle.std.proofs.Common.{◌≡◌, ◌+◌, All, length, map, vec_len, vec
 use Rattle.arrayvec.specs.ArrayVec.{array_vec_len}
 use Rattle.hsm.specs.Seating.{all_harts}
 use Rattle.ipi.specs.Seating.{all_pending_views}
+use Rattle.store.specs.Views.{journal_of}
 use Rattle.hart_threads.specs.{Begun.AreFromLast, Ends.{AreNumberedFrom, own_receipt}, Views.{bus_parts, inside, moments_with, parts_with}}
 use Rattle.board_session.specs.{Backs.AreBack, Histories.EndsWith, Sessions.IsOver}
 use Rattle.board_session.proofs.life_end.ends_of.Given as goal
@@ -18,7 +19,7 @@ invariant-loop-rested g l = record {
   left : AreFromLast (vec_len l.ends) (λ r. r.ended.hart.id) l.loops.items;
   well : All (EndsWith g.J.Threaded.machine g.J.Threaded.turns g.J.Threaded.gated l.parted.token.value (bus_parts l.bus) (all_harts l.back.starts.items) (all_pending_views l.back.raises.items)) l.ends.items;
   seats : array_vec_len l.back.starts ≡ vec_len l.ends;
-  over : All (IsOver l.last) l.ends.items;
+  over : All (IsOver (journal_of (inside l.whole))) l.ends.items;
 }
 
 abbrev pub decreases-loop-rested : goal.decreases-loop-rested

@@ -1,9 +1,9 @@
-use Rattle.std.proofs.Common.{◌∙◌, ℕ, Bool, All, Some, arith, sym, ap, subst}
+use Rattle.std.proofs.Common.{◌∙◌, ℕ, Bool, All, Some, arith, sym, subst}
 use Rattle.hsm.specs.Seating.{all_harts}
 use Rattle.ipi.specs.Seating.{all_pending_views}
 use Rattle.hart_threads.specs.{Views.{bus_parts, inside}, declared.{ends.HartEnd.HartEnd, closing.AfterConsole.AfterConsole}}
-use Rattle.store.specs.Views.{journal_of, life_of}
-use Rattle.board_session.{specs.Histories.{AreDriven, HasTables, harts_after}, proofs.{Alone.all_alone, Lasting.all_over}}
+use Rattle.store.specs.Views.{life_of}
+use Rattle.board_session.{specs.{Histories.{AreDriven, HasTables, harts_after}, Sessions.IsOver}, proofs.Alone.all_alone}
 use Rattle.board_session.proofs.Historied.{EndedBy, all_ends_by, history_of}
 use Rattle.board_session.proofs.session_end.after_console.Goals as goal
 
@@ -41,7 +41,7 @@ returns-clause-life g c =
     let are : AreDriven j.size.harts t.machine t.turns log starts raises (Some left) ends = (sym ended.result.0.ok.0 ∙ many, ended.ensures.numbered, driven) in
     let history = history_of j.size j.memory t.machine.memory log own woke parts end.1 kept life.0.journal life.0.doubt c.args.talked.side.heard.woken c.requires.machine life.2 life.3 c.disk_of-disk.ensures.saved c.disk_of-disk.ensures.woken in (
       life.0,
-      (life.1 ∙ back.1, all_over _ life.0.journal c.last-last.result ends (life.2 ∙ ap (λ x. journal_of x) ended.ensures.store) c.last-last.ensures ended.ensures.over),
+      (life.1 ∙ back.1, subst (λ cs. All (IsOver cs) ends) (sym life.2) ended.ensures.over),
       (
         log,
         starts,

@@ -10,4 +10,4 @@ ghosts-run_board-J-Journal g a = record { found = found_state a.store; size = si
 
 -- and its harts, which no gate may end
 abbrev pub ghosts-run_board-J-Threaded : goal.ghosts-run_board-J-Threaded
-ghosts-run_board-J-Threaded g a = record { turns = a.on.turns; parting = a.provisions.lock.id; halt = a.provisions.halt; gated = false; machine = board_of a.hardware.shape a.hardware.bus.ram a.on.doze a.on.harts.items a.on.seats; starts = a.hardware.tables.harts.table.shared.table_id; raises = a.hardware.tables.pending.table.shared.table_id }
+ghosts-run_board-J-Threaded g a = record { turns = a.on.turns; parting = a.provisions.lock.id; halt = a.provisions.halt; over = a.provisions.over; gated = false; machine = board_of a.hardware.shape a.hardware.bus.ram a.on.doze a.on.harts.items a.on.seats; starts = a.hardware.tables.harts.table.shared.table_id; raises = a.hardware.tables.pending.table.shared.table_id }

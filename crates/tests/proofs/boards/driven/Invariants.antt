@@ -10,4 +10,4 @@ ghosts-driven_as-J-Journal g a = record { found = found_state a.parts.store; siz
 
 -- and its harts, which the gate may end
 abbrev pub ghosts-driven_as-J-Threaded : goal.ghosts-driven_as-J-Threaded
-ghosts-driven_as-J-Threaded g a = record { turns = a.trial.turns; parting = a.marks.1.0.id; halt = a.marks.1.1.0; gated = true; machine = board_of a.shape.now a.parts.bus.ram a.parts.bus.doze a.parts.harts.items a.parts.seats; starts = a.parts.tables.harts.table.shared.table_id; raises = a.parts.tables.pending.table.shared.table_id }
+ghosts-driven_as-J-Threaded g a = record { turns = a.trial.turns; parting = a.marks.1.0.id; halt = a.marks.1.1.0.0; over = a.marks.1.1.1.0; gated = true; machine = board_of a.shape.now a.parts.bus.ram a.parts.bus.doze a.parts.harts.items a.parts.seats; starts = a.parts.tables.harts.table.shared.table_id; raises = a.parts.tables.pending.table.shared.table_id }

@@ -1,10 +1,10 @@
 use Rattle.std.{proofs.Common.{◌∙◌, ◌&&◌, ℕ, Bool, Ok, Err, List, [], ap, length, arith, refl, subst, sym}, specs.Prelude.is_some}
 use Rattle.board_model.{specs.{Durable.Change, Views.change_of, declared.durable.Entry.Entry}, proofs.Steps.entry_of_command}
-use Rattle.store.specs.{Lives.Applied, Views.{disk_of, doubt_of, journal_of}, Asked.Asked}
+use Rattle.store.specs.{Lives.Applied, Views.{disk_of, doubt_of, journal_of, life_of}, Asked.Asked}
 use Rattle.hart_threads.{specs.{Legal.MayAnswer, Doubts.noted_if}, proofs.Doubting.{asked_turns, ok_stays, still_noted, told_on}}
 use Rattle.hart_threads.{proofs.Naming.{asked_named, asked_may, begins_on, begins_still}, specs.{Noted.entries_in, Since.AreKept}}
 use Rattle.hart_threads.{proofs.{Noting.{number, tied_on}, Keeping.asked_kept, Lasting.one_longer}, specs.Bused.part_in}
-use Rattle.hart_threads.proofs.Bussing.{saved_still}
+use Rattle.hart_threads.proofs.{Bussing.saved_still, Overs.{asked_over, marked_more}}
 use Rattle.board_model.specs.declared.durable.Entry.TheVariants as entries
 use Rattle.tallies.specs.{Books.{entries_of, told_after}, declared.book_views.BookView.BookView}
 use Rattle.hart_threads.proofs.shared_store.SharedStore.apply.Goals as goal
@@ -27,7 +27,7 @@ invariant_of-self g c =
     (asked_kept g.J.Journal.found g.J.Journal.size g.J.Journal.earlier g.J.Journal.moment (length g.J.Journal.issued) old.store new (change_of c.args.command) (Ok n) (doubt_of old.store) old.moments.at refl old.named (g.met.D.Disk.only_now _) asked old.kept) in
     let tied = tied_on (journal_of old.store) (journal_of new) old.keeper.log (change_of c.args.command) (entries.Command c.args.command) c.args.part.who old.tied (entry_of_command c.args.command) did.1.0
     ∙ sym (ap (λ (v : BookView Entry). entries_of v.log) note.keeper) in
-    record { named = did.0; issued = begins_on g.J.Journal.issued (journal_of old.store) (journal_of new) (change_of c.args.command) old.issued did.1.0; there = old.there; saved = saved_still g.J.Journal.size (part_in old.run) old.store new (change_of c.args.command) (Ok n) c.requires old.saved asked; counted = omega (arith, is, a, longer); few = omega (arith, is, a, b); tied = tied; none = ap (λ (v : BookView Entry). length v.parts) note.keeper ∙ old.none; opened = asked.stays.opened ∙ old.opened; doubted = still_noted (doubt_of old.store) (doubt_of new) old.doubts same old.doubted; kept = kept }
+    record { named = did.0; issued = begins_on g.J.Journal.issued (journal_of old.store) (journal_of new) (change_of c.args.command) old.issued did.1.0; there = old.there; saved = saved_still g.J.Journal.size (part_in old.run) old.store new (change_of c.args.command) (Ok n) c.requires old.saved asked; counted = omega (arith, is, a, longer); few = omega (arith, is, a, b); tied = tied; none = ap (λ (v : BookView Entry). length v.parts) note.keeper ∙ old.none; opened = asked.stays.opened ∙ old.opened; doubted = still_noted (doubt_of old.store) (doubt_of new) old.doubts same old.doubted; kept = kept; marked = marked_more g.J.Threaded.over old.ender (life_of old.store) (life_of new) (change_of c.args.command) (Ok n) c.requires (asked_over old.store new (change_of c.args.command) (Ok n) (doubt_of old.store) refl asked) did.1 old.marked }
 
 pub invariant_of-self-in-Err : goal.invariant_of-self-in-Err
 invariant_of-self-in-Err g c =
@@ -42,7 +42,7 @@ invariant_of-self-in-Err g c =
     let newly = c.newly_down-newly.ensures ∙ ap (λ (b : Bool). b && is_some (doubt_of new)) c.is_up-was_up.ensures in
     let noted = c.tell.ensures.noted ∙ ap (λ (b : Bool). noted_if b (entries.Command c.args.command) old.doubts) newly in
     let is = old.counted in
-    record { named = did.0; issued = begins_still g.J.Journal.issued (journal_of old.store) (journal_of new) old.issued did.1; there = old.there; saved = saved_still g.J.Journal.size (part_in old.run) old.store new (change_of c.args.command) (Err r) c.requires old.saved asked; counted = omega (arith, is, same); few = old.few; tied = ap entries_in did.1 ∙ old.tied; none = old.none; opened = asked.stays.opened ∙ old.opened; doubted = told_on c.args.command (Err r) (doubt_of old.store) (doubt_of new) old.doubts c.tell.new.self turns old.doubted noted; kept = asked_kept g.J.Journal.found g.J.Journal.size g.J.Journal.earlier g.J.Journal.moment (length g.J.Journal.issued) old.store new (change_of c.args.command) (Err r) (doubt_of old.store) old.moments.at refl old.named (g.met.D.Disk.only_now _) asked old.kept }
+    record { named = did.0; issued = begins_still g.J.Journal.issued (journal_of old.store) (journal_of new) old.issued did.1; there = old.there; saved = saved_still g.J.Journal.size (part_in old.run) old.store new (change_of c.args.command) (Err r) c.requires old.saved asked; counted = omega (arith, is, same); few = old.few; tied = ap entries_in did.1 ∙ old.tied; none = old.none; opened = asked.stays.opened ∙ old.opened; doubted = told_on c.args.command (Err r) (doubt_of old.store) (doubt_of new) old.doubts c.tell.new.self turns old.doubted noted; kept = asked_kept g.J.Journal.found g.J.Journal.size g.J.Journal.earlier g.J.Journal.moment (length g.J.Journal.issued) old.store new (change_of c.args.command) (Err r) (doubt_of old.store) old.moments.at refl old.named (g.met.D.Disk.only_now _) asked old.kept; marked = marked_more g.J.Threaded.over old.ender (life_of old.store) (life_of new) (change_of c.args.command) (Err r) c.requires (asked_over old.store new (change_of c.args.command) (Err r) (doubt_of old.store) refl asked) did.1 old.marked }
 
 pub returns-in-Err-clause-may : goal.returns-in-Err-clause-may
 returns-in-Err-clause-may g c =

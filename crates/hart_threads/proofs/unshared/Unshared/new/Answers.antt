@@ -4,7 +4,9 @@ use Rattle.board_model.specs.{Durable.{Change, DurableState, fold}, Views.durabl
 use Rattle.store.specs.{Taken.are_taken, Leaves.LeavesOnly, Views.{disk_of, journal_of, life_of, now_state}}
 use Rattle.tallies.specs.{Books.{first_of, fresh_from}, declared.book_views.{BookView.BookView, PartView.PartView}}
 use Rattle.hart_threads.{specs.{Noted.{boot_told, entries_in}, Bused.AreSaved}, proofs.{Booted.begins_same, Keeping.begun_kept}}
-use Rattle.hart_threads.proofs.{UntoldParts.{all_rest, first_told, fresh_many, fresh_told, one_off}, Numbered.two_more}
+use Rattle.hart_threads.proofs.UntoldParts.{all_rest, first_told, fresh_many, fresh_told, one_off}
+use Rattle.hart_threads.proofs.{Numbered.two_more, Overs.{marked_first, none_told}}
+use Rattle.tallies.specs.Halts.{Watched}
 use Rattle.hart_threads.specs.declared.bus_turns.BusTurn.{BusTurn}
 use Rattle.hart_threads.proofs.unshared.Unshared.new.Goals as goal
 
@@ -91,6 +93,7 @@ invariant_of-whole g c = record {
       (subst (λ (s : DurableState). LeavesOnly (disk_of c.args.store) g.J.Journal.size s) (ap (λ (s : DurableState). fold s (journal_of c.args.store)) c.requires.found ∙ ap (λ (l : List Change). fold g.J.Journal.found l) c.requires.issued)
       (subst (λ (z : Size). LeavesOnly (disk_of c.args.store) z (now_state c.args.store)) c.requires.board (c.stands.ensures.up (now_state c.args.store) (c.requires.up, refl))))
       c.first-moments.ensures;
+  marked = marked_first g.J.Threaded.over c.args.ender (life_of c.args.store) (ap (λ (w : Watched). w.of) c.requires.ender) (ap (λ (w : Watched). w.may_set) c.requires.ender) (none_told g.J.Journal.size (life_of c.args.store) (c.requires.unended []));
   doubted = c.new-doubts.ensures.none ∙ sym (ap (λ (d : Option Change). entries_in (option_to_list d)) c.requires.up);
 }
 
