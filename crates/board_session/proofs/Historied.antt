@@ -6,7 +6,7 @@ use Rattle.board_model.specs.{Durable.Change, Shapes.Size}
 use Rattle.hart.specs.State.{ArchState}
 use Rattle.hsm.specs.{Words.HartView, declared.view.{Action.Action, Stage.Stage}}
 use Rattle.ipi.specs.{Ledger.PendingView, declared.view.IpiAction.IpiAction}
-use Rattle.machine.specs.Machine.{Machine}
+use Rattle.machine.specs.Machine.{Machine, only_first}
 use Rattle.sbi.specs.declared.words.LifeEnd.{LifeEnd}
 use Rattle.sbi_calls.specs.{Both.{Known, known, pending_views, views}, declared.tables.Seats.Seats}
 use Rattle.store.specs.Lives.{Life}
@@ -143,8 +143,8 @@ module _ (machine : Machine) (turns : ℕ) (gated : Bool) (parting : AfterConsol
   all_ends_by log starts raises parts vs ws es told did sent all = λ k e lt. one_ends_by log starts raises parts vs ws _ told did sent (all k e lt)
 
 -- no step was made
-pub no_steps : (harts : ℕ) → HasTables harts [] []
-no_steps harts = record { first = 0; started = tt; raised = tt }
+pub no_steps : (harts : ℕ) (machine : Machine) (first : ℕ) → machine.table.states ≡ only_first harts first → HasTables harts machine [] []
+no_steps harts machine first only = record { first = first; only = only; started = tt; raised = tt }
 
 -- ---- a memory that the store found as it looked for a call
 equal : (a b : ℕ) → (a == b) ≡ true → a ≡ b

@@ -10,7 +10,7 @@ use Rattle.hsm.specs.declared.view.Action.TheVariants.{Looked, Quieted}
 use Rattle.hsm.specs.declared.view.Stage.{Stage}
 use Rattle.ipi.specs.Ledger.{PendingView, reading as raise_reading, first_word as raise_words}
 use Rattle.ipi.specs.declared.view.IpiAction.{IpiAction}
-use Rattle.machine.specs.Machine.{Machine}
+use Rattle.machine.specs.Machine.{Machine, only_first}
 use Rattle.sbi_calls.specs.Both.{Known}
 use Rattle.store.specs.Lives.{Life}
 use Rattle.susp.specs.Sleeps.{AreUnclaimed}
@@ -50,11 +50,12 @@ noted_by log h stage = hart_notes h stage (actions_in h log) (log_places h log) 
 abbrev pub known_by : Log Action → Log IpiAction → ℕ → Stage → Known
 known_by starts raises h stage = record { harts = noted_by starts h stage; pairs = noted_by raises h tt }
 
--- There is one log of all steps of each table of a session. Each step is of a hart of the board, and found what the steps before it had
--- left of the words that the table was made with: those of a hart table with that hart STARTED and every other one STOPPED, and those of
--- no pending interrupt.
-pub record HasTables (harts : ℕ) (starts : Log Action) (raises : Log IpiAction) : Type 0 where
+-- There is one log of all steps of each table of a session, from the power-on on, which left that board: no step was noted by then. Each
+-- step is of a hart of the board, and found what the steps before it had left of the words as the power-on left them: in the hart table
+-- those that have the hart STARTED which the board has STARTED, and every other one STOPPED; in the other those of no pending interrupt.
+pub record HasTables (harts : ℕ) (machine : Machine) (starts : Log Action) (raises : Log IpiAction) : Type 0 where
   pub first : ℕ
+  pub only : machine.table.states ≡ only_first harts first
   pub started : IsTrueLog start_reading (start_words first) harts starts
   pub raised : IsTrueLog raise_reading raise_words harts raises
 
@@ -94,9 +95,9 @@ pub record IsHistory (size : Size) (memory : List ℕ) (journal : List Change) (
 
 -- Each hart of that board had a loop, and there is an end of each, from hart 0 on. It went from where the power-on left it by just the
 -- turns that its loop made, and what the history has of it is what those turns did with the bus. What the logs of the two tables have of it
--- is what the board's harts had done there before, what those turns did, and the look at its end. It made all the turns that each hart is
--- given, or a hart ended the life by a command that was acknowledged, or the console had left so that the harts are halted. Where the
--- console was not begun there is no end of any.
+-- is what those turns did there, and the look at its end, and nothing else. It made all the turns that each hart is given, or a hart ended
+-- the life by a command that was acknowledged, or the console had left so that the harts are halted. Where the console was not begun there
+-- is no end of any.
 abbrev pub AreDriven : ℕ → Machine → ℕ → Log BusTurn → Log Action → Log IpiAction → Option Left → List HartEnd → Type 0
 AreDriven harts machine turns log starts raises None ends = ends ≡ []
 AreDriven harts machine turns log starts raises (Some left) ends =
@@ -109,7 +110,7 @@ AreDriven harts machine turns log starts raises (Some left) ends =
 abbrev pub HasHistory : Size → Machine → ℕ → List Change → Option Change → ℕ → Option Left → List HartEnd → Type 0
 HasHistory size machine turns journal doubt woken left ends =
     (log : Log BusTurn) × (starts : Log Action) × (raises : Log IpiAction)
-    × AreDriven size.harts machine turns log starts raises left ends × HasTables size.harts starts raises
+    × AreDriven size.harts machine turns log starts raises left ends × HasTables size.harts machine starts raises
     × AreAlone machine.size.harts starts left journal
     × ∥ IsHistory size machine.memory journal doubt woken log ∥₁
 

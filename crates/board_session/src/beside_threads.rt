@@ -6,12 +6,12 @@ ghost use Rattle.board_model.specs.declared.durable.Entry.{Entry};
 ghost use Rattle.tallies.specs.BookViews.{id_of, parts_of};
 ghost use Rattle.tallies.specs.Books.{fresh_from};
 ghost use Rattle.tallies.specs.Halts.{watched};
-ghost use Rattle.hart_threads.specs.Begun.{AreFromLast, board_of};
+ghost use Rattle.hart_threads.specs.Begun.{AreFromLast};
 ghost use Rattle.hart_threads.specs.Bused.{begun_bus};
 ghost use Rattle.hart_threads.specs.Heard.{heard_nothing};
 ghost use Rattle.hart_threads.specs.Seated.{AreNamed};
 ghost use Rattle.hart_threads.specs.Views.{parts_with};
-ghost use Rattle.machine.specs.Held.{IsHeld};
+ghost use Rattle.machine.specs.Held.{AreUntouched, IsHeld, board_of};
 ghost use Rattle.store.specs.Leaves.{IsIdle};
 ghost use Rattle.store.specs.Taken.{are_taken};
 ghost use Rattle.store.specs.Views.{disk_of, doubt_of, failures_at_open, found_state, journal_of, life_of, size_of_store};
@@ -150,6 +150,7 @@ pub(crate) fn run_board<
     requires store { (size_of_store store ≡ J.size) × (found_state store ≡ J.found) × (journal_of store ≡ J.issued) }
     requires bus { hardware.bus ≡ begun_bus J.memory }
     requires machine { J.machine ≡ board_of hardware.shape J.memory on.doze on.harts.items on.seats }
+    requires untouched { AreUntouched hardware.shape.harts hardware.tables on.seats }
     requires tables { AreNamed J.starts J.raises hardware.tables }
     requires unended { IsUnended (life_of store) }
     requires turns { on.turns ≡ J.turns }
@@ -270,6 +271,7 @@ fn drive_beside_console<
     requires fresh { All (λ p. p.receipts.told ≡ []) booted.parts.items }
     requires held { IsHeld hardware.shape booted.harts.items hardware.tables (Some booted.seats) booted.doze }
     requires machine { J.machine ≡ board_of hardware.shape J.memory booted.doze booted.harts.items booted.seats }
+    requires untouched { AreUntouched hardware.shape.harts hardware.tables booted.seats }
     requires tables { AreNamed J.starts J.raises hardware.tables }
     ensures none { length (parts_with result.0) ≡ 0 }
     ensures tables { result.1.tables ≡ hardware.tables }

@@ -11,12 +11,11 @@ ghost use Rattle.store.specs.Taken.{are_taken};
 ghost use Rattle.store.specs.Views.{disk_of, doubt_of, failures_at_open, found_state, journal_of, life_of, size_of_store};
 ghost use Rattle.board.specs.Begins.{IsBegun};
 ghost use Rattle.board.specs.Moments.{commands_by};
-ghost use Rattle.board.specs.Views.{machine_of, store_of};
 ghost use Rattle.board_session.specs.Histories.{IsUnended};
 ghost use Rattle.board_session.specs.Sessions.{Begins, IsBooted, RefusesDisk, RunsOver, TakesFormat};
 
 use crate::given::Options;
-use board::{Board, Payloads};
+use board::{BegunBoard, Payloads};
 use board_model::Refusal;
 use disk::Disk;
 use std::alloc::Global;
@@ -53,23 +52,23 @@ pub(crate) fn powered<D: Disk + Drop>(
     options: &Options,
     disk: D,
     payloads: &Payloads,
-) -> Result<Board<D>, (D, Refusal)>
+) -> Result<BegunBoard<D>, (D, Refusal)>
     requires { IsIdle (D.facts disk) }
     ensures runs { OnOk result
         (RunsOver options.now.new options.now.shape options.now.mode payloads.now (D.facts disk).content) }
-    ensures begun { IfOk result (λ b. IsBegun options.now.mode (size_of_store (store_of b)) payloads.now
-        (found_state (store_of b)) (machine_of b)) }
+    ensures begun { IfOk result (λ b. IsBegun options.now.mode (size_of_store b.store) payloads.now
+        (found_state b.store) b.machine) }
     ensures found { IfOk result (λ b. Begins options.now.new options.now.shape (D.facts disk).content
-        (size_of_store (store_of b)) (found_state (store_of b))) }
-    ensures issued { IfOk result (λ b. journal_of (store_of b)
-        ≡ commands_by options.now.mode (found_state (store_of b))) }
-    ensures taken { IfOk result (λ b. (are_taken (found_state (store_of b)) (journal_of (store_of b)) ≡ true)
-        × (length (journal_of (store_of b)) ≤ 2)) }
-    ensures unended { IfOk result (λ b. IsUnended (life_of (store_of b))) }
-    ensures up { IfOk result (λ b. doubt_of (store_of b) ≡ None) }
-    ensures opened { IfOk result (λ b. failures_at_open (store_of b) ≡ (D.facts disk).failures) }
-    ensures moments { IfOk result (λ b. IsBooted options.now.new (D.facts disk) (size_of_store (store_of b))
-        (found_state (store_of b)) (commands_by options.now.mode (found_state (store_of b))) (disk_of (store_of b))) }
+        (size_of_store b.store) (found_state b.store)) }
+    ensures issued { IfOk result (λ b. journal_of b.store
+        ≡ commands_by options.now.mode (found_state b.store)) }
+    ensures taken { IfOk result (λ b. (are_taken (found_state b.store) (journal_of b.store) ≡ true)
+        × (length (journal_of b.store) ≤ 2)) }
+    ensures unended { IfOk result (λ b. IsUnended (life_of b.store)) }
+    ensures up { IfOk result (λ b. doubt_of b.store ≡ None) }
+    ensures opened { IfOk result (λ b. failures_at_open b.store ≡ (D.facts disk).failures) }
+    ensures moments { IfOk result (λ b. IsBooted options.now.new (D.facts disk) (size_of_store b.store)
+        (found_state b.store) (commands_by options.now.mode (found_state b.store)) (disk_of b.store)) }
     ensures refused { IfErr result (λ e. RefusesDisk options.now.new options.now.shape options.now.mode payloads.now
         (D.facts disk) e.1 (D.facts e.0)) }
     ensures kept { IfErr result (λ e. (size : Size) → IsKept (D.facts disk) size → (z : Size) × IsKept (D.facts e.0) z) }
@@ -80,7 +79,7 @@ pub(crate) fn powered<D: Disk + Drop>(
         Ok(disk) => disk,
         Err(refused) => return Err(refused),
     };
-    match Board::power_on(alloc, disk, options.mode, payloads) {
+    match BegunBoard::power_on(alloc, disk, options.mode, payloads) {
         Ok(board) => Ok(board),
         Err(unpowered) => Err((unpowered.disk, unpowered.refusal)),
     }

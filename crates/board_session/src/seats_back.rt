@@ -1,11 +1,11 @@
 //! The seats of loops that have ended, which come back to the tables of their life.
 
-ghost use Rattle.std.specs.Prelude.{◌≡◌, ◌<◌, ◌+◌, ◌++◌, ℕ, []};
+ghost use Rattle.std.specs.Prelude.{◌≡◌, ◌<◌, ◌+◌, ◌++◌, []};
 ghost use Rattle.std.proofs.Props.{props};
 ghost use Rattle.std.specs.Coded.{×_prop};
 ghost use Rattle.arrayvec.specs.ArrayVec.{array_vec_len};
 ghost use Rattle.hsm.specs.Rule.{HasSteps};
-ghost use Rattle.hsm.specs.Seating.{all_harts};
+ghost use Rattle.hsm.specs.Seating.{all_harts, started_in};
 ghost use Rattle.ipi.specs.Ledger.{HasSteps as HasRaises};
 ghost use Rattle.ipi.specs.Seating.{all_pending_views};
 ghost use Rattle.tallies.specs.Seats.{AreSeats, IsSeatIn};
@@ -63,8 +63,8 @@ impl<J: Threaded> SeatsBack<J> {
     pub(crate) fn join(self, tables: &Tables)
         requires named { AreNamed J.starts J.raises tables.now }
         requires some { 0 < array_vec_len self.starts }
-        ensures { (first : ℕ) × HasSteps (harts_of_both tables.now) first (all_harts self.starts.items)
-            × HasRaises (harts_of_both tables.now) (all_pending_views self.raises.items) }
+        ensures starts { HasSteps (harts_of_both tables.now) (started_in tables.now.harts) (all_harts self.starts.items) }
+        ensures raises { HasRaises (harts_of_both tables.now) (all_pending_views self.raises.items) }
     {
         let SeatsBack {
             starts,

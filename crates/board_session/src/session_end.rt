@@ -1,12 +1,14 @@
 //! What a session gives back, once its threads have ended or where none was begun.
 
-ghost use Rattle.std.specs.Prelude.{◌≡◌, ◌≤◌, ◌<◌, ◌+◌, [], All, length, Some, None, false, Err, vec_len, vec_capacity};
+ghost use Rattle.std.specs.Prelude.{◌≡◌, ◌≤◌, ◌<◌, ◌+◌, ℕ, [], All, length, Some, None, false, Err, vec_len, vec_capacity};
 ghost use Rattle.board_model.specs.declared.refusal.Refusal.TheVariants.{Memory};
 ghost use Rattle.hart_threads.specs.Begun.{AreFromLast};
 ghost use Rattle.hart_threads.specs.Heard.{heard_nothing};
 ghost use Rattle.hart_threads.specs.Noted.{boot_told};
 ghost use Rattle.hart_threads.specs.Seated.{AreNamed};
 ghost use Rattle.hart_threads.specs.Views.{parts_with};
+ghost use Rattle.hsm.specs.Seating.{started_in};
+ghost use Rattle.machine.specs.Machine.{only_first};
 ghost use Rattle.sbi_calls.specs.Both.{AreTablesOf};
 ghost use Rattle.store.specs.Leaves.{IsIdle};
 ghost use Rattle.board_session.specs.Backs.{AreBack};
@@ -55,6 +57,7 @@ pub(crate) fn after_console<'c, D: Disk + Drop, J: Threaded, I: Read + Drop, W: 
     requires machine { J.machine.memory ≡ J.memory }
     requires tables { AreTablesOf J.size shared.1.tables }
     requires named { AreNamed J.starts J.raises shared.1.tables }
+    requires first { J.machine.table.states ≡ only_first J.size.harts (started_in shared.1.tables.harts) }
     requires some { (0 < vec_len loops) × (vec_len loops ≤ 8) }
     requires empty { vec_len room ≡ 0 }
     requires room { vec_len loops ≤ vec_capacity room }
@@ -113,6 +116,7 @@ pub(crate) fn without_console<D: Disk + Drop, J: Threaded, I: Read + Drop, W: Wr
     requires boot { boot.told ≡ boot_told J.issued }
     requires all { J.parts ≡ J.size.harts + 2 }
     requires machine { J.machine.memory ≡ J.memory }
+    requires first { (first : ℕ) × (J.machine.table.states ≡ only_first J.size.harts first) }
     requires unheard { side.heard ≡ heard_nothing }
     ensures none_out { IsIdle (D.facts result.disk) }
     ensures life { (life : IsOfLife J.size J.found J.issued J.failures J.earlier J.moment result.moments.at side.part.told

@@ -77,6 +77,7 @@ pub fn session<R: Threads + Wait + Sync, D: Disk + Drop + Send, I: Read + Drop, 
     // hart, and no other was. A command is in doubt only where the disk failed, and it was asked for by the console, which was
     // answered 6, or by a hart. A reset or a suspension of the life has its moment in the one history of its bus, at which a hart had
     // just made the call that asked for it; that of one in doubt was answered -1.
+    // Of the steps on each of its tables there is one log, which begins with the session: none was noted before.
     // Each hart went from where the power-on left it by its own turns: it made all of them, or one of them ended the life
     // by the last command of its journal, whose receipt it was told, or the console left so that they were halted. It is then
     // refused by why the console left alone. The moments given back are those at which its boot was over and its receipts were made: from each on a crash has
@@ -96,7 +97,7 @@ pub fn session<R: Threads + Wait + Sync, D: Disk + Drop + Send, I: Read + Drop, 
         Ok(board) => board,
         Err((disk, refusal)) => return unbegun(alloc, disk, Moments::none(), refusal, streams),
     };
-    let shape = board.shape();
+    let shape = board.store.shape();
     let parts = board.into_parts();
     let BoardParts {
         harts,

@@ -1,6 +1,7 @@
 use Rattle.std.proofs.Common.{◌∙◌, ℕ, Bool, All, Some, arith, sym, subst}
-use Rattle.hsm.specs.Seating.{all_harts}
-use Rattle.ipi.specs.Seating.{all_pending_views}
+use Rattle.hsm.specs.{Rule.{reading as start_reading, first_word as start_words}, Seating.{all_harts, started_in}}
+use Rattle.ipi.specs.{Ledger.{reading as raise_reading, first_word as raise_words}, Seating.all_pending_views}
+use Rattle.tallies.specs.Logs.{IsTrueLog}
 use Rattle.hart_threads.specs.{Views.{bus_parts, inside}, declared.{ends.HartEnd.HartEnd, closing.AfterConsole.AfterConsole}}
 use Rattle.store.specs.Views.{life_of}
 use Rattle.board_session.{specs.{Histories.{AreDriven, HasTables, harts_after}, Sessions.IsOver}, proofs.Alone.all_alone}
@@ -21,8 +22,8 @@ returns-clause-life g c =
     let ends = ended.result.0.items in
     let came = ended.result.1 in
     let logs = c.join.ensures in
-    let starts = logs.1.0 in
-    let raises = logs.2.0 in
+    let starts = logs.starts.0 in
+    let raises = logs.raises.0 in
     let back = ended.ensures.back in
     let life = c.disk_of-disk.ensures.life back.0 in
     let end = c.end_history.ensures in
@@ -32,11 +33,15 @@ returns-clause-life g c =
     let parts = bus_parts ended.new.bus in
     let left = c.args.talked.left in
     let kept = life_of (inside ended.new.whole) in
-    let gone = all_ends_by t.machine t.turns t.gated c.args.talked.parted.token.value log starts raises parts (all_harts came.starts.items) (all_pending_views came.raises.items) ends end.1.told.1.1 logs.1.2 logs.2.2 ended.ensures.well in
+    let gone = all_ends_by t.machine t.turns t.gated c.args.talked.parted.token.value log starts raises parts (all_harts came.starts.items) (all_pending_views came.raises.items) ends end.1.told.1.1 logs.starts.2 logs.raises.2 ended.ensures.well in
     let driven = subst (λ (b : Bool). All (λ (e : HartEnd). EndedBy t.machine t.turns b (harts_after left) log starts raises e) ends) c.requires.ungated
     (subst (λ (p : AfterConsole). All (λ (e : HartEnd). EndedBy t.machine t.turns t.gated p log starts raises e) ends) c.args.talked.parts gone) in
-    let true_logs : HasTables j.size.harts starts raises =
-    subst (λ (n : ℕ). HasTables n starts raises) c.requires.tables (record { first = logs.0; started = logs.1.1; raised = logs.2.1 }) in
+    let true_logs : HasTables j.size.harts t.machine starts raises = record {
+      first = started_in c.args.shared.1.tables.harts;
+      only = c.requires.first;
+      started = subst (λ (n : ℕ). IsTrueLog start_reading (start_words (started_in c.args.shared.1.tables.harts)) n starts) c.requires.tables logs.starts.1;
+      raised = subst (λ (n : ℕ). IsTrueLog raise_reading raise_words n raises) c.requires.tables logs.raises.1;
+    } in
     let many = ended.ensures.many ∙ c.requires.harts in
     let are : AreDriven j.size.harts t.machine t.turns log starts raises (Some left) ends = (sym ended.result.0.ok.0 ∙ many, ended.ensures.numbered, driven) in
     let history = history_of j.size j.memory t.machine.memory log own woke parts end.1 kept life.0.journal life.0.doubt c.args.talked.side.heard.woken c.requires.machine life.2 life.3 c.disk_of-disk.ensures.saved c.disk_of-disk.ensures.woken in (

@@ -22,4 +22,4 @@ returns-clause-life g c =
     let woken = subst (λ n. AreWakes n told.2.1) (ap (λ (h : Hearing). h.woken) c.requires.unheard) c.disk_of-disk.ensures.woken in
     let history = history_of j.size j.memory g.J.Threaded.machine.memory end.0 told.2.0 told.2.1 (bus_parts c.args.shared.1) end.1 (life_of store) life.0.journal life.0.doubt 0 c.requires.machine life.2 life.3 c.disk_of-disk.ensures.saved woken in
     let un = c.unbegun.ensures in
-    rw (un.disk, un.moments, un.heard) (life.0, (end.0, [], [], un.harts, no_steps j.size.harts, tt, history))
+    rw (un.disk, un.moments, un.heard) (life.0, (end.0, [], [], un.harts, no_steps j.size.harts g.J.Threaded.machine c.requires.first.0 c.requires.first.1, tt, history))

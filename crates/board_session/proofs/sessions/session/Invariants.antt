@@ -1,7 +1,7 @@
 use Rattle.std.proofs.Common.{false}
 use Rattle.store.specs.Views.{disk_of, failures_at_open, found_state, journal_of, size_of_store}
 use Rattle.tallies.specs.BookViews.{id_of, parts_of}
-use Rattle.hart_threads.specs.Begun.{board_of}
+use Rattle.machine.specs.Held.{board_of}
 use Rattle.board_session.proofs.sessions.session.Given as goal
 
 -- the life that the board has just begun

@@ -15,11 +15,13 @@ join-requires-2-clause-seats g c = subst (λ (id : TableId). AreSeats (IsSeatIn 
 pub join-requires-2-clause-some : goal.join-requires-2-clause-some
 join-requires-2-clause-some g c = subst (λ (n : ℕ). 0 < n) (sym c.args.self.many) c.requires.some
 
-pub returns : goal.returns
-returns g c =
-    let t = c.args.tables.now in (
-      started_in t.harts,
-      subst (λ (vs : List HartView). HasSteps (harts_of_both t) (started_in t.harts) vs) c.join.ensures.harts c.join.ensures.steps,
-      subst (λ (n : ℕ). HasRaises n (all_pending_views c.args.self.raises.items)) t.same
-          (subst (λ (ws : List PendingView). HasRaises (harts_of t.pending) ws) c.join-2.ensures.harts c.join-2.ensures.steps),
-    )
+pub returns-clause-starts : goal.returns-clause-starts
+returns-clause-starts g c =
+    let t = c.args.tables.now in
+    subst (λ (vs : List HartView). HasSteps (harts_of_both t) (started_in t.harts) vs) c.join.ensures.harts c.join.ensures.steps
+
+pub returns-clause-raises : goal.returns-clause-raises
+returns-clause-raises g c =
+    let t = c.args.tables.now in
+    subst (λ (n : ℕ). HasRaises n (all_pending_views c.args.self.raises.items)) t.same
+    (subst (λ (ws : List PendingView). HasRaises (harts_of t.pending) ws) c.join-2.ensures.harts c.join-2.ensures.steps)
