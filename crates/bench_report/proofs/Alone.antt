@@ -1,12 +1,12 @@
 -- What the clauses of a line say that speak of one kind of line alone.
-use Rattle.std.proofs.Common.{◌≡◌, ℕ, ◌<◌, ◌≤◌, List, length, Result, Ok, IfOk, sym, ap, subst, arith}
+use Rattle.std.proofs.Common.{◌≡◌, ℕ, ◌≤◌, List, length, Result, Ok, Err, IfOk, OnErr, sym, ap, subst}
 use Rattle.std.specs.declared.alloc.AllocError.{AllocError}
 use Rattle.board_model.specs.Shapes.{Size}
 use Rattle.script_lang.specs.{Lines.IsLineInRange, declared.line.Line.Line}
 use Rattle.script_lang.specs.declared.line.Line.TheVariants as lines
 use Rattle.report_lines.specs.declared.printed.Answer.{Answer}
 use Rattle.simdisk.specs.declared.SimDisk.{SimDisk}
-use Rattle.bench_report.specs.declared.power.Power.{Power}
+use Rattle.bench_report.specs.{Uncut.KeepsBytes, declared.power.Power.Power}
 use Rattle.bench_report.specs.Agree.{is_struck, IsCopyOf, ArmsIts, CutsIts, PokesIts, InspectsIts, StepsEnough}
 
 module _ (line l : Line) where
@@ -22,6 +22,9 @@ module _ (line l : Line) where
   pub inspects_by : (before : Power) (did : Result Answer AllocError) → line ≡ l → InspectsIts l before did → InspectsIts line before did
   inspects_by before did is it = subst (λ (x : Line). InspectsIts x before did) (sym is) it
 
+  pub keeps_by : line ≡ l → KeepsBytes l → KeepsBytes line
+  keeps_by is it = subst (λ (x : Line). KeepsBytes x) (sym is) it
+
 pub enough_by : (size : Size) (line l : Line) (before : Power) (slots : List (List ℕ)) (did : Result Answer AllocError) (left : Power) (now : List (List ℕ)) → line ≡ l
     → StepsEnough size l before slots did left now → StepsEnough size line before slots did left now
 enough_by size line l before slots did left now is it = subst (λ (x : Line). StepsEnough size x before slots did left now) (sym is) it
@@ -30,10 +33,15 @@ enough_by size line l before slots did left now is it = subst (λ (x : Line). St
 pub exact_by : (P : Answer → Type 0) (did : Result Answer AllocError) (a : Answer) → did ≡ Ok a → P a → IfOk did P
 exact_by P did a is it = subst (λ (x : Result Answer AllocError). IfOk x P) (sym is) it
 
--- the ranges of a line
-pub some_turns : (size : Size) (line : Line) (h n : ℕ) → line ≡ lines.Turn h n → IsLineInRange size line → 0 < n
-some_turns size line h n is range = let made = subst (λ (x : Line). IsLineInRange size x) is range in omega (arith, made.1)
+-- it is refused none; where one is refused, both hold
+pub no_refusal : (P : Type 0) (did : Result Answer AllocError) (a : Answer) → did ≡ Ok a → OnErr did P
+no_refusal P did a is = subst (λ (x : Result Answer AllocError). OnErr x P) (sym is) tt
 
+pub both_refused : (P Q : Type 0) (did : Result Answer AllocError) → P → OnErr did Q → OnErr did (P × Q)
+both_refused P Q (Ok a) p q = tt
+both_refused P Q (Err e) p q = (p, q)
+
+-- the ranges of a line
 pub few_bytes : (size : Size) (line : Line) (slot : ℕ) (bytes : List ℕ) → line ≡ lines.Payload slot bytes → IsLineInRange size line → length bytes ≤ 1024
 few_bytes size line slot bytes is range = (subst (λ (x : Line). IsLineInRange size x) is range).2
 

@@ -1,28 +1,15 @@
--- What is counted of refused memory: by each command and power-on, by a hart's turns and calls, by a line.
-use Rattle.std.proofs.Common.{◌≡◌, ◌⊎◌, ℕ, inl, inr, true, false, List, [], ◌∷◌, Option, None, Some, Result, Ok, Err, refl, sym, ◌∙◌, ap, subst}
-use Rattle.std.specs.Bool.{⊤}
+-- What is counted of refused memory: by each command and power-on, and by a line that no hart moves by.
+use Rattle.std.{proofs.Common.{◌≡◌, ◌⊎◌, ℕ, inl, inr, List, [], ◌∷◌, Option, None, Some, Result, Ok, Err, refl, sym, ◌∙◌, ap, subst}, specs.Bool.⊤}
 use Rattle.board.specs.{Boots.boot_refusal, Moments.commands_by}
-use Rattle.board_model.specs.{ConsoleCommands.console_change, Durable.{DurableState, Change, Reset, refusal_of}, Shapes.Size}
-use Rattle.board_model.specs.declared.{boot_mode.BootMode.BootMode, call_words.CallWords.CallWords, durable.Reason.Reason}
-use Rattle.board_model.specs.declared.console_command.ConsoleCommand.{ConsoleCommand}
+use Rattle.board_model.specs.{ConsoleCommands.console_change, Durable.{DurableState, Change, refusal_of}, Shapes.Size}
+use Rattle.board_model.specs.declared.{boot_mode.BootMode.BootMode, console_command.ConsoleCommand.ConsoleCommand}
 use Rattle.board_model.specs.declared.boot_mode.BootMode.TheVariants as modes
-use Rattle.disk.specs.FaultState.{FaultState}
-use Rattle.machine.specs.Machine.{hart_at}
 use Rattle.report_lines.specs.declared.printed.{Answer.Answer, Printed.Printed}
 use Rattle.report_lines.specs.declared.printed.Printed.TheVariants as printed
-use Rattle.sbi.specs.{Resets.reset_of, declared.{resets.ResetType.ResetType, words.{LifeEnd.LifeEnd, Word.Word}}}
-use Rattle.sbi.specs.declared.words.LifeEnd.TheVariants as life_ends
-use Rattle.sbi_abi.specs.{Calls.call_of, declared.{call.Call.Call, ret.SbiError.{SbiError, TheVariants.{Denied, Failed, NotSupported}}}}
-use Rattle.sbi_abi.specs.declared.call.Call.TheVariants as calls
-use Rattle.sbi_calls.specs.declared.words.Turned.{Turned, TheVariants.{Made, Durable}}
-use Rattle.script_lang.specs.declared.line.Line.{Line}
-use Rattle.susp.specs.declared.sleeps.Sleep.{Sleep, TheVariants.{ToDisk, ToRam}}
 use Rattle.bench_report.specs.{Asides.{Effect, Stays, aside, affected}, Bench.{DiskState, Blank, Unknown, Formatted, BenchLife, Bench}}
-use Rattle.bench_report.specs.{Commands.{IssuedBy, IssuesAll, Writes}, Deeds.{Deed, IsNoRow, deed_of}}
+use Rattle.bench_report.specs.{Commands.{IssuedBy, IssuesAll, Writes}, Deeds.{Deed, IsNoRow}, Steps.{ConsoleStep, DeedStep, FormatStep, OnStep}}
 use Rattle.bench_report.specs.Happens.{FailsByFault, SaysEnough, acknowledged, failed, formatted_anew, has_machine, in_doubt, off, on_with, settled, unknown}
 use Rattle.bench_report.specs.PowerOns.{Begins, Boots, BootsFrom, FormatsOn, IsBooted, Opens, PowersOn, life_begun}
-use Rattle.bench_report.specs.Steps.{CallStep, ConsoleStep, DeedStep, FormatStep, GuestCall, Moves, OnStep}
-use Rattle.bench_report.specs.Turns.{AnswersError, BenchFallsAsleep, BenchMakesCall, BenchSleeps, BenchSleepsBy, ComesTo, HartCommand, Resets, SuspendIssued, dozes, refused}
 use Rattle.bench_report.proofs.Questions.{IsAsked, is_asked}
 use Rattle.bench_report.specs.Deeds as deeds
 
@@ -30,9 +17,9 @@ use Rattle.bench_report.specs.Deeds as deeds
 abbrev pub Counts : Bench → Bench → Type 0
 Counts b new = new.growths ≡ b.growths
 
--- No more are counted; or there is a reason why one is, and nothing failed.
+-- no more are counted, or there is a reason why one is
 abbrev pub Grows : Type 0 → Bench → Bench → Type 0
-Grows Why b new = Counts b new ⊎ (Why × (new.fault_state ≡ b.fault_state))
+Grows Why b new = Counts b new ⊎ Why
 
 as_in : (b new n : Bench) → new ≡ n → Counts b n → Counts b new
 as_in b new n e is = ap (λ (x : Bench). x.growths) e ∙ is
@@ -107,104 +94,39 @@ module _ (z : Size) (s : DurableState) (b : Bench) (line : Printed) (new : Bench
   boots (Some n) mode x = inl (ap (λ (y : Bench). y.growths) x.1)
   boots None mode (inl x) = inl (begins mode x.1)
   boots None mode (inr (inl x)) = inl (ap (λ (y : Bench). y.growths) x.2)
-  boots None mode (inr (inr x)) = inr (refuses_as line (printed.OnRefused 11) x.1 (λ not. not refl), ap (λ (y : Bench). y.fault_state) x.2)
+  boots None mode (inr (inr x)) = inr (refuses_as line (printed.OnRefused 11) x.1 (λ not. not refl))
 
--- an open counts nothing, and nothing fails in one that finds a state
-abbrev Stays_as : Bench → Bench → Type 0
-Stays_as b new = Counts b new × (new.fault_state ≡ b.fault_state)
-
-stays_in : (b new n : Bench) → new ≡ n → Stays_as b n → Stays_as b new
-stays_in b new n e is = (ap (λ (x : Bench). x.growths) e ∙ is.0, ap (λ (x : Bench). x.fault_state) e ∙ is.1)
-
-opens : (size : Size) (m : DiskState) (b : Bench) (s : DurableState) (z : Size) (new : Bench) → Opens size m b s z new → Stays_as b new
+-- an open counts nothing
+opens : (size : Size) (m : DiskState) (b : Bench) (s : DurableState) (z : Size) (new : Bench) → Opens size m b s z new → Counts b new
 opens size Blank b s z new x = absurd x
-opens size Unknown b s z new x = stays_in b new b x (refl, refl)
-opens size Formatted b s z new (changes, may, found, sized, is) = stays_in b new (settled changes b) is (refl, refl)
+opens size Unknown b s z new x = as_in b new b x refl
+opens size Formatted b s z new (changes, may, found, sized, is) = as_in b new (settled changes b) is refl
 
-behind : {Why : Type 0} (b mid new : Bench) → Stays_as b mid → Grows Why mid new → Grows Why b new
-behind b mid new was (inl x) = inl (x ∙ was.0)
-behind b mid new was (inr x) = inr (x.0, x.1 ∙ was.1)
+behind : {Why : Type 0} (b mid new : Bench) → Counts b mid → Grows Why mid new → Grows Why b new
+behind b mid new was (inl x) = inl (keeps_then b mid new was x)
+behind b mid new was (inr x) = inr x
 
-pub power_grows : (size : Size) (mode : BootMode) (b : Bench) (a : Answer) (new : Bench) → PowersOn size mode b a new → Grows (Refuses a.line) b new
+power_grows : (size : Size) (mode : BootMode) (b : Bench) (a : Answer) (new : Bench) → PowersOn size mode b a new → Grows (Refuses a.line) b new
 power_grows size mode b a new (inl (s, z, mid, opened, shows_it, booted)) = behind b mid new (opens size b.disk_state b s z mid opened) (boots z s mid a.line new (boot_refusal s mode) mode booted)
 power_grows size mode b a new (inr (inl (n, refusal, e, is))) = inl (ap (λ (x : Bench). x.growths) is)
-power_grows size mode b a new (inr (inr (inl x))) = inr (refuses_as a.line (printed.OnRefused 11) (ap (λ (y : Answer). y.line) x.1) (λ not. not refl), ap (λ (y : Bench). y.fault_state) x.2)
+power_grows size mode b a new (inr (inr (inl x))) = inr (refuses_as a.line (printed.OnRefused 11) (ap (λ (y : Answer). y.line) x.1) (λ not. not refl))
 power_grows size mode b a new (inr (inr (inr x))) = inl (fails b b new x.1 refl)
 
 on_line : (size : Size) (mode : BootMode) (p : Option BenchLife) (b : Bench) (a : Answer) (new : Bench) → OnStep size p mode b a new → Grows (Refuses a.line) b new
 on_line size mode (Some life) b a new x = inl (ap (λ (y : Bench). y.growths) x.1)
 on_line size mode None b a new x = power_grows size mode b a new x
 
--- ---- what comes of what a hart did: where a refusal is counted nothing failed
-abbrev pub Comes : Bench → Bench → Type 0
-Comes b new = Grows ⊤ b new
-
-comes_then : (b mid new : Bench) → Comes b mid → Stays_as mid new → Comes b new
-comes_then b mid new (inl x) is = inl (is.0 ∙ x)
-comes_then b mid new (inr x) is = inr (x.0, is.1 ∙ x.1)
-
-module _ (h : ℕ) where
-  answers : (e : SbiError) (life : BenchLife) (b : Bench) (word : Word) (new : Bench) → AnswersError e h life b word new → Stays_as b new
-  answers e life b word new x = stays_in b new (on_with (refused h e life) b) x.1 (refl, refl)
-
-  command : (o : Result ℕ ℕ) (end : LifeEnd) (mid : Bench) (word : Word) (new : Bench) → HartCommand o end h mid word new → Stays_as mid new
-  command (Ok n) end mid word new x = stays_in mid new (off mid) x.1 (refl, refl)
-  command (Err n) end mid word new (life, on, x) = answers Failed life mid word new x
-
-  module _ (life : BenchLife) (b : Bench) (word : Word) (new : Bench) where
-    errs : (e : SbiError) → AnswersError e h life b word new → Comes b new
-    errs e x = comes_then b b new (inl refl) (answers e life b word new x)
-
-    resets : (asked : Result (ResetType × Reason) SbiError) → Resets asked h life b word new → Comes b new
-    resets (Err e) x = errs e x
-    resets (Ok reset) (o, mid, i, x) = comes_then b mid new (inl (issued_keeps life.doubt (Reset reset.1) life b o mid i)) (command o (life_ends.Reset reset.0) mid word new x)
-
-    suspends : (Fits : Type 0) (c : Change) (o : Result ℕ ℕ) (mid : Bench) → SuspendIssued Fits c life b o mid → Comes b mid
-    suspends Fits c o mid (inl x) = inl (issued_keeps life.doubt c life b o mid x.1)
-    suspends Fits c o mid (inr (inl x)) = inr (tt, ap (λ (y : Bench). y.fault_state) x.2)
-    suspends Fits c o mid (inr (inr x)) = inl (as_in b mid b x.2 refl)
-
-    falls : (sleep : Sleep) (site opaque : ℕ) → BenchFallsAsleep sleep site opaque h life b word new → Comes b new
-    falls ToRam site opaque x = inl (as_in b new (on_with (dozes h site opaque life) b) x.1 refl)
-    falls ToDisk site opaque (o, mid, i, x) = comes_then b mid new (suspends _ _ o mid i) (command o life_ends.Asleep mid word new x)
-
-    sleeps : (sleep : Sleep) (site opaque : ℕ) → BenchSleeps sleep site opaque h life b word new → Comes b new
-    sleeps sleep site opaque (inl x) = errs Denied x.1
-    sleeps sleep site opaque (inr x) = falls sleep site opaque x.1
-
-    sleeps_by : (asked : Result (Sleep × ℕ) SbiError) (opaque : ℕ) → BenchSleepsBy asked opaque h life b word new → Comes b new
-    sleeps_by (Err e) opaque x = errs e x
-    sleeps_by (Ok asked) opaque x = sleeps asked.0 asked.1 opaque x
-
-    makes : (call : Call) → BenchMakesCall call h life b word new → Comes b new
-    makes (calls.SystemReset kind reason) x = resets (reset_of kind reason) x
-    makes (calls.SystemSuspend kind address opaque) (asked, checked, x) = sleeps_by asked opaque x
-    makes call x = errs NotSupported x
-
-    comes_to : (did : Turned) → ComesTo did h life b word new → Comes b new
-    comes_to Durable x = makes (call_of (hart_at life.machine h)) x
-    comes_to (Made did) x = inl (as_in b new b x.1 refl)
-
-  called : (did : Option Turned) (life : BenchLife) (b : Bench) (a : Answer) (new : Bench) → GuestCall did h life b a new → Grows ⊤ b new
-  called None life b a new x = inl (ap (λ (y : Bench). y.growths) x.1)
-  called (Some did) life b a new (word, x, reported) = comes_to life b word new did x
-
-  pub call_grows : (p : Option BenchLife) (asked : CallWords) (b : Bench) (a : Answer) (new : Bench) → CallStep p h asked b a new → Grows ⊤ b new
-  call_grows None asked b a new x = inl (ap (λ (y : Bench). y.growths) x.1)
-  call_grows (Some life) asked b a new (inl (has, m, did, call, x)) = called did (has_machine m life) (on_with (has_machine m life) b) a new x
-  call_grows (Some life) asked b a new (inr x) = inl (ap (λ (y : Bench). y.growths) x.2)
-
 -- ---- a line that is no row of turns
 asked_line : (b : Bench) (a : Answer) (new : Bench) → IsAsked b a new → Grows (Refuses a.line) b new
 asked_line b a new (inl (said, none, e, is)) = inl (ap (λ (x : Bench). x.growths) is)
-asked_line b a new (inr (inl x)) = inr (refuses_as a.line (printed.InspectRefused 11) (ap (λ (y : Answer). y.line) x.0) (λ not. not refl), ap (λ (y : Bench). y.fault_state) x.1)
+asked_line b a new (inr (inl x)) = inr (refuses_as a.line (printed.InspectRefused 11) (ap (λ (y : Answer). y.line) x.0) (λ not. not refl))
 asked_line b a new (inr (inr x)) = inl (fails b b new x.1 refl)
 
 aside_line : (e : Effect) (b new : Bench) → new ≡ affected e b → Counts b new
 aside_line Stays b new x = ap (λ (y : Bench). y.growths) x
 aside_line e b new x = ap (λ (y : Bench). y.growths) x
 
--- why a refusal may be counted: a call's suspension was refused, or the line says so
+-- why a refusal may be counted: a call's suspension was refused, of which this says nothing, or the line says so
 abbrev pub Starves : Deed → Answer → Type 0
 Starves (deeds.Call h asked) a = ⊤
 Starves deed a = Refuses a.line
@@ -214,19 +136,11 @@ deed_grows size deeds.Format b a new other x = inl (format_line b.power b a new 
 deed_grows size (deeds.PowerOn mode) b a new other x = on_line size mode b.power b a new x
 deed_grows size (deeds.Issue c) b a new other x = inl (console_keeps c b.power b a new x)
 deed_grows size (deeds.Turns h n) b a new other x = absurd other
-deed_grows size (deeds.Call h asked) b a new other x = call_grows h b.power asked b a new x
+deed_grows size (deeds.Call h asked) b a new other x = inr tt
 deed_grows size (deeds.Ask question) b a new other x = asked_line b a new (is_asked size question b.power b a new x)
 deed_grows size (deeds.Beside act) b a new other x = inl (aside_line (aside act b.power b.payloads).1 b new x.1)
 
--- where it is none of these, or a cut struck
+-- where the line says nothing of it
 pub said_counts : (line : Printed) (b new : Bench) → SaysEnough line → Grows (Refuses line) b new → Counts b new
 said_counts line b new says_so (inl x) = x
-said_counts line b new says_so (inr x) = absurd (x.0 says_so)
-
-pub hit_counts : {Why : Type 0} (b new : Bench) → b.fault_state.struck ≡ false → new.fault_state.struck ≡ true → Grows Why b new → Counts b new
-hit_counts b new calm hit (inl x) = x
-hit_counts b new calm hit (inr x) = absurd (let no : true ≡ false = sym hit ∙ ap (λ (m : FaultState). m.struck) x.1 ∙ calm in let never : ⊥ = cc in never)
-
-pub moves_grow : (size : Size) (line : Line) (b : Bench) (a : Answer) (new : Bench) → b.fault_state.struck ≡ false → IsNoRow (deed_of line) → Moves size line b a new → Grows (Starves (deed_of line) a) b new
-moves_grow size line b a new calm other (inl x) = deed_grows size (deed_of line) b a new other x.0
-moves_grow size line b a new calm other (inr (would, mid, step, hit, e, is)) = inl (ap (λ (y : Bench). y.growths) is ∙ hit_counts b mid calm hit (deed_grows size (deed_of line) b would mid other step))
+said_counts line b new says_so (inr x) = absurd (x says_so)

@@ -1,5 +1,5 @@
 -- Lines that speak of memory and harts, or keep a payload, by what the code's board did.
-use Rattle.board_model.specs.{declared.{call_words.CallWords.CallWords, boot_mode.BootMode.BootMode}, Shapes.Size}
+use Rattle.board_model.specs.{declared.call_words.CallWords.CallWords, Shapes.Size}
 use Rattle.std.proofs.Common.{◌≡◌, inl, inr, slice_set, ℕ, List, length, Option, None, Some, Result, Ok, MatchResult, refl, sym, ◌∙◌, ap, subst}
 use Rattle.std.specs.declared.alloc.AllocError.{AllocError}
 use Rattle.script_lang.specs.declared.line.Line.{Line}
@@ -14,8 +14,8 @@ use Rattle.sbi_calls.specs.declared.words.Turned.{Turned}
 use Rattle.machine.specs.declared.line.MachineLine.TheVariants as shown
 use Rattle.bench_report.specs.{declared.power.{Power.{Power, TheVariants.{Off, On}}, OffDisk.OffDisk}, Bench.{BenchLife, Bench}}
 use Rattle.bench_report.{specs.Views.{SimStore, SimBoard, store_in, machine_in, store_facts, store_fault_state}, proofs.Dozed.call_size}
-use Rattle.bench_report.specs.{Happens.{shows, on_with, has_machine}, PowerOns.{FormatsOn, PowersOn}, Examined.{InspectsOn, InspectStep}}
-use Rattle.bench_report.specs.{Steps.{Step, FormatStep, OnStep, CallReported, GuestCall, TurnStep, CallStep, ReadStep}, Turns.ComesTo}
+use Rattle.bench_report.specs.{Happens.{shows, on_with, has_machine}, PowerOns.FormatsOn, Examined.{InspectsOn, InspectStep}}
+use Rattle.bench_report.specs.{Steps.{Step, FormatStep, CallReported, GuestCall, TurnStep, CallStep, ReadStep}, Turns.ComesTo}
 use Rattle.bench_report.proofs.{Commanded.{Running, running_on}, Came.{CountsRefused, Stands, has_other, comes, turns}}
 use Rattle.bench_report.{proofs.FailureFree.comes_free, specs.{Asides.AsideStep, Deeds.SetSlot}}
 use Rattle.bench_report.specs.Agree.{StoreIs, BoardIs, CountsNone, DeviceIs, HadEnough, OffIs, OnIs, BoardAfter, Agrees, IsBench, Matches, StaysOn, StepsEnough, StepsTo}
@@ -24,9 +24,6 @@ use Rattle.report_lines.specs.declared.printed.Answer.{Answer}
 -- a board that is off
 pub off_formats : (size : Size) (b : Bench) (a : Answer) (after : Power) → b.power ≡ None → StepsTo size b after (FormatsOn b.disk_state b a) → StepsTo size b after (FormatStep b.power b a)
 off_formats size b a after none did = let P : Option BenchLife → Type 0 = λ p. FormatStep p b a did.0 in (did.0, subst P (sym none) did.1, did.2, did.3)
-
-pub off_powers : (size : Size) (b : Bench) (mode : BootMode) (a : Answer) (after : Power) → b.power ≡ None → StepsTo size b after (PowersOn size mode b a) → StepsTo size b after (OnStep size b.power mode b a)
-off_powers size b mode a after none did = let P : Option BenchLife → Type 0 = λ p. OnStep size p mode b a did.0 in (did.0, subst P (sym none) did.1, did.2, did.3)
 
 pub off_inspects : (size : Size) (b : Bench) (a : Answer) (after : Power) → b.power ≡ None → StepsTo size b after (InspectsOn size b a) → StepsTo size b after (InspectStep size b.power b a)
 off_inspects size b a after none did = let P : Option BenchLife → Type 0 = λ p. InspectStep size p b a did.0 in (did.0, subst P (sym none) did.1, did.2, did.3)
@@ -82,9 +79,6 @@ on_turns size b old new h n made word after was has turned agrees = by b.power w
 lacks : (size : Size) (b : Bench) (board : SimBoard) (h : ℕ) (p : Option BenchLife) → BoardIs size b.disk_state b.kept p board → (HasHart (machine_in board) h → ⊥) → (step : Option BenchLife → Type 0) → ((life : BenchLife) → (HasHart life.machine h → ⊥) → step (Some life)) → step p
 lacks size b board h None is not step then = absurd is
 lacks size b board h (Some life) is not step then = let P : Machine → Type 0 = λ m. HasHart m h → ⊥ in then life (subst P is.1 not)
-
-pub turn_lacks : (size : Size) (b : Bench) (board : SimBoard) (h n : ℕ) → OnIs size b board → (HasHart (machine_in board) h → ⊥) → StepsTo size b (On board) (TurnStep b.power h n b (shows shown.Off))
-turn_lacks size b board h n was not = (b, lacks size b board h b.power was.0 not (λ p. TurnStep p h n b (shows shown.Off) b) (λ life no. inr (no, refl, refl)), was, refl)
 
 pub call_lacks : (size : Size) (b : Bench) (board : SimBoard) (h : ℕ) (asked : CallWords) → OnIs size b board → (HasHart (machine_in board) h → ⊥)
     → StepsTo size b (On board) (λ w. CallStep b.power h asked b (shows shown.Off) w × CountsNone (On board) b w)

@@ -25,7 +25,7 @@ use Rattle.bench_report.specs.Views.{SimStore, SimBoard, store_in, machine_in, d
 use Rattle.bench_report.specs.Bench.{DiskState, Blank, Unknown, Formatted, BenchLife, Bench}
 use Rattle.bench_report.specs.Sides.{SidesAre}
 use Rattle.bench_report.specs.Armings.{fault_of, newest_fill}
-use Rattle.bench_report.specs.Steps.{Step, Moves}
+use Rattle.bench_report.specs.Steps.{Step}
 use Rattle.bench_report.specs.Examined.{AnswersOf, OpensOf}
 use Rattle.bench_report.specs.Happens.{says}
 use Rattle.report_lines.specs.declared.printed.Answer.{Answer}
@@ -208,20 +208,13 @@ HadEnough (On board) = was_refused_memory (store_in board) ≡ false
 abbrev pub CountsNone : Power → Bench → Bench → Type 0
 CountsNone left b new = HadEnough left → new.growths ≡ b.growths
 
--- the same of a line of a call, as far as no armed cut strikes, and in a run
+-- the same of a line of a call, as far as no armed cut strikes
 abbrev pub StepsEnough : Size → Line → Power → List (List ℕ) → Result Answer AllocError → Power → List (List ℕ) → Type 0
 StepsEnough size (lines.Call h asked) before slots did left now =
     HadEnough left → (b : Bench) → IsBench size b before slots → IfOk did
     (λ answer. (new : Bench) × Step size (lines.Call h asked) b answer new × Matches size new left now
     × (new.growths ≡ b.growths))
 StepsEnough size line before slots did left now = ⊤
-
-abbrev pub MovesEnough : Size → Line → Power → List (List ℕ) → Result Answer AllocError → Power → List (List ℕ) → Type 0
-MovesEnough size (lines.Call h asked) before slots did left now =
-    HadEnough left → (b : Bench) → IsBench size b before slots → IfOk did
-    (λ answer. (new : Bench) × Moves size (lines.Call h asked) b answer new × IsBench size new left now
-    × (new.growths ≡ b.growths))
-MovesEnough size line before slots did left now = ⊤
 
 -- what a function that neither keeps a payload nor speaks of one says of a line: there is a bench after it by
 -- this step

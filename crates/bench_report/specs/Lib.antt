@@ -44,5 +44,5 @@ pub mod Agree
 pub mod Rows
 -- How a bench that is run line by line stands for the bench of the model.
 pub mod Lives
--- What a line tells that is run as far as no armed cut strikes.
+-- What a line does and tells that is run as far as no armed cut strikes.
 pub mod Uncut

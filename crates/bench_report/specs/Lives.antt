@@ -1,14 +1,13 @@
 -- How a bench that is run line by line stands for the bench of the model.
-use Rattle.std.specs.Prelude.{◌≡◌, ◌⊎◌, ⊤, ℕ, Bool, true, false, Some, Ok}
+use Rattle.std.specs.Prelude.{◌≡◌, ℕ, Bool, true, false, Some, Ok}
 use Rattle.board_model.specs.Shapes.{Size}
 use Rattle.sbi.specs.declared.words.Word.{Word}
 use Rattle.bench_report.specs.declared.power.Power.{Power}
 use Rattle.bench_report.specs.declared.power.Power.TheVariants.{Off, On}
 use Rattle.bench_report.specs.Bench.{Bench, BenchLife}
 use Rattle.bench_report.specs.Agree.{Agrees, ArmsIts, BoardAfter, CountsNone, CutsIts, EndsBy, HasDisk, InspectsOrLost, IsBench, IsCutBy, IsUnstruck, PokesIts}
-use Rattle.bench_report.specs.Happens.{says, unpowered}
+use Rattle.bench_report.specs.Happens.{unpowered}
 use Rattle.report_lines.specs.declared.printed.Answer.{Answer}
-use Rattle.report_lines.specs.declared.printed.Printed.TheVariants as printed
 use Rattle.script_lang.specs.declared.line.Line.{Line}
 use Rattle.simdisk.specs.declared.SimDisk.{SimDisk}
 use Rattle.simdisk.specs.declared.fill.Fill.{Fill}
@@ -23,11 +22,6 @@ Shows size b live = IsBench size b live.power live.payloads
 -- what the next line needs: no cut that struck is untold
 abbrev pub IsSound : LiveBench → Type 0
 IsSound live = IsUnstruck live.power
-
--- the board is on
-abbrev pub IsOn : Power → Type 0
-IsOn (Off off) = ⊥
-IsOn (On board) = ⊤
 
 -- a board that was on, after a turn with this word
 abbrev pub IsAfter : Size → Word → Bench → Power → Type 0
@@ -53,14 +47,6 @@ IsSettled word fill power left lost =
     (size : Size) (b : Bench) → IsAfter size word b power
     → (lost ≡ b.fault_state.struck) × (lost ≡ false → Agrees size b left) × (lost ≡ true → Agrees size (unpowered b) left)
     × (lost ≡ true → IsCutIn size fill b power left)
-
--- What a line answers and leaves, by what it would answer and leave if no armed cut struck: just this, where none did; else it answers
--- `power lost`, and power was cut by the fill.
-abbrev pub IsWholeOrCut : Size → Fill → Bench → Answer → Power → Answer → Power → Type 0
-IsWholeOrCut size fill b would power answer left =
-    ((b.fault_state.struck ≡ false) × (answer ≡ would) × Agrees size b left)
-    ⊎ ((b.fault_state.struck ≡ true) × (answer ≡ says printed.PowerLost) × Agrees size (unpowered b) left
-    × IsCutIn size fill b power left)
 
 -- what bench_report says of a line, beside what the bench of the model does: of the power before it and the power after it
 abbrev pub LineDid : Size → Line → Fill → Bench → Answer → Power → Power → Type 0

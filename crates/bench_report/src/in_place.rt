@@ -8,7 +8,7 @@ ghost use Rattle.bench_report.specs.Bench.{Bench};
 ghost use Rattle.bench_report.specs.Happens.{shows};
 ghost use Rattle.bench_report.specs.Steps.{TurnStep};
 ghost use Rattle.bench_report.specs.Views.{machine_in, store_in, store_fault_state};
-ghost use Rattle.bench_report.specs.Lives.{IsOn, WentInPlace};
+ghost use Rattle.bench_report.specs.Lives.{WentInPlace};
 ghost use Rattle.machine.specs.Shows.{HasHart};
 ghost use Rattle.machine.specs.declared.line.MachineLine.TheVariants as shown;
 ghost use Rattle.sbi.specs.Words.{life_goes_on};
@@ -68,7 +68,6 @@ pub fn in_place<C: Crew>(
         (TurnStep b.power hart count b (shows shown.Off) b)
         (λ did. WentInPlace size hart count b did.0 did.1 power.new) }
     ensures range { IfSome result (λ did. (1 ≤ did.0) × (did.0 ≤ count)) }
-    ensures on { IfSome result (λ did. IsOn power.new) }
     ensures none { IfNone result (power.new ≡ power.old) }
 {
     match power {

@@ -42,8 +42,8 @@ pub fn script_determines_report()
 }
 
 /// What `inspect` says with power off, at any point of a run without `poke` where memory was never refused and
-/// no failure of the disk was answered: `b` is the bench that some first lines of a script left. Of a blank
-/// disk it is refused 1. Of a formatted one it says what the commands acknowledged since the format make: the
+/// no failure of the disk was answered: `b` is the bench that some first lines of a script left. It is refused 1
+/// of a blank disk. It says of a formatted one what the commands acknowledged since the format make: the
 /// gate is the parity of their number, the live record is in its form, and the other one from the first command
 /// on; an image is seen where one stands. It leaves the bench as it was.
 pub fn inspections()

@@ -6,7 +6,6 @@
 
 mod armings;
 mod copies;
-mod cuts;
 mod in_place;
 mod laws;
 mod live;
@@ -30,7 +29,7 @@ pub use live::LiveBench;
 pub use off_lines::power_on;
 pub use power::{OffDisk, Power};
 pub use row_laws::{idle_turns_change_nothing, rows_join};
-pub use rows::{TurnRow, is_idle};
+pub use rows::TurnRow;
 pub use runs::{StoppedRun, run, run_left, run_left_with, run_with};
 pub use setting::{Setting, lane_by_lane};
-pub use steps::{arm_disk, cut, disk_left, refused_suspension, says_refused_memory, struck};
+pub use steps::{disk_left, says_refused_memory, struck};

@@ -1,37 +1,33 @@
 //! The bench between two lines.
 //! A law runs nothing, and tells the prover a fact: `blank_disks`.
 
-ghost use Rattle.std.specs.Prelude.{◌≡◌, ◌≤◌, false, length, IfOk, OnErr};
+ghost use Rattle.std.specs.Prelude.{◌≡◌, ◌≤◌, true, false, length, IfOk, OnErr};
 ghost use Rattle.simdisk.specs.declared.SimDisk.{SimDisk};
 ghost use Rattle.board_model.specs.Shapes.{Size};
-ghost use Rattle.bench_report.specs.Agree.{Agrees, OffIs, fill_after};
+ghost use Rattle.bench_report.specs.Agree.{Agrees, HasDisk, IsCutBy, OffIs, fill_after};
 ghost use Rattle.bench_report.specs.Bench.{Bench, bench_with};
-ghost use Rattle.bench_report.specs.Happens.{off};
+ghost use Rattle.bench_report.specs.Happens.{off, unpowered};
 ghost use Rattle.bench_report.specs.Steps.{Moves};
 ghost use Rattle.bench_report.specs.Views.{facts};
-ghost use Rattle.bench_report.specs.Deeds.{IsNoRow, deed_of};
-ghost use Rattle.bench_report.specs.Lives.{IsOn, IsSettled, IsSound, IsWholeOrCut, LineDid, Shows};
+ghost use Rattle.bench_report.specs.Lives.{IsSettled, IsSound, LineDid, Shows};
+ghost use Rattle.bench_report.specs.Uncut.{KeepsBytes};
 ghost use Rattle.bench_report.specs.Rows.{IsWithin, RowMoves, row_answer};
 ghost use Rattle.script_lang.specs.Lines.{IsLineInRange};
 ghost use Rattle.script_lang.specs.declared.line.Line.TheVariants as lines;
 ghost use Rattle.simdisk.specs.declared.fill.Fill.TheVariants as fills;
 ghost use Rattle.store.specs.Leaves.{IsIdle};
-ghost use denote.Param.Send.{IsSync};
 
-use crate::cuts::settled;
 use crate::in_place::{in_place, is_still_on};
-use crate::memory::was_refused;
-use crate::on_lines::console;
 use crate::power::{OffDisk, Power};
 use crate::rows::TurnRow;
 use crate::setting::Setting;
-use crate::steps::{disk_left, fill_after, line_with_cuts, lose_power, refused_suspension, struck};
+use crate::steps::{disk_left, lose_power, refused_suspension, says, struck};
 use board::Payloads;
 use board_model::{HartId, Shape};
 use core::mem::replace_with;
 use crew::Crew;
 use machine::Word;
-use report_lines::Answer;
+use report_lines::{Answer, Printed};
 use script_lang::Line;
 use simdisk::{Fill, SimDisk};
 use std::alloc::{AllocError, Global};
@@ -48,47 +44,6 @@ pub struct LiveBench {
     pub fill: Fill,
     /// Whether memory was refused: to a power-on, to an examination of the disk, or to a suspension, whose hart is told -1.
     pub refused: bool,
-}
-
-/// A bench after a line that is no row of turns, and what the line answers. It moves the board. It is passed by name, and so asks for
-/// `sync`, which the bound of `C` would give it else.
-fn after_line<C: Crew>(
-    bench: LiveBench,
-    asked: (&Setting<'_, C>, &Line),
-) -> (LiveBench, Result<Answer, AllocError>)
-    requires sync { IsSync C.Handle.row }
-    requires range { IsLineInRange asked.0.now.shape.now asked.1.now }
-    requires other { IsNoRow (deed_of asked.1.now) }
-    requires sound { IsSound bench }
-    ensures reported { IfOk result.1 (λ answer. (b : Bench) → Shows asked.entry.0.now.shape.now b bench
-        → (new : Bench) × Moves asked.entry.0.now.shape.now asked.entry.1.now b answer new × Shows asked.entry.0.now.shape.now new result.0) }
-    ensures well { result.0.refused ≡ false → IfOk result.1 (λ answer. (b : Bench) → Shows asked.entry.0.now.shape.now b bench
-        → (new : Bench) × Moves asked.entry.0.now.shape.now asked.entry.1.now b answer new × Shows asked.entry.0.now.shape.now new result.0
-        × (new.growths ≡ b.growths)) }
-    ensures does { IfOk result.1 (λ answer. (b : Bench) → Shows asked.entry.0.now.shape.now b bench
-        → LineDid asked.entry.0.now.shape.now asked.entry.1.now result.0.fill b answer bench.power result.0.power) }
-    ensures stopped { OnErr result.1 ((b : Bench) → Shows asked.entry.0.now.shape.now b bench → Shows asked.entry.0.now.shape.now b result.0) }
-    ensures sound { IsSound result.0 }
-    ensures fill { result.0.fill ≡ fill_after asked.entry.1.now bench.fill }
-    ensures slots { length result.0.payloads ≡ length bench.payloads }
-{
-    let (setting, line) = asked;
-    let LiveBench {
-        power,
-        mut payloads,
-        fill,
-        ..
-    } = bench;
-    let fill = fill_after(line, fill);
-    let (power, answer) = line_with_cuts(setting, line, power, &mut payloads, fill);
-    let refused = was_refused(&power, &answer);
-    let after = LiveBench {
-        power,
-        payloads,
-        fill,
-        refused,
-    };
-    (after, answer)
 }
 
 impl LiveBench {
@@ -142,6 +97,7 @@ impl LiveBench {
         ensures does { IfOk result (λ answer. (b : Bench) → Shows setting.now.shape.now b self.old
             → LineDid setting.now.shape.now line.now self.new.fill b answer self.old.power self.new.power) }
         ensures stopped { OnErr result ((b : Bench) → Shows setting.now.shape.now b self.old → Shows setting.now.shape.now b self.new) }
+        ensures refused { OnErr result (KeepsBytes line.now) }
         ensures sound { IsSound self.new }
         ensures fill { self.new.fill ≡ fill_after line.now self.old.fill }
         ensures slots { length self.new.payloads ≡ length self.old.payloads }
@@ -151,29 +107,35 @@ impl LiveBench {
                 let row = self.turns(setting, *hart, *count);
                 Ok(row.answer(*hart))
             }
-            Line::Command(command) => {
-                let answer = console(*command, &mut self.power);
-                Ok(self.settle_command(answer))
+            _ => {
+                let (answer, _now) = self.alone(setting, line)?;
+                if self.strike() {
+                    Ok(says(Printed::PowerLost))
+                } else {
+                    Ok(answer)
+                }
             }
-            _ => replace_with(self, (setting, line), after_line),
         }
     }
 
-    /// Settles a board after a command of the console, which answered so. Where an armed cut struck in it, power is lost, and the answer is
-    /// `power lost`. This is a function of its own, since it moves the board, which `run` is to do only where power is lost.
-    fn settle_command(&mut self, answer: Answer) -> Answer
-        ensures settled { (size : Size) (b : Bench) → Agrees size b self.old.power
-            → IsWholeOrCut size self.old.fill b answer self.old.power result self.new.power }
+    /// Takes power where an armed cut has struck, and answers whether one has: what was written since the last sync holds what the newest
+    /// armed cut is to leave. The board is moved only then.
+    fn strike(&mut self) -> bool
+        ensures told { (size : Size) (b : Bench) → Agrees size b self.old.power → result ≡ b.fault_state.struck }
+        ensures kept { result ≡ false → self.new.power ≡ self.old.power }
+        ensures lost { result ≡ true → (size : Size) (b : Bench) → Agrees size b self.old.power
+            → Agrees size (unpowered b) self.new.power }
+        ensures exact { result ≡ true → (disk : SimDisk) × HasDisk self.old.power disk × IsCutBy self.old.fill disk self.new.power }
         ensures sound { IsSound self.new }
         ensures payloads { self.new.payloads ≡ self.old.payloads }
         ensures fill { self.new.fill ≡ self.old.fill }
+        ensures memory { self.new.refused ≡ self.old.refused }
     {
         if struck(&self.power) {
-            self.refused = false;
-            return replace_with(&mut self.power, self.fill, lose_power);
+            replace_with(&mut self.power, self.fill, lose_power);
+            return true;
         }
-        self.refused = refused_suspension(&self.power);
-        answer
+        false
     }
 
     /// Up to `count` turns of a hart, one after another: what the line `turn` does, and many times as fast, since
@@ -211,17 +173,17 @@ impl LiveBench {
     /// Settles a board that is on after turns: `word` is what was said of the last. Answers whether an armed cut struck in them.
     /// This is a function of its own, since it moves the board, which `turns` is to do only where a row has ended.
     fn settle(&mut self, word: Word) -> bool
-        requires on { IsOn self.old.power }
         ensures settled { IsSettled word self.old.fill self.old.power self.new.power result }
         ensures sound { IsSound self.new }
         ensures payloads { self.new.payloads ≡ self.old.payloads }
         ensures fill { self.new.fill ≡ self.old.fill }
         ensures memory { self.new.refused ≡ self.old.refused }
     {
-        replace_with(&mut self.power, (word, self.fill), settled)
+        self.end(word);
+        self.strike()
     }
 
-    /// Lets go of a bench. That of its board's many parts is proved here, and not for each function that has a bench.
+    /// Lets go of a bench. The proof for its board's many parts is made here, and not for each function that has a bench.
     pub fn release(self) {}
 
     /// The disk of a bench that goes no further, of a board whose power is off.

@@ -12,7 +12,7 @@ ghost use Rattle.bench_report.specs.Asides.{AsideStep};
 ghost use Rattle.bench_report.specs.Deeds.{SetSlot, WritePast};
 ghost use Rattle.bench_report.specs.Steps.{FormatStep, OnStep};
 ghost use Rattle.simdisk.specs.declared.SimDisk.{SimDisk};
-ghost use Rattle.bench_report.specs.Agree.{Pokes, Inspects, OpensAt, Agrees, OffIs, IsBench, Matches, StepsTo};
+ghost use Rattle.bench_report.specs.Agree.{Pokes, Inspects, OpensAt, Agrees, OffIs, IsBench, IsUnstruck, Matches, StepsTo};
 
 use crate::power::{OffDisk, Power};
 use crate::steps::says;
@@ -124,22 +124,23 @@ pub(crate) fn inspect_line(alloc: Global, power: Power) -> (Power, Answer)
     }
 }
 
-pub(crate) fn on_line(
-    alloc: Global,
-    mode: BootMode,
+/// Powers a board on that is off, by that mode and with these payloads. Answers what it says and, where the open found a state, the one
+/// then. It is passed by name.
+pub(crate) fn powered(
     power: Power,
-    payloads: &Payloads,
-) -> (Power, Answer)
-    ensures reported { (size : Size) (b : Bench) → IsBench size b power payloads.now
-        → StepsTo size b result.0 (OnStep size b.power mode b result.1) }
-    ensures exact { OpensAt power result.1 }
+    asked: (Global, BootMode, &Payloads),
+) -> (Power, (Answer, Option<Durable>))
+    ensures said { (size : Size) (b : Bench) → Agrees size b power → asked.entry.2.now ≡ b.payloads
+        → StepsTo size b result.0 (λ new. OnStep size b.power asked.entry.1 b result.1.0 new × TellsNow result.1.0.found result.1.1 new) }
+    ensures exact { OpensAt power result.1.0 }
 {
+    let (alloc, mode, payloads) = asked;
     match power {
-        Power::Off(disk) => {
-            let (power, answer, _now) = power_on(alloc, mode, disk, payloads);
-            (power, answer)
+        Power::Off(off) => {
+            let (power, answer, now) = power_on(alloc, mode, off, payloads);
+            (power, (answer, now))
         }
-        Power::On(board) => (Power::On(board), says(Printed::Busy)),
+        Power::On(board) => (Power::On(board), (says(Printed::Busy), None)),
     }
 }
 
@@ -181,6 +182,7 @@ pub(crate) fn poke_line(
     ensures reported { (size : Size) (b : Bench) → Agrees size b power → MatchResult result.1
         (λ answer. StepsTo size b result.0 (AsideStep WritePast b.power b answer)) (λ e. Agrees size b result.0) }
     ensures pokes { OnOk result.1 (Pokes sector offset bytes.now power result.0) }
+    ensures calm { OnErr result.1 (IsUnstruck result.0) }
 {
     kept_disks::<SimDisk>();
     match power {

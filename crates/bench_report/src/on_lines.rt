@@ -1,15 +1,15 @@
 //! Lines that ask something of a board that is on.
 
-ghost use Rattle.std.specs.Prelude.{◌≡◌, false, ◌<◌, Some, None, Ok, Err};
+ghost use Rattle.std.specs.Prelude.{◌≡◌, Some, None, Ok, Err};
 ghost use Rattle.board_model.specs.Shapes.{Size};
-ghost use Rattle.bench_report.specs.Views.{disk_in, store_in, store_fault_state};
+ghost use Rattle.bench_report.specs.Views.{disk_in};
 ghost use Rattle.bench_report.specs.Bench.{Bench, BenchLife};
 ghost use Rattle.bench_report.specs.Happens.{says, shows};
 ghost use Rattle.bench_report.specs.Asides.{AsideStep};
 ghost use Rattle.bench_report.specs.Deeds.{CallWake};
-ghost use Rattle.bench_report.specs.Steps.{ConsoleStep, TurnStep, CallStep};
+ghost use Rattle.bench_report.specs.Steps.{ConsoleStep, CallStep};
 ghost use Rattle.simdisk.specs.declared.SimDisk.{SimDisk};
-ghost use Rattle.bench_report.specs.Agree.{CountsNone, HasDisk, StaysOn, Agrees, OnIs, BoardAfter, IsUnstruck, StepsTo};
+ghost use Rattle.bench_report.specs.Agree.{CountsNone, HasDisk, StaysOn, Agrees, OnIs, BoardAfter, StepsTo};
 
 use crate::power::{OffDisk, Power};
 use crate::steps::says;
@@ -72,44 +72,6 @@ pub fn after(board: Board<SimDisk>, word: Word) -> Power
         Word::Over(_) => Power::Off(OffDisk {
             disk: board.into_disk(),
         }),
-    }
-}
-
-/// Turns of a hart of a board that is on.
-fn turn<C: Crew>(
-    alloc: Global,
-    crew: &C,
-    mut board: Board<SimDisk>,
-    hart: HartId,
-    count: u32,
-) -> (Power, MachineLine)
-    requires some { 0 < count }
-    requires calm { (store_fault_state (store_in board)).struck ≡ false }
-    ensures { (size : Size) (b : Bench) → OnIs size b board
-        → StepsTo size b result.0 (TurnStep b.power hart count b (shows result.1)) }
-{
-    if !board.machine().has(hart) {
-        return (Power::On(board), MachineLine::Off);
-    }
-    let (made, word) = board.turns(alloc, crew, hart, count);
-    (after(board, word), MachineLine::Turn(hart, made, word))
-}
-
-pub(crate) fn turn_line<C: Crew>(
-    alloc: Global,
-    crew: &C,
-    hart: HartId,
-    count: u32,
-    power: Power,
-) -> (Power, MachineLine)
-    requires some { 0 < count }
-    requires calm { IsUnstruck power }
-    ensures { (size : Size) (b : Bench) → Agrees size b power
-        → StepsTo size b result.0 (TurnStep b.power hart count b (shows result.1)) }
-{
-    match power {
-        Power::Off(disk) => (Power::Off(disk), MachineLine::Off),
-        Power::On(board) => turn(alloc, crew, board, hart, count),
     }
 }
 

@@ -14,7 +14,7 @@ pub enum TurnRow {
     Off,
     /// So many turns were made. The word says what the last one did.
     Made(u32, Word),
-    /// So many turns were made. In the last one an armed cut struck, and power is lost.
+    /// So many turns were made. An armed cut struck in the last one, and power is lost.
     Lost(u32),
 }
 

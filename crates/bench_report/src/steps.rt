@@ -1,22 +1,22 @@
 //! One line of a script.
 //! A law runs nothing, and tells the prover a fact: `kept_disks`.
 
-ghost use Rattle.std.specs.Prelude.{◌≡◌, false, ◌<◌, length, None, Ok, Err, IfOk, OnOk, MatchResult};
+ghost use Rattle.std.specs.Prelude.{◌≡◌, true, false, ◌<◌, length, None, Ok, Err, OnErr, MatchResult};
 ghost use Rattle.board_model.specs.Shapes.{Size};
 ghost use Rattle.script_lang.specs.Lines.{IsLineInRange};
 ghost use Rattle.store.specs.Leaves.{IsIdle};
 ghost use Rattle.bench_report.specs.Views.{arms, facts};
 ghost use Rattle.bench_report.specs.Bench.{Bench};
 ghost use Rattle.bench_report.specs.Happens.{armed_with, off, SaysEnough, unpowered, says, shows};
-ghost use Rattle.bench_report.specs.Steps.{ArmStep, Step, Moves};
+ghost use Rattle.bench_report.specs.Steps.{ArmStep, Step};
+ghost use Rattle.bench_report.specs.Uncut.{IsOtherLine, KeepsBytes};
 ghost use Rattle.simdisk.specs.declared.SimDisk.{SimDisk};
-ghost use Rattle.report_lines.specs.declared.printed.Printed.TheVariants as printed;
-ghost use Rattle.bench_report.specs.Agree.{HasDisk, IsCutBy, IsArmed, ArmsIts, CutsIts, MovesEnough, PokesIts, StepsEnough, InspectsIts, InspectsOrLost, fill_after, EndsBy, Agrees, HadEnough, OffIs, IsBench, IsUnstruck, Matches, StepsTo};
+ghost use Rattle.bench_report.specs.Agree.{HasDisk, IsCutBy, IsArmed, ArmsIts, CutsIts, PokesIts, StepsEnough, InspectsIts, fill_after, Agrees, HadEnough, OffIs, IsBench, IsUnstruck, Matches, StepsTo};
 
 use crate::armings::{fault_of, newest_fill};
 use crate::looks::look_line;
-use crate::off_lines::{format_line, inspect_line, on_line, payload_line, poke_line};
-use crate::on_lines::{call_line, console, turn_line, wake_line};
+use crate::off_lines::{format_line, inspect_line, payload_line, poke_line};
+use crate::on_lines::{call_line, wake_line};
 use crate::power::{OffDisk, Power};
 use crate::setting::Setting;
 use board::Payloads;
@@ -60,14 +60,13 @@ pub fn cut(power: Power, fill: Fill) -> Power
     })
 }
 
-/// Takes power from a board on whose disk an armed cut struck within a line, and answers what the line says then.
-pub(crate) fn lose_power(power: Power, fill: Fill) -> (Power, Answer)
+/// Takes power from a board, as [`cut`] does, in its place.
+pub(crate) fn lose_power(power: Power, fill: Fill) -> (Power, ())
     ensures reported { (size : Size) (b : Bench) → Agrees size b power → Agrees size (unpowered b) result.0 }
     ensures exact { (disk : SimDisk) × HasDisk power disk × IsCutBy fill disk result.0 }
     ensures calm { IsUnstruck result.0 }
-    ensures tells { result.1 ≡ says printed.PowerLost }
 {
-    (cut(power, fill), says(Printed::PowerLost))
+    (cut(power, fill), ())
 }
 
 /// Arms a cut or a failure of a disk of a board that is off, or of one of its lanes, in the place of an older one.
@@ -120,7 +119,8 @@ pub fn struck(power: &Power) -> bool
 
 /// Whether a line says that memory was refused, to a power-on or to an examination of the disk.
 pub fn says_refused_memory(said: Printed) -> bool
-    ensures { result ≡ false → SaysEnough said }
+    ensures enough { result ≡ false → SaysEnough said }
+    ensures refused { result ≡ true → SaysEnough said → ⊥ }
 {
     match said {
         Printed::OnRefused(number) => number == 11,
@@ -131,7 +131,8 @@ pub fn says_refused_memory(said: Printed) -> bool
 
 /// Whether memory was refused to a suspension in the life of a board that is on.
 pub fn refused_suspension(power: &Power) -> bool
-    ensures { result ≡ false → HadEnough power.now }
+    ensures enough { result ≡ false → HadEnough power.now }
+    ensures refused { result ≡ true → HadEnough power.now → ⊥ }
 {
     match power {
         Power::Off(_) => false,
@@ -157,8 +158,8 @@ fn shown(did: (Power, MachineLine)) -> (Power, Result<Answer, AllocError>)
     (after, Ok(says(Printed::Shown(line))))
 }
 
-/// One line of a script, as far as no armed cut strikes. Refused only where there is no memory for a payload
-/// or a poke, and then the bench is as it was.
+/// A line of a script but a power-on, a command of the console and a row of turns, as far as no armed cut strikes. Refused only where there
+/// is no memory for a payload or a poke, and then the bench is as it was.
 pub fn line_alone<C: Crew>(
     setting: &Setting<'_, C>,
     line: &Line,
@@ -166,6 +167,7 @@ pub fn line_alone<C: Crew>(
     payloads: &mut Payloads,
 ) -> (Power, Result<Answer, AllocError>)
     requires range { IsLineInRange setting.now.shape.now line.now }
+    requires other { IsOtherLine line.now }
     requires calm { IsUnstruck power }
     ensures reported { (b : Bench) → IsBench setting.now.shape.now b power payloads.old → MatchResult result.1
         (λ answer. (new : Bench) × Step setting.now.shape.now line.now b answer new
@@ -177,16 +179,11 @@ pub fn line_alone<C: Crew>(
     ensures inspects { InspectsIts line.now power result.1 }
     ensures enough { StepsEnough setting.now.shape.now line.now power payloads.old result.1 result.0 payloads.new }
     ensures slots { length payloads.new ≡ length payloads.old }
+    ensures refused { OnErr result.1 (KeepsBytes line.now × IsUnstruck result.0) }
 {
     let Setting { alloc, crew, shape } = *setting;
     match line {
         Line::Format => answered(format_line(shape, power)),
-        Line::On(mode) => answered(on_line(alloc, *mode, power, payloads)),
-        Line::Command(command) => {
-            let mut power = power;
-            let answer = console(*command, &mut power);
-            (power, Ok(answer))
-        }
         Line::Cut(fill) => (cut(power, *fill), Ok(says(Printed::Cut))),
         Line::Payload(slot, bytes) => {
             match payload_line(alloc, *slot, bytes, &power, payloads) {
@@ -194,48 +191,12 @@ pub fn line_alone<C: Crew>(
                 Err(refusal) => (power, Err(refusal)),
             }
         }
-        Line::Turn(hart, count) => shown(turn_line(alloc, crew, *hart, *count, power)),
         Line::Call(hart, words) => shown(call_line(alloc, crew, *hart, *words, power)),
         Line::Show(look) => shown(look_line(*look, power)),
         Line::Arm(arming) => answered(arm(power, fault_of(*arming))),
         Line::Poke(sector, offset, bytes) => poke_line(*sector, *offset, bytes, power),
         Line::Inspect => answered(inspect_line(alloc, power)),
         Line::Wake => answered(wake_line(power)),
-    }
-}
-
-/// One line of a script, with the cut that a line before it may have armed. Where that cut strikes within the
-/// line, the answer is `power lost`, the board is off, and what was written since the last sync holds what the
-/// newest armed cut is to leave after this line (`fill`). Refused as [`line_alone`] is: only where there is no memory
-/// for a payload or a poke, and then the bench is as it was. Source: docs/SCRIPT.md.
-pub(crate) fn line_with_cuts<C: Crew>(
-    setting: &Setting<'_, C>,
-    line: &Line,
-    power: Power,
-    payloads: &mut Payloads,
-    fill: Fill,
-) -> (Power, Result<Answer, AllocError>)
-    requires range { IsLineInRange setting.now.shape.now line.now }
-    requires calm { IsUnstruck power }
-    ensures reported { (b : Bench) → IsBench setting.now.shape.now b power payloads.old → MatchResult result.1
-        (λ answer. (new : Bench) × Moves setting.now.shape.now line.now b answer new
-        × EndsBy setting.now.shape.now line.now fill b answer result.0
-        × IsBench setting.now.shape.now new result.0 payloads.new)
-        (λ e. Matches setting.now.shape.now b result.0 payloads.new) }
-    ensures calm { IsUnstruck result.0 }
-    ensures arms { (b : Bench) → IsBench setting.now.shape.now b power payloads.old → OnOk result.1 (ArmsIts line.now result.0) }
-    ensures cuts { (b : Bench) → IsBench setting.now.shape.now b power payloads.old → CutsIts line.now power result.0 }
-    ensures pokes { (b : Bench) → IsBench setting.now.shape.now b power payloads.old
-        → PokesIts line.now power result.1 result.0 }
-    ensures inspects { IfOk result.1 (InspectsOrLost line.now power) }
-    ensures enough { MovesEnough setting.now.shape.now line.now power payloads.old result.1 result.0 payloads.new }
-    ensures slots { length payloads.new ≡ length payloads.old }
-{
-    let (after, answer) = line_alone(setting, line, power, payloads);
-    if struck(&after) {
-        let (left, lost) = lose_power(after, fill);
-        (left, Ok(lost))
-    } else {
-        (after, answer)
+        Line::On(_) | Line::Command(_) | Line::Turn(..) => unreachable!(),
     }
 }

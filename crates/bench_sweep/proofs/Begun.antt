@@ -3,13 +3,13 @@ use Rattle.std.proofs.Common.{◌≡◌, ◌<◌, ◌+◌, ◌++◌, ◌∷◌, 
 use Rattle.board_model.specs.{Durable.{Change, CarriesWhole}, Kept.{Kept, nothing_kept}, Shapes.Size}
 use Rattle.script_lang.specs.declared.line.Line.{Line}
 use Rattle.script_lang.specs.declared.line.Line.TheVariants as lines
-use Rattle.bench_report.specs.{declared.power.OffDisk.OffDisk, Bench.{DiskState, Blank, Unknown, Formatted, BenchLife, Bench, bench_with}}
-use Rattle.bench_report.specs.{Happens.{says, off, formatted_anew}, PowerOns.FormatsOn, Steps.{FormatStep, Step, Moves, Run}, Lives.Shows}
-use Rattle.bench_report.{proofs.RunLines.run_more, specs.{Agree.{OffIs, Agrees}, declared.live.LiveBench.LiveBench}}
+use Rattle.bench_report.specs.Bench.{DiskState, Blank, Unknown, Formatted, BenchLife, Bench, bench_with}
+use Rattle.bench_report.specs.{Happens.{says, formatted_anew}, PowerOns.FormatsOn, Steps.{FormatStep, Step, Moves, Run}, Lives.Shows}
+use Rattle.bench_report.{proofs.RunLines.run_more, specs.declared.live.LiveBench.LiveBench}
 use Rattle.report_lines.specs.declared.printed.{Answer.Answer, Printed.Printed}
 use Rattle.report_lines.specs.declared.printed.Printed.TheVariants as printed
 use Rattle.bench_sweep.specs.{declared.ledgers.RunLedger.RunLedger, Ledgers.Tells, Made.IsFormatted}
-use Rattle.bench_sweep.specs.Runs.{TellsWhole, RunsAt, Begins, Begun, Formats}
+use Rattle.bench_sweep.specs.Runs.{TellsWhole, Runs, Begins, Begun, Formats}
 
 -- ---- the line that formats the disk
 abbrev Fresh : Bench → Bench → Type 0
@@ -77,18 +77,16 @@ begins_more size start lines i line d live b new answers a less is run moves sho
       enough = enough;
     }
 
--- ---- the site after it
-pub site_runs : (size : Size) (start : List (List ℕ)) (lines : List Line) (live : LiveBench) (disk : OffDisk) (ledger : RunLedger) → Begun size start lines live → ((z : Size) (b : Bench) → Agrees z b live.power → OffIs z (off b) disk.disk) → Tells ledger nothing_kept
-    → (b : Bench) × IsFormatted size start lines b × RunsAt size (off b) (record { off = disk; payloads = live.payloads; ledger = ledger })
-site_runs size start lines live disk ledger g ends tells =
-    let P : Kept → Type 0 = λ k. TellsWhole size ledger k in
-    let doubt : (c : Change) → None ≡ Some c → CarriesWhole size c = λ c e. absurd (let no : ⊥ = cc in no) in
-    let at : OffIs size (off g.bench) disk.disk = ends size g.bench g.shows.0 in (
-      g.bench,
-      record { before = g.before; last = g.last; run = g.run; formats = g.formats },
-      record {
-        agrees = at;
+-- ---- the run that begins with it
+module _ (size : Size) (start : List (List ℕ)) (lines : List Line) (live : LiveBench) where
+  pub formatted_by : (g : Begun size start lines live) → IsFormatted size start lines g.bench
+  formatted_by g = record { before = g.before; last = g.last; run = g.run; formats = g.formats }
+
+  pub begun_runs : (ledger : RunLedger) (g : Begun size start lines live) → Tells ledger nothing_kept → Runs size g.bench (record { bench = live; ledger = ledger })
+  begun_runs ledger g tells =
+      let P : Kept → Type 0 = λ k. TellsWhole size ledger k in
+      let doubt : (c : Change) → None ≡ Some c → CarriesWhole size c = λ c e. absurd (let no : ⊥ = cc in no) in record {
+        agrees = g.shows.0;
         same = g.shows.1;
         follows = record { formatted = g.formatted; kept = subst P (sym g.kept) (record { tells = tells; whole = tt; doubt = doubt }); enough = g.enough };
-      },
-    )
+      }

@@ -24,9 +24,9 @@ use Rattle.script_lang.specs.declared.line.Line.{Line}
 use Rattle.script_lang.specs.declared.line.Line.TheVariants as lines
 use Rattle.bench_sweep.specs.{declared.{ledgers.RunLedger.RunLedger, site.Going.Going}, Ledgers.Tells, Lines.LineMoves, Made.shows}
 use Rattle.bench_sweep.specs.{Resumes.{asked_resumes, line_resumes, Resumes}, declared.site.Site.Site, Swept.IsPlainLine}
-use Rattle.bench_sweep.specs.Runs.{TellsWhole, Follows, Runs, RunsAt, RunsCalm, LeftAt, LeftOff, IsSpoilt, FindsState, Finds, PowerFinds}
-use Rattle.bench_sweep.{specs.Told.{ShowsEnoughMemory, is_boot, moves_harts, powers_on, LineTold}, proofs.Followed.whole_found}
-use Rattle.bench_sweep.proofs.{Fed.line_grows, Told.line_tells}
+use Rattle.bench_sweep.specs.Runs.{TellsWhole, Follows, Runs, RunsAt, RunsCalm, LeftOff, IsSpoilt, FindsState, Finds, PowerFinds}
+use Rattle.bench_sweep.{specs.Told.{is_boot, moves_harts, powers_on, LineTold}, proofs.Followed.whole_found}
+use Rattle.bench_sweep.proofs.Told.{line_tells}
 
 -- ---- a power cut
 pub left_off : KeepsOn → (size : Size) (b : Bench) (old new : SimDisk) → OffIs size b old → IsLeft (facts old) (facts new) → fault_state new ≡ fault_state_left (fault_state old) → OffIs size (unpowered b) new
@@ -50,16 +50,6 @@ pub left_by : (size : Size) (b : Bench) (site : Site) (disk : OffDisk) (slots : 
 left_by size b site disk slots ledger r cut same tells =
     let f = tells_on size b site.ledger ledger r.follows tells in
     record { off = cut; same = same ∙ r.same; follows = record { formatted = f.formatted; kept = f.kept; enough = f.enough }; left = refl }
-
--- nothing has struck it
-pub calm_off : (size : Size) (b : Bench) (site : Site) (going : Going) → going.bench.power ≡ Off site.off → going.bench.payloads ≡ site.payloads → going.ledger ≡ site.ledger → LeftAt size b site → RunsCalm size b going
-calm_off size b site going power slots ledger l =
-    let P : Power → Type 0 = λ p. Agrees size b p in
-    let L : RunLedger → Type 0 = λ x. Follows size b x in
-    record { agrees = subst P (sym power) l.off; same = slots ∙ l.same; follows = subst L (sym ledger) l.follows; calm = ap (λ (m : FaultState). m.struck) l.left }
-
-pub off_sits : (size : Size) (b : Bench) (site : Site) → LeftAt size b site → RunsAt size b site
-off_sits size b site l = record { agrees = l.off; same = l.same; follows = l.follows }
 
 -- a cut or a failure is armed
 pub armed_runs : (size : Size) (b : Bench) (old new : Going) (fault is : ArmedFault) → fault ≡ is → RunsCalm size b old → ((z : Size) (c : Bench) → Agrees z c old.bench.power → Agrees z (armed_with fault c) new.bench.power) → new.bench.payloads ≡ old.bench.payloads
@@ -115,27 +105,27 @@ pub no_serials : (line : Line) (a : Answer) (was ledger : RunLedger) → powers_
 no_serials line a was ledger unasked same =
     let P : List ℕ → Type 0 = λ xs. Resumes was ledger xs in subst P (sym (still_resumes (asked_by line) a unasked)) (same_serials was ledger same)
 
--- a line that moves no hart, as far as no armed cut strikes, and what it says of the state
+-- a line that moves no hart, as far as no armed cut strikes, and what it says of the state; memory was refused to none
 abbrev pub Said : Size → Line → LiveBench → Answer → Option Durable → LiveBench → Type 0
-Said size line old answer now new = (b : Bench) → Shows size b old → (x : Bench) × Step size line b answer x × TellsIts line answer now x × Matches size x new.power new.payloads
+Said size line old answer now new = (b : Bench) → Shows size b old → (x : Bench) × Step size line b answer x × TellsIts line answer now x × Matches size x new.power new.payloads × (x.growths ≡ b.growths)
 
 line_runs : (size : Size) (line : Line) (b : Bench) (old new : Going) (answer : Answer) (now : Option Durable) → IsPlainLine line → moves_harts line ≡ false → RunsCalm size b old
-    → ShowsEnoughMemory answer.line → ((x : Bench) × Step size line b answer x × TellsIts line answer now x × Matches size x new.bench.power new.bench.payloads)
+    → ((x : Bench) × Step size line b answer x × TellsIts line answer now x × Matches size x new.bench.power new.bench.payloads × (x.growths ≡ b.growths))
     → ((z : Size) (k n : Kept) → TellsWhole z old.ledger k → LineTold line answer now k n → TellsWhole z new.ledger n)
     → ((z : Size) (k n : Kept) → TellsWhole z old.ledger k → LineTold line answer now k n → Resumes old.ledger new.ledger (line_resumes line answer)) → LineMoves size line b old new
-line_runs size line b old new answer now plain none r enough (x, step, tells, matches) follows serial =
+line_runs size line b old new answer now plain none r (x, step, tells, matches, fed) follows serial =
     let told = line_tells size line b answer now x plain none (sound_of size b old.bench.power r.follows.formatted r.agrees) step tells in record {
       bench = x;
       does = (answer, step);
       resumed = serial size b.kept x.kept r.follows.kept told.0;
-      runs = record { agrees = matches.0; same = matches.1; follows = record { formatted = told.1 ∙ r.follows.formatted; kept = follows size b.kept x.kept r.follows.kept told.0; enough = line_grows size line b answer x (inr none) enough step ∙ r.follows.enough } };
+      runs = record { agrees = matches.0; same = matches.1; follows = record { formatted = told.1 ∙ r.follows.formatted; kept = follows size b.kept x.kept r.follows.kept told.0; enough = fed ∙ r.follows.enough } };
     }
 
 pub said_runs : {E : Type 0} (r : Result (Unit {0}) E) (size : Size) (line : Line) (old new : Going) (answer : Answer) (now : Option Durable) → IsPlainLine line → moves_harts line ≡ false → Said size line old.bench answer now new.bench
-    → OnOk r (ShowsEnoughMemory answer.line) → OnOk r ((z : Size) (k n : Kept) → TellsWhole z old.ledger k → LineTold line answer now k n → TellsWhole z new.ledger n)
+    → OnOk r ((z : Size) (k n : Kept) → TellsWhole z old.ledger k → LineTold line answer now k n → TellsWhole z new.ledger n)
     → OnOk r ((z : Size) (k n : Kept) → TellsWhole z old.ledger k → LineTold line answer now k n → Resumes old.ledger new.ledger (line_resumes line answer)) → OnOk r ((b : Bench) → RunsCalm size b old → LineMoves size line b old new)
-said_runs (Err e) size line old new answer now plain none said enough follows serial = tt
-said_runs (Ok u) size line old new answer now plain none said enough follows serial = λ b r. line_runs size line b old new answer now plain none r enough (said b (r.agrees, r.same, r.calm)) follows serial
+said_runs (Err e) size line old new answer now plain none said follows serial = tt
+said_runs (Ok u) size line old new answer now plain none said follows serial = λ b r. line_runs size line b old new answer now plain none r (said b (r.agrees, r.same, r.calm)) follows serial
 
 -- ---- a disk with nothing armed fails by itself alone
 differ : {A : Type 0} (a b c : Armed) → a ≡ b → a ≡ c → (b ≡ c → ⊥) → A

@@ -14,7 +14,6 @@ pub mod Boots
 pub mod Spelled
 pub mod Reported
 pub mod Calls
-pub mod Fed
 pub mod Ran
 pub mod Took
 pub mod Made

@@ -1,22 +1,23 @@
 -- What a line's answer tells of the commands kept, by what the line may make of the bench.
-use Rattle.std.proofs.Common.{◌≡◌, ◌≢◌, ℕ, inl, inr, false, List, [], ◌∷◌, Option, None, Some, Result, Ok, Err, refl, sym, ◌∙◌, ap, subst, arith}
+use Rattle.std.proofs.Common.{◌≡◌, ◌≢◌, ℕ, inl, inr, false, true≢false, List, [], ◌∷◌, Option, None, Some, Result, Ok, Err, refl, sym, ◌∙◌, ap, subst, arith}
 use Rattle.board_model.specs.{Durable.{DurableState, Change, refusal_of}, Kept.{MayKeep, found_of}, Shapes.Size, Views.durable_of}
 use Rattle.board_model.specs.declared.{boot_mode.BootMode.BootMode, durable.Durable.Durable, console_command.ConsoleCommand.ConsoleCommand}
 use Rattle.board_model.specs.ConsoleCommands.{console_change}
 use Rattle.board_model.specs.declared.boot_mode.BootMode.TheVariants as modes
 use Rattle.board.specs.{Boots.boot_refusal, Moments.commands_by}
 use Rattle.script_lang.specs.declared.line.Line.{Line}
+use Rattle.script_lang.specs.declared.line.Line.TheVariants as lines
 use Rattle.report_lines.specs.declared.printed.{Printed.Printed, Answer.Answer}
 use Rattle.report_lines.specs.declared.printed.Printed.TheVariants as printed
 use Rattle.bench_report.specs.{Uncut.{TellsAsked, TellsIts}, Bench.{DiskState, Formatted, BenchLife, Bench}, Prefix.asked_of}
-use Rattle.bench_report.specs.{Deeds.{WritePast, Deed, Beside, IsByFirmwareAlone, deed_of}, Commands.{Writes, IssuedBy, Issued, IssuesAll}}
+use Rattle.bench_report.specs.{Deeds.{WritePast, Deed, Beside, IsByFirmwareAlone, IsNoRow, deed_of}, Commands.{Writes, IssuedBy, Issued, IssuesAll}}
 use Rattle.bench_report.specs.Happens.{says, out_of_memory, failed, off, on_with, settled, acknowledged, in_doubt}
 use Rattle.bench_report.specs.PowerOns.{FormatsOn, life_begun, IsBooted, BootsFrom, Begins, Boots, Opens, ShowsFound, IsOpenRefusal, PowersOn, TellsNow}
 use Rattle.bench_report.specs.Steps.{console_reported, FormatStep, OnStep, ConsoleStep, DeedStep, Step}
 use Rattle.bench_report.proofs.{Issues.{GoesOn, IsSound, issued_back}, Table.{table_not_six, of_modes}, Beside.{OfFirmware, is_aside}}
 use Rattle.bench_report.{specs.Asides.{Effect, Stays, WritesPast, aside, affected}, proofs.Questions.{IsAsked, is_asked}}
 use Rattle.bench_report.specs.Deeds as deeds
-use Rattle.bench_sweep.{specs.Swept.{IsSweptDeed, IsPlainLine}, proofs.Fed.never}
+use Rattle.bench_sweep.specs.Swept.{IsSweptDeed, IsPlainLine}
 use Rattle.bench_sweep.specs.Told.{is_guest, moves_harts, IssuedTold, CommandTold, AllTold, BootSaid, PowerTold, AskedTold, LineTold, commands_told}
 
 -- the number with which a command was refused
@@ -218,11 +219,16 @@ deed_tells : (size : Size) (deed : Deed) (b : Bench) (a : Answer) (now : Option 
 deed_tells size deeds.Format b a now new plain none sound x tells = format_line b.power b a new sound.0 x
 deed_tells size (deeds.PowerOn mode) b a now new plain none sound x tells = on_tells size mode b.power b a now new sound.0 x tells
 deed_tells size (deeds.Issue c) b a now new plain none sound x tells = console c b.power b a new refl sound.1 x
-deed_tells size (deeds.Turns h n) b a now new plain none sound x tells = never none
-deed_tells size (deeds.Call h asked) b a now new plain none sound x tells = never none
+deed_tells size (deeds.Turns h n) b a now new plain none sound x tells = absurd (true≢false none)
+deed_tells size (deeds.Call h asked) b a now new plain none sound x tells = absurd (true≢false none)
 deed_tells size (deeds.Ask question) b a now new plain none sound x tells = asked_line b a new (is_asked size question b.power b a new x)
 deed_tells size (Beside act) b a now new plain none sound x tells =
     aside_line (aside act b.power b.payloads).1 b new ((is_aside act b.power b.payloads).firmware (by_firmware (Beside act) plain)) x.1
+
+-- a line that moves no hart is no row of turns
+pub no_row : (line : Line) → moves_harts line ≡ false → IsNoRow (deed_of line)
+no_row (lines.Turn h n) none = absurd (true≢false none)
+no_row line none = tt
 
 -- what a plain line tells that moves no hart
 pub line_tells : (size : Size) (line : Line) (b : Bench) (a : Answer) (now : Option Durable) (new : Bench) → IsPlainLine line → moves_harts line ≡ false → IsSound b → Step size line b a new → TellsIts line a now new

@@ -86,10 +86,6 @@ pub record RunsAt (size : Size) (b : Bench) (site : Site) : Type 0 where
   pub same : site.payloads ≡ b.payloads
   pub follows : Follows size b site.ledger
 
--- the same of one that a power cut has left
-abbrev pub LeftAt : Size → Bench → Site → Type 0
-LeftAt size b site = LeftOff size b site.off site.payloads site.ledger
-
 -- they stand for some bench
 abbrev pub Sits : Size → Site → Type 0
 Sits size site = (b : Bench) × RunsAt size b site

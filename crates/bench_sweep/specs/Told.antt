@@ -15,18 +15,11 @@ use Rattle.sbi.specs.declared.words.Word.{Word}
 use Rattle.sbi.specs.declared.words.Word.TheVariants as words
 use Rattle.sbi.specs.declared.words.LifeEnd.TheVariants as life_ends
 use Rattle.sbi_calls.specs.Words.{is_answered}
-use Rattle.bench_report.specs.Happens.{SaysEnough}
 use Rattle.bench_report.specs.Prefix.{AskedLine, Boot, Command, Guest, asked_by}
 use Rattle.report_lines.specs.declared.printed.Printed.{Printed}
 use Rattle.report_lines.specs.declared.printed.Printed.TheVariants as printed
 use Rattle.report_lines.specs.declared.printed.Answer.{Answer}
 use Rattle.bench_sweep.specs.Ledgers.{more_kept, in_doubt, settled}
-
--- By what a line says memory was refused neither to a power-on nor to an examination of the disk. Of a line that was
--- lost with the power nothing is known.
-abbrev pub ShowsEnoughMemory : Printed → Type 0
-ShowsEnoughMemory printed.PowerLost = ⊥
-ShowsEnoughMemory line = SaysEnough line
 
 -- a line that harts move
 abbrev pub is_guest : AskedLine → Bool
@@ -36,7 +29,7 @@ is_guest asked = false
 abbrev pub moves_harts : Line → Bool
 moves_harts line = is_guest (asked_by line)
 
--- A command was answered, by its receipt (none) or by the number that refused it. By 6 it is in doubt, or another
+-- A command was answered, by its receipt (none) or by the number that refused it. It is in doubt by 6, or another
 -- is.
 abbrev pub IssuedTold : Option ℕ → Change → Kept → Kept → Type 0
 IssuedTold None c old new =

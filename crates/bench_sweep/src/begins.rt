@@ -1,5 +1,4 @@
 //! Where a bench begins: after the first format of its script that answers Ok.
-//! A law runs nothing, and tells the prover a fact: `blank_disks`.
 
 ghost use Rattle.std.specs.Prelude.{◌≡◌, ◌≤◌, ℕ, List, true, length, take, All, IfOk, ◌↔◌, IsTrue};
 ghost use Rattle.script_lang.specs.Lines.{IsLineInRange};
@@ -8,11 +7,11 @@ ghost use Rattle.bench_report.specs.Lives.{IsSound, Shows};
 ghost use Rattle.bench_report.specs.Steps.{Moves};
 ghost use Rattle.bench_sweep.specs.Runs.{Begun, IsFormattedAt, Formats};
 
-use crate::follows::enough_memory;
+use crate::judging::turn_off;
 use crate::ledgers::RunLedger;
-use crate::site::Site;
+use crate::site::{Going, Site};
 use crate::sites::is_off;
-use bench_report::{LiveBench, OffDisk, Setting, disk_left};
+use bench_report::{LiveBench, Setting};
 use board::Payloads;
 use board_model::Shape;
 use crew::Crew;
@@ -30,8 +29,7 @@ fn is_formatted(line: &Line, answer: &Answer) -> bool
     }
 }
 
-/// Runs a line before the disk is formatted, and answers whether it was by that. Refused where memory was, where the line says so, or
-/// where it says nothing.
+/// Runs a line before the disk is formatted, and answers whether it was by that. Refused where memory was.
 fn run_before_format<C: Crew>(
     setting: &Setting<'_, C>,
     line: &Line,
@@ -50,7 +48,6 @@ fn run_before_format<C: Crew>(
         return Err(AllocError);
     }
     let answer = bench.run(setting, line)?;
-    enough_memory(answer.line)?;
     if bench.refused {
         return Err(AllocError);
     }
@@ -62,20 +59,11 @@ fn formatted_site(alloc: Global, shape: &Shape, bench: LiveBench) -> Result<Site
     ensures runs { IfOk result (λ site. (start : List (List ℕ)) (lines : List Line)
         → Begun shape.now start lines bench → IsFormattedAt shape.now start lines site) }
 {
-    let LiveBench {
-        power,
-        payloads,
-        ..
-    } = bench;
-    let disk = disk_left(power);
-    if disk.refused() != 0 {
-        return Err(AllocError);
-    }
-    Ok(Site {
-        off: OffDisk { disk },
-        payloads,
+    let going = Going {
+        bench,
         ledger: RunLedger::formatted(alloc),
-    })
+    };
+    turn_off(going, false)
 }
 
 /// Runs a script that begins with these payloads up to the first format that answers Ok: how many lines that were,

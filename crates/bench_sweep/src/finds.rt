@@ -2,10 +2,8 @@
 //! A law runs nothing, and tells the prover a fact: `whole_images_load`.
 
 ghost use Rattle.std.specs.Prelude.{◌≡◌, ◌⊎◌, ℕ, List, None, Some, true, is_some, IfOk, OnOk};
-ghost use Rattle.board_model.specs.Durable.{DurableState};
-ghost use Rattle.board_model.specs.Plains.{state_in, IsPlainOf};
+ghost use Rattle.board_model.specs.Plains.{IsPlainOf};
 ghost use Rattle.board_model.specs.Shapes.{Size};
-ghost use Rattle.board_model.specs.Views.{durable_of};
 ghost use Rattle.board_model.specs.declared.plain.Plain.{Plain as State};
 ghost use Rattle.disk.specs.Facts.{counted};
 ghost use Rattle.bench_report.specs.declared.power.Power.TheVariants.{On};
@@ -14,14 +12,13 @@ ghost use Rattle.report_lines.specs.declared.printed.Printed.TheVariants.{OnRefu
 ghost use Rattle.bench_report.specs.Agree.{OffIs};
 ghost use Rattle.bench_report.specs.Bench.{Bench};
 ghost use Rattle.bench_report.specs.Examined.{OpensOf};
-ghost use Rattle.bench_report.specs.Views.{facts, fault_state, store_in, store_now};
+ghost use Rattle.bench_report.specs.Views.{facts, fault_state, store_in};
 ghost use Rattle.bench_sweep.specs.Made.{LooksAt};
 ghost use Rattle.bench_sweep.specs.Runs.{LeftOff, Finds, FoundSo, IsJudged, IsSpoilt, PowerFinds};
 
-use crate::follows::enough_memory;
 use crate::judges::Sweep;
 use crate::ledgers::RunLedger;
-use bench_report::{OffDisk, Power, power_on};
+use bench_report::{OffDisk, Power, power_on, says_refused_memory};
 use board::{Board, BoardParts, Payloads};
 use board_model::{BootMode, Bytes, Durable, Plain, Shape, shape_in_range};
 use ram::Ram;
@@ -63,7 +60,7 @@ fn store_and_ram(board: Board<SimDisk>) -> (Store<SimDisk>, Ram)
     (store, bus.ram)
 }
 
-/// Lets go of a store and its memory. That of their many parts is proved here.
+/// Lets go of a store and its memory. The proof for their many parts is made here.
 fn let_go(store: Store<SimDisk>, ram: Ram) {
     let _both = (store, ram);
 }
@@ -114,7 +111,9 @@ fn loaded(
 fn unbooted(disk: SimDisk, said: Printed) -> Result<Option<Plain>, AllocError>
     ensures spoilt { IfOk result (λ found. (said ≡ OnRefused 11) ⊎ IsSpoilt (fault_state disk) → ⊥) }
 {
-    enough_memory(said)?;
+    if says_refused_memory(said) {
+        return Err(AllocError);
+    }
     unloaded(disk)
 }
 

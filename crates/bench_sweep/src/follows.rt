@@ -16,7 +16,7 @@ ghost use Rattle.sbi.specs.declared.words.LifeEnd.TheVariants as life_ends;
 ghost use Rattle.bench_report.specs.Bench.{Bench};
 ghost use Rattle.bench_sweep.specs.Runs.{TellsWhole, Follows, HartMoves};
 ghost use Rattle.bench_sweep.specs.Resumes.{image_told, serial_of, consumed, booted, powered, power_resumes, line_resumes, Resumes};
-ghost use Rattle.bench_sweep.specs.Told.{ShowsEnoughMemory, IssuedTold, CommandTold, BootTold, BootSaid, NowTold, PowerTold, LineTold, commands_told};
+ghost use Rattle.bench_sweep.specs.Told.{IssuedTold, CommandTold, BootTold, BootSaid, NowTold, PowerTold, LineTold, commands_told};
 
 use crate::ledgers::RunLedger;
 use board::Board;
@@ -218,29 +218,6 @@ fn record_answer(
     }
 }
 
-/// Whether a line says that memory was refused, to a power-on or to an examination of the disk, or says nothing.
-fn hides_memory(said: Printed) -> bool
-    ensures { result ≡ false → ShowsEnoughMemory said }
-{
-    match said {
-        Printed::OnRefused(number) => number == 11,
-        Printed::InspectRefused(number) => number == 11,
-        Printed::PowerLost => true,
-        _ => false,
-    }
-}
-
-/// Refused where a line says that memory was refused, to a power-on or to an examination of the disk, or where
-/// it says nothing.
-pub fn enough_memory(said: Printed) -> Result<(), AllocError>
-    ensures enough { OnOk result (ShowsEnoughMemory said) }
-{
-    if hides_memory(said) {
-        return Err(AllocError);
-    }
-    Ok(())
-}
-
 /// A power-on by that mode gave that answer, and the state is then that one: what the open found settles the command
 /// in doubt. Refused where the power-on was, or the ledger is; then the ledger is of no use.
 fn record_power_on(
@@ -289,8 +266,8 @@ fn record_console(
     }
 }
 
-/// A line that moves no hart gave that answer, and the state is then that one, where the line powers a board on. Refused also where the
-/// answer does not show enough memory. Where that is refused the ledger is of no use.
+/// A line that moves no hart gave that answer, and the state is then that one, where the line powers a board on. The ledger is of no use
+/// where that is refused.
 pub fn record_line(
     ledger: &mut RunLedger,
     alloc: Global,
@@ -298,13 +275,11 @@ pub fn record_line(
     answer: &Answer,
     now: Option<Durable>,
 ) -> Result<(), AllocError>
-    ensures enough { OnOk result (ShowsEnoughMemory answer.now.line) }
     ensures kept { OnOk result ((size : Size) (old new : Kept) → TellsWhole size ledger.old old
         → LineTold line.now answer.now now old new → TellsWhole size ledger.new new) }
     ensures serial { OnOk result ((size : Size) (old new : Kept) → TellsWhole size ledger.old old
         → LineTold line.now answer.now now old new → Resumes ledger.old ledger.new (line_resumes line.now answer.now)) }
 {
-    enough_memory(answer.line)?;
     match line {
         Line::On(mode) => record_power_on(ledger, alloc, *mode, answer, now),
         Line::Command(command) => record_console(ledger, alloc, *command, answer.line),

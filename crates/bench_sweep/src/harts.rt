@@ -158,8 +158,8 @@ fn run_in_place<C: Crew>(
 }
 
 impl Going {
-    /// Runs a line of harts, and the ledger follows each turn of it. On a board that is off it does nothing. Where that is refused the
-    /// run is of no use.
+    /// Runs a line of harts, and the ledger follows each turn of it. It does nothing on a board that is off. The run is of no use where
+    /// that is refused.
     pub fn harts<C: Crew>(
         &mut self,
         setting: &Setting<'_, C>,

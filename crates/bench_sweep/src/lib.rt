@@ -1,9 +1,9 @@
 //! The benches: each run of a script in which power fails at one call of the disk or of one of its lanes, and
 //! each in which one such call fails. docs/SCRIPT.md, "The benches", tells what they write.
 //!
-//! What the benches judge a run by: the commands that a run acknowledged and the one in doubt, whether the
-//! state that was found is one that may be found, how many runs there were and how many of them were wrong; and
-//! the first line in which what was written is not what was wanted. It knows nothing of a disk, a store or a board.
+//! The judge of these runs has the commands that a run acknowledged and the one in doubt, says whether the state that was found
+//! is one that may be found, and counts the runs and the wrong ones. It knows nothing of a disk, a store or a board. `line_apart`
+//! finds the first line in which what was written is not what was wanted.
 #![tactic(auto)]
 
 mod apart;

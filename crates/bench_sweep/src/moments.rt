@@ -98,8 +98,7 @@ impl Moment {
             → CameTold size (unpowered b) lines site.now at) }
         ensures none { IfOk result (λ at. at.count ≡ 0) }
     {
-        let copy = site.copy(alloc)?;
-        let going = Going::from(copy);
+        let going = site.begin(alloc)?;
         Ok(Moment { count: 0, going })
     }
 

@@ -17,7 +17,7 @@ ghost use Rattle.bench_sweep.specs.Took.{RunTook};
 use crate::judging::turn_off;
 use crate::points::{CALLERS, Caller};
 use crate::runner::Runner;
-use crate::site::{Going, Site};
+use crate::site::Site;
 use board_model::Refusal;
 use crew::Crew;
 use script_lang::{Line, Script, parse_script};
@@ -45,8 +45,7 @@ pub fn stretch_of<C: Crew>(runner: &Runner<'_, C>, site: &Site) -> Result<LifeSp
     ensures took { IfOk result (λ did. RunTook runner.now.setting.shape.now (take did.count runner.now.lines.now)
         site.now.off.disk did.next.off.disk) }
 {
-    let copy = site.copy(runner.setting.alloc)?;
-    let mut plain = Going::from(copy);
+    let mut plain = site.begin(runner.setting.alloc)?;
     let Ok(count) = plain.run_lines(&runner.setting, runner.lines, true) else {
         plain.release();
         return Err(AllocError);

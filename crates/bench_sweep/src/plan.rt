@@ -7,7 +7,7 @@ use crew::Part;
 #[derive(Clone, Copy, Drop)]
 pub struct SweepPlan {
     pub bench: BenchKind,
-    /// Of all points, in the order of the report, those of this part alone; where there is none, all.
+    /// The points of this part alone, in the order of the report; where there is none, all.
     pub part: Option<Part>,
     /// The lines of a point are written only where one of its runs is wrong.
     pub quiet: bool,

@@ -82,7 +82,7 @@ pub struct Point {
 /// Which run of a bench a row is.
 #[derive(Clone, Copy, Drop)]
 pub struct RunAt {
-    /// At whose call power is cut, or which call fails.
+    /// The caller at whose call power is cut, or whose call fails.
     pub caller: Caller,
     /// The number of the call from the first `format ok` on, from 1.
     pub call: u64,
@@ -91,7 +91,7 @@ pub struct RunAt {
     ghost some: { 1 ≤ call },
 }
 
-/// In the order of their points.
+/// All callers, in the order of their points.
 pub const CALLERS: [Caller; 5] = [
     Caller::Disk,
     Caller::Lane(0),

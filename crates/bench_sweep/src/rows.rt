@@ -17,7 +17,7 @@ use std::io::{self, Write};
 /// One run of a bench.
 #[derive(Clone, Copy, Drop)]
 pub struct Row {
-    /// At whose call power was cut, or failed a call.
+    /// The caller at whose call power was cut, or whose call failed.
     pub caller: Caller,
     /// The number of the call from the first `format ok` on, from 1.
     pub number: u64,
@@ -77,7 +77,7 @@ impl fmt::Display for LeftText {
     }
 }
 
-/// At whose call power was cut, or failed a call; the call's number; and what the cut left.
+/// The caller at whose call power was cut, or whose call failed; the call's number; and what the cut left.
 #[derive(Clone, Copy, Drop)]
 struct CallText {
     caller: Caller,

@@ -47,7 +47,7 @@ pub struct WantedRow {
     pub number: u64,
 }
 
-/// At which point of a bench the run of that place is, and which of the point's it is, both from 0 on.
+/// The point of a bench at which the run of that place is, and which of the point's runs it is, both from 0 on.
 fn point_of(bench: BenchKind, place: u64) -> (u64, u64)
     ensures value { place ≡ result.0 * runs_each bench + result.1 }
     ensures range { result.1 < runs_each bench }
@@ -222,8 +222,7 @@ fn count_armed<C: Crew>(
         call: run.call,
         before: 0,
     };
-    let copy = site.copy(runner.setting.alloc)?;
-    let from = Going::from(copy);
+    let from = site.begin(runner.setting.alloc)?;
     let mut armed = from.armed(runner.bench, point);
     let Ok(count) = armed.run_lines(&runner.setting, runner.lines, false) else {
         armed.release();
@@ -381,8 +380,8 @@ fn show_plain_script<R: Threads + Sync, W: Write>(
 }
 
 /// Writes a row of a bench as a script (docs/SCRIPT.md, "The benches"): the script's lines up to its first `format` that is
-/// answered ok, then what the row arms. Of the power-cut bench there follow the lines up to the one within which the cut
-/// strikes, of the fault bench all lines and `cut 00`. Then comes `on keep`, which says what the row says. The script is run
+/// answered ok, then what the row arms. The lines up to the one within which the cut strikes follow for the power-cut bench,
+/// and all lines and `cut 00` for the fault bench. Then comes `on keep`, which says what the row says. The script is run
 /// twice, once as it is and once with that armed, by these payloads; they are no part of what is written.
 ///
 /// Refused as `run_bench` is, and `BadShape` where the bench has no run of that number, where no line arms its call,
@@ -394,7 +393,7 @@ pub fn show_row<R: Threads + Sync, W: Write>(
     payloads: Payloads,
     out: &mut W,
 ) -> Result<(), Refusal>
-    // What was written is the run of that number, and is read back as it. With just that armed its lines run to its end.
+    // What was written is the run of that number, and is read back as it. Its lines run to its end with just that armed.
     ensures shown { OnOk result (IsRowOf wanted.bench wanted.number payloads script.now (W.contents out.old) (W.contents out.new)) }
     // A refusal is want of memory, or the writer's, or the script's fault, or no bench runs the script, or there is no such row.
     ensures refused { IfErr result (λ e. (e ≡ Memory) ⊎ (e ≡ Output) ⊎ (script_of script.now ≡ Err e)

@@ -13,7 +13,7 @@ pub struct Site {
 }
 
 impl Site {
-    /// Lets go of a site. That of its disk's many parts is proved here, and not for each function that has a site.
+    /// Lets go of a site. The proof for its disk's many parts is made here, and not for each function that has a site.
     pub fn release(self) {}
 }
 
@@ -25,6 +25,6 @@ pub struct Going {
 }
 
 impl Going {
-    /// Lets go of a run. That of its board's many parts is proved here, and not for each function that has a run.
+    /// Lets go of a run. The proof for its board's many parts is made here, and not for each function that has a run.
     pub fn release(self) {}
 }

@@ -13,9 +13,9 @@ ghost use Rattle.bench_report.specs.Happens.{off, unpowered};
 ghost use Rattle.bench_report.specs.Views.{facts, sim_log_of};
 ghost use Rattle.bench_sweep.specs.Lines.{LineMoves};
 ghost use Rattle.bench_sweep.specs.Points.{calls_of};
-ghost use Rattle.bench_sweep.specs.Runs.{Runs, RunsAt, RunsCalm, LeftAt, RanTo, StopsOff};
+ghost use Rattle.bench_sweep.specs.Runs.{Runs, RunsAt, RunsCalm, RanTo, StopsOff};
 ghost use Rattle.bench_sweep.specs.Swept.{IsPlainLine};
-ghost use Rattle.bench_sweep.specs.Took.{own_disk, RunTook};
+ghost use Rattle.bench_sweep.specs.Took.{own_disk, CountsAlike, RunTook};
 ghost use Rattle.bench_sweep.specs.declared.points.Caller.{Caller};
 
 use crate::follows::record_line;
@@ -66,21 +66,15 @@ pub fn is_off(power: &Power) -> bool
 }
 
 impl Site {
-    /// A site to run from: its disk is the one that a power cut leaves of this one's, with that fill in the place of what
-    /// was written since the last sync.
-    pub fn left(&self, alloc: Global, fill: Fill) -> Result<Site, AllocError>
-        ensures runs { IfOk result (λ left. (size : Size) (b : Bench) → RunsAt size b self.now
-            → LeftAt size (unpowered b) left) }
-        ensures exact { IfOk result (λ left. (facts left.off.disk).content
-            ≡ left_by_fill fill (synced (sim_log_of self.now.off.disk)) (sim_log_of self.now.off.disk).written) }
-        ensures durable { IfOk result (λ left. Only (facts left.off.disk).content (facts left.off.disk).may_leave) }
-        ensures calls { IfOk result (λ left. (caller : Caller)
-            → calls_of caller left.off.disk ≡ calls_of caller self.now.off.disk) }
-        ensures resumed { IfOk result (λ left. left.ledger.resumed.items ≡ self.now.ledger.resumed.items) }
+    /// A site as this one is, with a disk of its own. What was not synced is left as it was at the last sync: all of the disk is durable.
+    pub fn copy(&self, alloc: Global) -> Result<Site, AllocError>
+        ensures runs { IfOk result (λ copy. (size : Size) (b : Bench) → RunsAt size b self.now → RunsAt size (unpowered b) copy) }
+        ensures calls { IfOk result (λ copy. CountsAlike self.now.off.disk copy.off.disk) }
+        ensures resumed { IfOk result (λ copy. copy.ledger.resumed.items ≡ self.now.ledger.resumed.items) }
     {
         let payloads = self.payloads.copy()?;
         let ledger = self.ledger.copy(alloc)?;
-        let off = cut_by(&self.off, fill)?;
+        let off = cut_by(&self.off, Fill::Old)?;
         Ok(Site {
             off,
             payloads,
@@ -88,38 +82,29 @@ impl Site {
         })
     }
 
-    /// A site as this one is, with a disk of its own. What was not synced is left as it was at the last sync: all of the disk is durable.
-    pub fn copy(&self, alloc: Global) -> Result<Site, AllocError>
-        ensures runs { IfOk result (λ copy. (size : Size) (b : Bench) → RunsAt size b self.now
-            → LeftAt size (unpowered b) copy) }
-        ensures calls { IfOk result (λ copy. (caller : Caller)
-            → calls_of caller copy.off.disk ≡ calls_of caller self.now.off.disk) }
-        ensures resumed { IfOk result (λ copy. copy.ledger.resumed.items ≡ self.now.ledger.resumed.items) }
+    /// A run that goes on from this site, over a copy of its disk.
+    pub fn begin(&self, alloc: Global) -> Result<Going, AllocError>
+        ensures calm { IfOk result (λ going. IsUnstruck going.bench.power) }
+        ensures runs { IfOk result (λ going. (size : Size) (b : Bench) → RunsAt size b self.now → RunsCalm size (unpowered b) going) }
+        ensures calls { IfOk result (λ going. CountsAlike self.now.off.disk (own_disk going)) }
+        ensures resumed { IfOk result (λ going. going.ledger.resumed.items ≡ self.now.ledger.resumed.items) }
     {
-        self.left(alloc, Fill::Old)
+        let Site {
+            off,
+            payloads,
+            ledger,
+        } = self.copy(alloc)?;
+        let bench = LiveBench {
+            power: Power::Off(off),
+            payloads,
+            fill: Fill::Old,
+            refused: false,
+        };
+        Ok(Going { bench, ledger })
     }
 }
 
 impl Going {
-    /// The run that begins at that site.
-    pub fn from(site: Site) -> Going
-        ensures calm { IsUnstruck result.bench.power }
-        ensures disk { own_disk result ≡ site.off.disk }
-        ensures ledger { result.ledger ≡ site.ledger }
-        ensures runs { (size : Size) (b : Bench) → LeftAt size b site → RunsCalm size b result }
-    {
-        let bench = LiveBench {
-            power: Power::Off(site.off),
-            payloads: site.payloads,
-            fill: Fill::Old,
-            refused: false,
-        };
-        Going {
-            bench,
-            ledger: site.ledger,
-        }
-    }
-
     /// Turns the board off.
     pub fn into_site(self) -> Site
         ensures runs { (size : Size) (b : Bench) → Runs size b self → RunsAt size (off b) result }
@@ -162,8 +147,8 @@ impl Going {
         until_off && is_off(&self.bench.power)
     }
 
-    /// Runs one line, and the ledger follows it. An armed cut that struck within it is not made yet. Where that is refused the run is of
-    /// no use.
+    /// Runs one line, and the ledger follows it. An armed cut that struck within it is not made yet. Refused where memory was, also to a
+    /// power-on, an examination or a suspension. The run is of no use then.
     pub fn run_line<C: Crew>(
         &mut self,
         setting: &Setting<'_, C>,
@@ -179,6 +164,9 @@ impl Going {
             return self.harts(setting, line);
         }
         let (answer, now) = self.bench.alone(setting, line)?;
+        if self.bench.refused {
+            return Err(AllocError);
+        }
         record_line(&mut self.ledger, setting.alloc, line, &answer, now)
     }
 

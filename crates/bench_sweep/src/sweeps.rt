@@ -236,9 +236,9 @@ fn sweep_caller<R: Threads + Sync, P: Progress, C: Crew + Sync, W: Write>(
     Ok(made)
 }
 
-/// Goes over the points of each caller in turn, over the lines from that site on, as far as they are of the part. Of each caller
-/// there are as many as it made calls up to that end of the plain run. Answers how many they are of all callers. Refused where
-/// another run of the lines made others: then the one or the other was refused some.
+/// Goes over the points of each caller in turn, over the lines from that site on, as far as they are of the part. Each caller has as
+/// many as it made calls up to that end of the plain run. Answers how many they are of all callers. Refused where another run of the
+/// lines made other calls: then the one or the other run was refused memory.
 fn sweep_all_callers<R: Threads + Sync, P: Progress, C: Crew + Sync, W: Write>(
     jobs: &Jobs<'_, R, P>,
     runner: &Runner<'_, C>,
@@ -382,12 +382,12 @@ fn sweep_plain_script<R: Threads + Sync, P: Progress, W: Write>(
 /// A bench (docs/SCRIPT.md, "The benches") over the script that begins with these payloads: a slot boots its own until a
 /// line `payload` says otherwise.
 ///
-/// At each call of the disk, and of each of its lanes, that the script makes after its first `format ok`, the power-cut
-/// bench cuts power, and lets the cut leave what each of five fills says of what was written since the last sync. The
-/// fault bench lets the call fail, runs the script to its end, and then cuts power. A board is powered on after each run,
+/// The power-cut bench cuts power at each call of the disk, and of each of its lanes, that the script makes after its first
+/// `format ok`, and lets the cut leave what each of five fills says of what was written since the last sync. The fault
+/// bench lets the call fail, runs the script to its end, and then cuts power. A board is powered on after each run,
 /// and keeps its image; what it found is judged. A line is written for each run, and one with the counts. The runs
-/// are made by the threads of these jobs; what is written is the same however many these are. Of a plan with a part only the
-/// points of that part are run, and counted; a quiet one writes the last line alone, since none of these runs is wrong.
+/// are made by the threads of these jobs; what is written is the same however many these are. A plan with a part runs only
+/// the points of that part, and counts them; a quiet one writes the last line alone, since none of these runs is wrong.
 ///
 /// Refused `BadShape` or `BadScript` where the script has a fault, and `NotPlain` where a line of it arms a cut or a
 /// failure, cuts power or pokes, or none is `format`: then nothing is written. Refused `Memory` where memory was, and

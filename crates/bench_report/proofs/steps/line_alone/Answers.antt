@@ -1,20 +1,11 @@
-use Rattle.std.proofs.Common.{◌∙◌, Ok, Err, refl, sym}
+use Rattle.std.proofs.Common.{◌∙◌, Ok, Err, refl}
 use Rattle.bench_report.{specs.Happens.unpowered, proofs.{Lines.{call_reported, row_reported}, Pokes.poke_matches}}
-use Rattle.bench_report.proofs.Alone.{arms_by, cuts_by, pokes_by, inspects_by, exact_by, enough_by, some_turns, few_bytes}
+use Rattle.bench_report.proofs.Alone.{arms_by, cuts_by, pokes_by, inspects_by, keeps_by, exact_by, enough_by, few_bytes, no_refusal, both_refused}
 use Rattle.bench_report.proofs.steps.line_alone.Goals as goal
 
 pub returns-in-Format-clause-reported : goal.returns-in-Format-clause-reported
 returns-in-Format-clause-reported g c = λ b h.
     row_reported c.args.setting.now.shape.now _ _ b _ _ _ _ _ c.in-Format.is c.answered.ensures.answer c.answered.ensures.power h.1 (c.format_line.ensures b h.0)
-
-pub returns-in-On-clause-reported : goal.returns-in-On-clause-reported
-returns-in-On-clause-reported g c = λ b h.
-    row_reported c.args.setting.now.shape.now _ _ b _ _ _ _ _ c.in-On.is c.answered-in-On.ensures.answer c.answered-in-On.ensures.power h.1 (c.on_line.ensures.reported c.args.setting.now.shape.now b h)
-
-pub returns-in-Command-clause-reported : goal.returns-in-Command-clause-reported
-returns-in-Command-clause-reported g c = λ b h.
-    let did = c.console-answer.ensures c.args.setting.now.shape.now b h.0 in
-    rw c.in-Command.is (did.0, did.1, (did.2, h.1 ∙ sym did.3))
 
 pub returns-in-Cut-clause-reported : goal.returns-in-Cut-clause-reported
 returns-in-Cut-clause-reported g c = λ b h. rw c.in-Cut.is (unpowered b, (c.says.ensures, refl), (c.cut.ensures.reported c.args.setting.now.shape.now b h.0, h.1))
@@ -22,17 +13,13 @@ returns-in-Cut-clause-reported g c = λ b h. rw c.in-Cut.is (unpowered b, (c.say
 pub returns-in-Ok-clause-reported : goal.returns-in-Ok-clause-reported
 returns-in-Ok-clause-reported g c = λ b h. rw c.in-Payload.is (rw c.says-in-Ok.ensures (c.in-Ok.ensures.reported c.args.setting.now.shape.now b h))
 
-pub returns-in-Turn-clause-reported : goal.returns-in-Turn-clause-reported
-returns-in-Turn-clause-reported g c = λ b h.
-    row_reported c.args.setting.now.shape.now _ _ b _ _ _ _ _ c.in-Turn.is c.shown.ensures.answer c.shown.ensures.power h.1 (c.turn_line.ensures c.args.setting.now.shape.now b h.0)
-
 pub returns-in-Call-clause-reported : goal.returns-in-Call-clause-reported
 returns-in-Call-clause-reported g c = λ b h.
-    row_reported c.args.setting.now.shape.now _ _ b _ _ _ _ _ c.in-Call.is c.shown-in-Call.ensures.answer c.shown-in-Call.ensures.power h.1 (let did = c.call_line.ensures c.args.setting.now.shape.now b h.0 in (did.0, did.1.0, did.2, did.3))
+    row_reported c.args.setting.now.shape.now _ _ b _ _ _ _ _ c.in-Call.is c.shown.ensures.answer c.shown.ensures.power h.1 (let did = c.call_line.ensures c.args.setting.now.shape.now b h.0 in (did.0, did.1.0, did.2, did.3))
 
 pub returns-in-Call-clause-enough : goal.returns-in-Call-clause-enough
 returns-in-Call-clause-enough g c =
-    call_reported c.args.setting.now.shape.now c.args.line.now c.in-Call.hart c.in-Call.words _ _ c.args.power _ _ _ _ c.in-Call.is c.shown-in-Call.ensures.answer c.shown-in-Call.ensures.power refl
+    call_reported c.args.setting.now.shape.now c.args.line.now c.in-Call.hart c.in-Call.words _ _ c.args.power _ _ _ _ c.in-Call.is c.shown.ensures.answer c.shown.ensures.power refl
     (λ b h. c.call_line.ensures c.args.setting.now.shape.now b h)
 
 pub returns-in-Show-clause-reported : goal.returns-in-Show-clause-reported
@@ -73,42 +60,6 @@ returns-in-Format-clause-enough g c = enough_by c.args.setting.now.shape.now c.a
 
 pub returns-in-Format-clause-slots : goal.returns-in-Format-clause-slots
 returns-in-Format-clause-slots g c = refl
-
-pub returns-in-On-clause-arms : goal.returns-in-On-clause-arms
-returns-in-On-clause-arms g c = arms_by c.args.line.now _ c.answered-in-On.result.0 c.in-On.is tt
-
-pub returns-in-On-clause-cuts : goal.returns-in-On-clause-cuts
-returns-in-On-clause-cuts g c = cuts_by c.args.line.now _ c.args.power c.answered-in-On.result.0 c.in-On.is tt
-
-pub returns-in-On-clause-pokes : goal.returns-in-On-clause-pokes
-returns-in-On-clause-pokes g c = pokes_by c.args.line.now _ c.args.power c.answered-in-On.result.1 c.answered-in-On.result.0 c.in-On.is tt
-
-pub returns-in-On-clause-inspects : goal.returns-in-On-clause-inspects
-returns-in-On-clause-inspects g c = inspects_by c.args.line.now _ c.args.power c.answered-in-On.result.1 c.in-On.is (exact_by _ c.answered-in-On.result.1 c.on_line.result.1 c.answered-in-On.ensures.answer c.on_line.ensures.exact)
-
-pub returns-in-On-clause-enough : goal.returns-in-On-clause-enough
-returns-in-On-clause-enough g c = enough_by c.args.setting.now.shape.now c.args.line.now _ c.args.power c.args.payloads.now c.answered-in-On.result.1 c.answered-in-On.result.0 c.args.payloads.now c.in-On.is tt
-
-pub returns-in-On-clause-slots : goal.returns-in-On-clause-slots
-returns-in-On-clause-slots g c = refl
-
-pub returns-in-Command-clause-arms : goal.returns-in-Command-clause-arms
-returns-in-Command-clause-arms g c = arms_by c.args.line.now _ c.console-answer.new.power c.in-Command.is tt
-
-pub returns-in-Command-clause-cuts : goal.returns-in-Command-clause-cuts
-returns-in-Command-clause-cuts g c = cuts_by c.args.line.now _ c.args.power c.console-answer.new.power c.in-Command.is tt
-
-pub returns-in-Command-clause-pokes : goal.returns-in-Command-clause-pokes
-returns-in-Command-clause-pokes g c = pokes_by c.args.line.now _ c.args.power (Ok c.console-answer.result) c.console-answer.new.power c.in-Command.is tt
-
-pub returns-in-Command-clause-inspects : goal.returns-in-Command-clause-inspects
-returns-in-Command-clause-inspects g c = inspects_by c.args.line.now _ c.args.power (Ok c.console-answer.result) c.in-Command.is tt
-
-pub returns-in-Command-clause-enough : goal.returns-in-Command-clause-enough
-returns-in-Command-clause-enough g c = enough_by c.args.setting.now.shape.now c.args.line.now _ c.args.power c.args.payloads.now (Ok c.console-answer.result) c.console-answer.new.power c.args.payloads.now c.in-Command.is tt
-
-pub returns-in-Command-clause-slots : goal.returns-in-Command-clause-slots
-returns-in-Command-clause-slots g c = refl
 
 pub returns-in-Cut-clause-arms : goal.returns-in-Cut-clause-arms
 returns-in-Cut-clause-arms g c = arms_by c.args.line.now _ c.cut.result c.in-Cut.is tt
@@ -161,35 +112,17 @@ returns-in-Err-clause-enough g c = enough_by c.args.setting.now.shape.now c.args
 pub returns-in-Err-clause-slots : goal.returns-in-Err-clause-slots
 returns-in-Err-clause-slots g c = c.in-Err.ensures.slots
 
-pub returns-in-Turn-clause-arms : goal.returns-in-Turn-clause-arms
-returns-in-Turn-clause-arms g c = arms_by c.args.line.now _ c.shown.result.0 c.in-Turn.is tt
-
-pub returns-in-Turn-clause-cuts : goal.returns-in-Turn-clause-cuts
-returns-in-Turn-clause-cuts g c = cuts_by c.args.line.now _ c.args.power c.shown.result.0 c.in-Turn.is tt
-
-pub returns-in-Turn-clause-pokes : goal.returns-in-Turn-clause-pokes
-returns-in-Turn-clause-pokes g c = pokes_by c.args.line.now _ c.args.power c.shown.result.1 c.shown.result.0 c.in-Turn.is tt
-
-pub returns-in-Turn-clause-inspects : goal.returns-in-Turn-clause-inspects
-returns-in-Turn-clause-inspects g c = inspects_by c.args.line.now _ c.args.power c.shown.result.1 c.in-Turn.is tt
-
-pub returns-in-Turn-clause-enough : goal.returns-in-Turn-clause-enough
-returns-in-Turn-clause-enough g c = enough_by c.args.setting.now.shape.now c.args.line.now _ c.args.power c.args.payloads.now c.shown.result.1 c.shown.result.0 c.args.payloads.now c.in-Turn.is tt
-
-pub returns-in-Turn-clause-slots : goal.returns-in-Turn-clause-slots
-returns-in-Turn-clause-slots g c = refl
-
 pub returns-in-Call-clause-arms : goal.returns-in-Call-clause-arms
-returns-in-Call-clause-arms g c = arms_by c.args.line.now _ c.shown-in-Call.result.0 c.in-Call.is tt
+returns-in-Call-clause-arms g c = arms_by c.args.line.now _ c.shown.result.0 c.in-Call.is tt
 
 pub returns-in-Call-clause-cuts : goal.returns-in-Call-clause-cuts
-returns-in-Call-clause-cuts g c = cuts_by c.args.line.now _ c.args.power c.shown-in-Call.result.0 c.in-Call.is tt
+returns-in-Call-clause-cuts g c = cuts_by c.args.line.now _ c.args.power c.shown.result.0 c.in-Call.is tt
 
 pub returns-in-Call-clause-pokes : goal.returns-in-Call-clause-pokes
-returns-in-Call-clause-pokes g c = pokes_by c.args.line.now _ c.args.power c.shown-in-Call.result.1 c.shown-in-Call.result.0 c.in-Call.is tt
+returns-in-Call-clause-pokes g c = pokes_by c.args.line.now _ c.args.power c.shown.result.1 c.shown.result.0 c.in-Call.is tt
 
 pub returns-in-Call-clause-inspects : goal.returns-in-Call-clause-inspects
-returns-in-Call-clause-inspects g c = inspects_by c.args.line.now _ c.args.power c.shown-in-Call.result.1 c.in-Call.is tt
+returns-in-Call-clause-inspects g c = inspects_by c.args.line.now _ c.args.power c.shown.result.1 c.in-Call.is tt
 
 pub returns-in-Call-clause-slots : goal.returns-in-Call-clause-slots
 returns-in-Call-clause-slots g c = refl
@@ -284,14 +217,39 @@ returns-in-Wake-clause-slots g c = refl
 pub returns-in-Err-clause-reported : goal.returns-in-Err-clause-reported
 returns-in-Err-clause-reported g c = λ b h. (h.0, c.in-Err.ensures.refused ∙ h.1)
 
-pub turn_line-requires-clause-some : goal.turn_line-requires-clause-some
-turn_line-requires-clause-some g c = λ κs within. some_turns c.args.setting.now.shape.now c.args.line.now c.in-Turn.hart c.in-Turn.count c.in-Turn.is c.requires.range
-
-pub turn_line-requires-clause-calm : goal.turn_line-requires-clause-calm
-turn_line-requires-clause-calm g c = λ κs within. c.requires.calm
-
 pub payload_line-requires : goal.payload_line-requires
 payload_line-requires g c = record { bytes = few_bytes c.args.setting.now.shape.now c.args.line.now c.in-Payload.slot c.in-Payload.bytes c.in-Payload.is c.requires.range }
 
 pub returns-in-Cut-clause-cuts : goal.returns-in-Cut-clause-cuts
 returns-in-Cut-clause-cuts g c = cuts_by c.args.line.now _ c.args.power c.cut.result c.in-Cut.is c.cut.ensures.exact
+
+-- when it is refused
+pub returns-in-Format-clause-refused : goal.returns-in-Format-clause-refused
+returns-in-Format-clause-refused g c = no_refusal _ c.answered.result.1 _ c.answered.ensures.answer
+
+pub returns-in-Call-clause-refused : goal.returns-in-Call-clause-refused
+returns-in-Call-clause-refused g c = no_refusal _ c.shown.result.1 _ c.shown.ensures.answer
+
+pub returns-in-Show-clause-refused : goal.returns-in-Show-clause-refused
+returns-in-Show-clause-refused g c = no_refusal _ c.shown-in-Show.result.1 _ c.shown-in-Show.ensures.answer
+
+pub returns-in-Arm-clause-refused : goal.returns-in-Arm-clause-refused
+returns-in-Arm-clause-refused g c = no_refusal _ c.answered-in-Arm.result.1 _ c.answered-in-Arm.ensures.answer
+
+pub returns-in-Inspect-clause-refused : goal.returns-in-Inspect-clause-refused
+returns-in-Inspect-clause-refused g c = no_refusal _ c.answered-in-Inspect.result.1 _ c.answered-in-Inspect.ensures.answer
+
+pub returns-in-Wake-clause-refused : goal.returns-in-Wake-clause-refused
+returns-in-Wake-clause-refused g c = no_refusal _ c.answered-in-Wake.result.1 _ c.answered-in-Wake.ensures.answer
+
+pub returns-in-Cut-clause-refused : goal.returns-in-Cut-clause-refused
+returns-in-Cut-clause-refused g c = tt
+
+pub returns-in-Ok-clause-refused : goal.returns-in-Ok-clause-refused
+returns-in-Ok-clause-refused g c = tt
+
+pub returns-in-Err-clause-refused : goal.returns-in-Err-clause-refused
+returns-in-Err-clause-refused g c = (keeps_by c.args.line.now _ c.in-Payload.is tt, c.requires.calm)
+
+pub returns-in-Poke-clause-refused : goal.returns-in-Poke-clause-refused
+returns-in-Poke-clause-refused g c = both_refused _ _ c.poke_line.result.1 (keeps_by c.args.line.now _ c.in-Poke.is tt) c.poke_line.ensures.calm

@@ -1,7 +1,7 @@
 use Rattle.std.proofs.{Common.{◌∙◌, List, arith, subst, sym}, lemmas.{List.take_all, Result.IfOk-from_err}}
 use Rattle.script_lang.specs.declared.line.Line.{Line}
 use Rattle.bench_report.specs.Happens.{unpowered}
-use Rattle.bench_sweep.{specs.Took.RunTook, proofs.{Left.off_sits, Made.{none_yet, sits_at, went_more, rest_is, ends_at, took_on}}}
+use Rattle.bench_sweep.{specs.Took.RunTook, proofs.Made.{none_yet, sits_at, went_more, rest_is, ends_at, took_on}}
 use Rattle.bench_sweep.proofs.Reported.{swept_take, swept_drop, stays_within}
 use Rattle.bench_sweep.proofs.plain_runs.run_plain.Goals as goal
 
@@ -11,9 +11,9 @@ loop-from-init g c =
     let copy = c.in_ok-site.ensures in
     let sits = c.requires.sits in record {
       within = omega arith;
-      sits = (unpowered sits.0, off_sits size (unpowered sits.0) _ (copy.runs size sits.0 sits.1));
+      sits = (unpowered sits.0, copy.runs size sits.0 sits.1);
       took = copy.calls;
-      lives = λ b r. none_yet _ (unpowered b) _ _ (off_sits size (unpowered b) _ (copy.runs size b r));
+      lives = λ b r. none_yet _ (unpowered b) _ _ (copy.runs size b r);
     }
 
 pub stretch_of-lived-requires-clause-lines : goal.stretch_of-lived-requires-clause-lines

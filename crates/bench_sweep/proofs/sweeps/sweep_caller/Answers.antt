@@ -1,6 +1,6 @@
 use Rattle.std.proofs.{Common.{arith, sym}, lemmas.Result.IfOk-from_err}
 use Rattle.bench_report.specs.Happens.{unpowered}
-use Rattle.bench_sweep.proofs.{Left.off_sits, Made.{none_yet, sits_at, went_more, rest_is, row_of, took_on}, Written.next_window}
+use Rattle.bench_sweep.proofs.{Made.{none_yet, sits_at, went_more, rest_is, row_of, took_on}, Written.next_window}
 use Rattle.bench_sweep.proofs.Reported.{reports_none, reports_more, reports_as, reports_weaker, swept_take, swept_drop, stays_within}
 use Rattle.crew.proofs.Pieces.{window_none}
 use Rattle.bench_sweep.proofs.sweeps.sweep_caller.Goals as goal
@@ -11,10 +11,10 @@ loop-from-init g c =
     let copy = c.in_ok-site.ensures in
     let sits = c.requires.sits in record {
       within = omega arith;
-      sits = (unpowered sits.0, off_sits size (unpowered sits.0) _ (copy.runs size sits.0 sits.1));
+      sits = (unpowered sits.0, copy.runs size sits.0 sits.1);
       took = copy.calls;
       counts = omega (arith, copy.calls c.args.caller);
-      lives = λ b r. none_yet _ (unpowered b) _ _ (off_sits size (unpowered b) _ (copy.runs size b r));
+      lives = λ b r. none_yet _ (unpowered b) _ _ (copy.runs size b r);
       wrote = λ b r. reports_as _ _ _ _ _ _ _ (sym (window_none c.args.within.from c.args.within.to)) (reports_none _ _ _ _);
       from = omega arith;
       to = omega arith;

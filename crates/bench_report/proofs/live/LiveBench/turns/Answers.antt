@@ -14,7 +14,7 @@ pub returns-then-is_still_on-clause-well : goal.returns-then-is_still_on-clause-
 returns-then-is_still_on-clause-well g c = λ enough size b was.
     let row = still_row size c.args.hart c.args.count c.in-Some.made c.in-Some.word b c.args.self.now.power c.in_place.new.power c.args.self.now.payloads (c.in-Some.ensures.reported size b) was
     (c.is_still_on.ensures.on c.if-is_still_on.true) (c.is_still_on.ensures.reported c.if-is_still_on.true size) in
-    (row.0, row.1, row.2, row.3, row.4 (c.refused_suspension-self.ensures enough))
+    (row.0, row.1, row.2, row.3, row.4 (c.refused_suspension-self.ensures.enough enough))
 
 pub returns-then-settle-clause-reported : goal.returns-then-settle-clause-reported
 returns-then-settle-clause-reported g c = λ size b was.
@@ -26,7 +26,7 @@ pub returns-then-settle-clause-well : goal.returns-then-settle-clause-well
 returns-then-settle-clause-well g c = λ enough size b was.
     let row = lost_row size c.args.hart c.args.count c.in-Some.made c.in-Some.word b c.args.self.now.power c.in_place.new.power c.args.self.now.payloads (c.in-Some.ensures.reported size b) was
     c.args.self.now.fill c.settle.result c.settle.new.self.power c.settle.new.self.payloads c.settle.ensures.payloads c.settle.ensures.settled c.if-settle.true in
-    (row.0, row.1, row.2, row.3, row.4 (c.refused_suspension-self.ensures (sym c.settle.ensures.memory ∙ enough)))
+    (row.0, row.1, row.2, row.3, row.4 (c.refused_suspension-self.ensures.enough (sym c.settle.ensures.memory ∙ enough)))
 
 pub returns-else-settle-clause-reported : goal.returns-else-settle-clause-reported
 returns-else-settle-clause-reported g c = λ size b was.
@@ -38,7 +38,7 @@ pub returns-else-settle-clause-well : goal.returns-else-settle-clause-well
 returns-else-settle-clause-well g c = λ enough size b was.
     let row = made_row size c.args.hart c.args.count c.in-Some.made c.in-Some.word b c.args.self.now.power c.in_place.new.power c.args.self.now.payloads (c.in-Some.ensures.reported size b) was
     c.args.self.now.fill c.settle.result c.settle.new.self.power c.settle.new.self.payloads c.settle.ensures.payloads c.settle.ensures.settled c.if-settle.false in
-    (row.0, row.1, row.2, row.3, row.4 (c.refused_suspension-self.ensures (sym c.settle.ensures.memory ∙ enough)))
+    (row.0, row.1, row.2, row.3, row.4 (c.refused_suspension-self.ensures.enough (sym c.settle.ensures.memory ∙ enough)))
 
 pub returns-in_default-clause-reported : goal.returns-in_default-clause-reported
 returns-in_default-clause-reported g c = λ size b was.

@@ -1,6 +1,0 @@
-use Rattle.std.proofs.Common.{subst}
-use Rattle.bench_report.specs.{declared.power.Power.Power, Agree.Agrees}
-use Rattle.bench_report.proofs.on_lines.turn_line.Goals as goal
-
-pub returns-in-On : goal.returns-in-On
-returns-in-On g c = λ size b h. let P : Power → Type 0 = λ p. Agrees size b p in c.turn.ensures size b (subst P c.in-On.is h)
