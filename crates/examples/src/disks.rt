@@ -6,7 +6,7 @@ ghost use Rattle.board_files.specs.Faults.{IsFileFault};
 use crate::files::Folder;
 use board_files::{
     BlockDevice, BlockSize, BoardFiles, ByteFile, DiskFile, DiskFiles, FormedFile, HeldFile,
-    MemoryFolder, PayloadFiles, SectorsInBlocks, kept_file, unreached,
+    MemoryFolder, PayloadFiles, SectorFile, SectorsInBlocks, kept_file, unreached,
 };
 use board_model::Refusal;
 use command_line::FileFault;
@@ -133,6 +133,32 @@ impl BlockDevice for MemoryBlocks {
     ghost earlier = { λ _. tt };
 }
 
+/// The sectors of a disk's file that a session keeps in it all along. Nothing is known of it.
+#[derive(Drop)]
+pub struct KeptBlocks {
+    pub sectors: SectorsInBlocks<MemoryBlocks>,
+}
+
+impl SectorFile for KeptBlocks {
+    ghost use Rattle.board_files.specs.Files.{Unknown};
+
+    ghost file_facts = { λ _. Unknown };
+
+    fn write_sector(&mut self, number: usize, sector: &Sector) -> io::Result<()> {
+        self.sectors.write_sector(number, sector)
+    }
+
+    fn sync(&mut self) -> io::Result<()> {
+        self.sectors.sync()
+    }
+
+    ghost may_keep = { λ _. tt };
+
+    ghost counts_now = { λ _. tt };
+
+    ghost earlier = { λ _. tt };
+}
+
 /// The payload files of a folder, and the disk's file of these bytes.
 #[derive(Clone, Copy)]
 pub struct SessionFiles<'a> {
@@ -189,7 +215,7 @@ impl BoardFiles for SessionFiles<'_> {
 
     type Held = MemoryDisk;
 
-    type Kept = SectorsInBlocks<MemoryBlocks>;
+    type Kept = KeptBlocks;
 
     ghost disk_at = { λ files path. None };
 
@@ -220,14 +246,14 @@ impl BoardFiles for SessionFiles<'_> {
         held: MemoryDisk,
         sectors: &[Sector],
         is_new: bool,
-    ) -> Result<SectorsInBlocks<MemoryBlocks>, FileFault> {
+    ) -> Result<KeptBlocks, FileFault> {
         let (alloc, size) = (held.alloc, held.formed.block);
         let folder = kept_file(held.formed, sectors.len(), is_new)?;
         let Some(bytes) = bytes_in(alloc, &folder) else {
             return Err(FileFault::refused(Refusal::Memory));
         };
         match SectorsInBlocks::new(alloc, MemoryBlocks { bytes, size }) {
-            Ok(kept) => Ok(kept),
+            Ok(sectors) => Ok(KeptBlocks { sectors }),
             Err(_) => Err(FileFault::refused(Refusal::Memory)),
         }
     }

@@ -6,11 +6,10 @@
 //! other part begins with another disk's file, an empty one, or one of so many zeros where it says `D has N zeros`.
 
 use crate::console::{Screen, Typed};
-use crate::disks::{Failing, MemoryBlocks, MemoryDisk, SessionFiles};
+use crate::disks::{Failing, KeptBlocks, MemoryDisk, SessionFiles};
 use crate::files::Folder;
 use crate::streams::{ALL, Input, Output, Room};
 use bench_program::Pipe;
-use board_files::SectorsInBlocks;
 use board_session::{FileLeft, Streams, examine_on, operate_on};
 use std::alloc::{AllocError, Global};
 use std::io::{self, BufWriter, Write};
@@ -126,15 +125,12 @@ struct Came {
 }
 
 /// What then stands in the file of the disk, where those bytes stood before. Where memory was refused it is empty.
-fn bytes_left(
-    files: &SessionFiles<'_>,
-    left: FileLeft<MemoryDisk, SectorsInBlocks<MemoryBlocks>>,
-) -> Vec<u8> {
+fn bytes_left(files: &SessionFiles<'_>, left: FileLeft<MemoryDisk, KeptBlocks>) -> Vec<u8> {
     let alloc = files.payloads.rt.alloc();
     let bytes = match left {
         FileLeft::None => Vec::from_slice(alloc, files.disk).ok(),
         FileLeft::AtEnd(held, _disk) => held.bytes(),
-        FileLeft::AllAlong(kept, _moments) => Some(kept.into_device().bytes),
+        FileLeft::AllAlong(kept, _moments) => Some(kept.sectors.into_device().bytes),
     };
     bytes.unwrap_or(Vec::new(alloc))
 }
