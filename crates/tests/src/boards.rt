@@ -176,10 +176,10 @@ fn new_marks(rt: &impl Abort, alloc: Global, parts: u32) -> Marks
 
 /// Runs the harts of a board that was powered on fresh under that gate, with its console: how the loop of its first hart ends, and what
 /// its console writes.
-pub fn driven<R: Threads + Wait + Clock + Abort + Sync>(
+pub fn driven<R: Threads + Wait + Clock + Abort + Sync, G: Gate + Sync>(
     rt: &R,
     alloc: Global,
-    gate: &(dyn Gate + Sync),
+    gate: &G,
     trial: BoardTrial<'_>,
 ) -> (End, Vec<u8>) {
     let (harts, pages, lanes) = trial.size;
@@ -190,7 +190,7 @@ pub fn driven<R: Threads + Wait + Clock + Abort + Sync>(
         rt.panic("no board")
     };
     let marks = new_marks(rt, alloc, shape.harts() + 2);
-    driven_as::<Brand, R>(rt, alloc, gate, trial, parts, marks, &shape)
+    driven_as::<Brand, R, G>(rt, alloc, gate, trial, parts, marks, &shape)
 }
 
 /// The store of a life that has just begun, with its books, shared by its console and so many harts; the console's part, those of the
@@ -233,10 +233,10 @@ fn shared<J: Threaded>(
 }
 
 /// Runs those parts of a board, of a journal that has a name, with the marks of its life.
-fn driven_as<J: Threaded + Send + Sync, R: Threads + Wait + Clock + Abort + Sync>(
+fn driven_as<J: Threaded + Send + Sync, R: Threads + Wait + Clock + Abort + Sync, G: Gate + Sync>(
     rt: &R,
     alloc: Global,
-    gate: &(dyn Gate + Sync),
+    gate: &G,
     trial: BoardTrial<'_>,
     parts: BoardParts<SimDisk>,
     marks: Marks,
@@ -309,7 +309,7 @@ fn driven_as<J: Threaded + Send + Sync, R: Threads + Wait + Clock + Abort + Sync
     };
     let done = drive(
         rt,
-        &gate,
+        gate,
         board,
         booted,
         part,
