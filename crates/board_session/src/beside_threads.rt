@@ -232,16 +232,16 @@ pub(crate) fn run_board<
             (whole, shared.bus),
             back.loops,
             back.parts,
-            back.side,
+            back.side.side,
             boot,
         ),
     }
 }
 
 /// The loops that ended and the console that has left, or what comes back where no console could be begun.
-type Driven<'c, J, I, W> = Result<
+type Driven<'r, 'c, J, I, W> = Result<
     (Vec<Rested<'c, J>>, Talked<'c, J, I, W>),
-    Undriven<'c, J, ConsoleSide<J, I, W>>,
+    Undriven<'c, J, Attending<'r, 'c, J, I, W>>,
 >;
 
 /// Runs the harts on threads and the console beside them, with the bus and the store behind their locks, until all have ended.
@@ -262,7 +262,7 @@ fn drive_beside_console<
     whole: Unshared<D, J>,
     booted: BootedHarts<J>,
     side: ConsoleSide<J, I, W>,
-) -> (Unshared<D, J>, SharedHardware<J>, Driven<'c, J, I, W>)
+) -> (Unshared<D, J>, SharedHardware<J>, Driven<'r, 'c, J, I, W>)
     requires none { length (parts_with whole) ≡ 0 }
     requires shape { hardware.shape ≡ J.size }
     requires turns { booted.turns ≡ J.turns }
@@ -281,7 +281,7 @@ fn drive_beside_console<
         (party r.1.side.part.told r.1.side.heard))) }
     ensures loops { IfOk result.2 (λ r. vec_len r.0 ≡ vec_len booted.harts) }
     ensures numbered { IfOk result.2 (λ r. AreFromLast 0 (λ x. x.ended.hart.id) r.0.items) }
-    ensures side { IfErr result.2 (λ e. e.side ≡ side) }
+    ensures side { IfErr result.2 (λ e. e.side.side ≡ side) }
     ensures back { IfErr result.2 (λ e. vec_len e.loops + vec_len e.parts ≡ vec_len booted.harts) }
     ensures fresh { IfErr result.2 (λ e. All (λ p. p.receipts.told ≡ []) e.parts.items) }
 {
@@ -314,15 +314,6 @@ fn drive_beside_console<
                 (party result.side.part.told result.side.heard)) }
         { attend(rt, bus, store, given) },
     );
-    let driven = match driven {
-        Ok(done) => Ok(done),
-        Err(back) => Err(Undriven {
-            side: back.side.side,
-            refusal: back.refusal,
-            loops: back.loops,
-            parts: back.parts,
-        }),
-    };
     let whole = store_lock.into_inner().unshare();
     let bus = bus_lock.into_inner();
     (whole, SharedHardware { shape, tables, bus }, driven)
