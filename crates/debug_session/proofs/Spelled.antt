@@ -2,12 +2,12 @@
 use Rattle.std.proofs.Common.{◌≡◌, ◌∙◌, ℕ, ◌+◌, ◌-◌, ◌*◌, ◌/◌, ◌%◌, ◌<◌, Bool, true, false, List, [], ◌∷◌, ◌++◌, Option, Some, None, if◌then◌else◌, inl, inr, refl, ap, arith}
 use Rattle.std.{specs.Prelude.{◌==◌}, proofs.lemmas.List.append_assoc}
 use Rattle.std.proofs.lemmas.Bool.{eqb-true, eq-eqb, or_cases, or_parts, and_from, and_right, le-leb, lt-leb, lt-ltb, le-ltb, cases_lt}
-use Rattle.debug_session.specs.Packets.{is_special, toggled, body_of, sum_of, digit_of, value_of, behind, spelled_by, says_sum, payload_read}
+use Rattle.debug_session.specs.Packets.{is_special, toggled, body_of, sum_of, digit_of, value_of, led_by, spelled_by, says_sum, payload_read}
 
 -- bytes before bytes before a payload
-pub behind_both : (a b : List ℕ) (m : Option (List ℕ)) → behind (a ++ b) m ≡ behind a (behind b m)
-behind_both a b None = refl
-behind_both a b (Some p) = ap Some (append_assoc a b p)
+pub led_both : (a b : List ℕ) (m : Option (List ℕ)) → led_by (a ++ b) m ≡ led_by a (led_by b m)
+led_both a b None = refl
+led_both a b (Some p) = ap Some (append_assoc a b p)
 
 special_twice : (b : ℕ) → is_special b ≡ true → toggled (toggled b) ≡ b
 special_twice b e =
@@ -27,13 +27,13 @@ special_twice b e =
 plain_is_no_escape : (b : ℕ) → is_special b ≡ false → (b == 125) ≡ false
 plain_is_no_escape b e = (or_parts _ _ (or_parts _ _ (or_parts _ _ e).1).1).0
 
-spelled_step : (s : Bool) (b : ℕ) (more : List ℕ) → is_special b ≡ s → spelled_by false ((if s then 125 ∷ toggled b ∷ [] else b ∷ []) ++ more) ≡ behind (b ∷ []) (spelled_by false more)
-spelled_step true b more e = ap (λ x. behind (x ∷ []) (spelled_by false more)) (special_twice b e)
+spelled_step : (s : Bool) (b : ℕ) (more : List ℕ) → is_special b ≡ s → spelled_by false ((if s then 125 ∷ toggled b ∷ [] else b ∷ []) ++ more) ≡ led_by (b ∷ []) (spelled_by false more)
+spelled_step true b more e = ap (λ x. led_by (x ∷ []) (spelled_by false more)) (special_twice b e)
 spelled_step false b more e = rw (plain_is_no_escape b e) refl
 
 pub spelled_body : (payload : List ℕ) → spelled_by false (body_of payload) ≡ Some payload
 spelled_body [] = refl
-spelled_body (b ∷ more) = spelled_step (is_special b) b (body_of more) refl ∙ ap (behind (b ∷ [])) (spelled_body more)
+spelled_body (b ∷ more) = spelled_step (is_special b) b (body_of more) refl ∙ ap (led_by (b ∷ [])) (spelled_body more)
 
 digit_read : (n : ℕ) → n < 16 → value_of (digit_of n) ≡ Some n
 digit_read n l =

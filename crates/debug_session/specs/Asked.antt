@@ -1,7 +1,7 @@
 -- What a packet asks. Source: "Debugging with GDB", appendix "GDB Remote Serial Protocol", "Packets" and "General Query
 -- Packets".
 use Rattle.std.specs.Prelude.{ℕ, Bool, true, false, List, [], ◌∷◌, Option, Some, None, ◌==◌, ◌&&◌, nat_le, if◌then◌else◌, bytes_eq}
-use Rattle.debug_session.specs.Fields.{behind_prefix, number_of, two_numbers}
+use Rattle.debug_session.specs.Fields.{stripped, number_of, two_numbers}
 use Rattle.debug_session.specs.declared.requests.Object.{Object}
 use Rattle.debug_session.specs.declared.requests.Object.TheVariants as objects
 use Rattle.debug_session.specs.declared.requests.GdbLook.TheVariants as looks
@@ -76,7 +76,7 @@ placed sets kind place = if is_point kind then by_numbers (point_at sets kind) (
 
 abbrev pub point : Bool → List ℕ → GdbRequest
 point sets [] = asks.Look looks.Unknown
-point sets (kind ∷ rest) = or_other (placed sets kind) (asks.Look looks.Unknown) (behind_prefix (codes ",") rest)
+point sets (kind ∷ rest) = or_other (placed sets kind) (asks.Look looks.Unknown) (stripped (codes ",") rest)
 
 -- qXfer: a part of an object, by its offset and its length
 abbrev pub part : Object → List ℕ → GdbRequest
@@ -86,9 +86,9 @@ abbrev pub transfer : List ℕ → GdbRequest
 transfer object =
     or_other (part objects.Description)
     (or_other (part objects.MemoryMap)
-    (or_other (part objects.Threads) (asks.Look looks.Unknown) (behind_prefix (codes "threads:read::") object))
-    (behind_prefix (codes "memory-map:read::") object))
-    (behind_prefix (codes "features:read:target.xml:") object)
+    (or_other (part objects.Threads) (asks.Look looks.Unknown) (stripped (codes "threads:read::") object))
+    (stripped (codes "memory-map:read::") object))
+    (stripped (codes "features:read:target.xml:") object)
 
 -- q, where it is one of the words without arguments, of which qAttached may have one
 abbrev pub plain_query : List ℕ → GdbRequest
@@ -96,23 +96,23 @@ plain_query word =
     if bytes_eq word (codes "C") then (asks.Look looks.CurrentThread) else
     (if bytes_eq word (codes "fThreadInfo") then (asks.Look looks.FirstThreads) else
     (if bytes_eq word (codes "sThreadInfo") then (asks.Look looks.MoreThreads) else
-    or_other (λ process. (asks.Look looks.IsAttached)) (asks.Look looks.Unknown) (behind_prefix (codes "Attached") word)))
+    or_other (λ process. (asks.Look looks.IsAttached)) (asks.Look looks.Unknown) (stripped (codes "Attached") word)))
 
 abbrev pub query : List ℕ → GdbRequest
 query word =
     or_other (λ offers. (asks.Look looks.Supports))
     (or_other transfer
-    (or_other (λ line. (asks.Move moves.Monitor)) (plain_query word) (behind_prefix (codes "Rcmd,") word))
-    (behind_prefix (codes "Xfer:") word))
-    (behind_prefix (codes "Supported") word)
+    (or_other (λ line. (asks.Move moves.Monitor)) (plain_query word) (stripped (codes "Rcmd,") word))
+    (stripped (codes "Xfer:") word))
+    (stripped (codes "Supported") word)
 
 -- v
 abbrev pub verbose : List ℕ → GdbRequest
 verbose word =
     if bytes_eq word (codes "Cont?") then (asks.Look looks.Actions) else
     or_other (λ actions. (asks.Move moves.Resume))
-    (or_other (λ process. (asks.Look looks.Detach)) (asks.Look looks.Unknown) (behind_prefix (codes "Kill") word))
-    (behind_prefix (codes "Cont;") word)
+    (or_other (λ process. (asks.Look looks.Detach)) (asks.Look looks.Unknown) (stripped (codes "Kill") word))
+    (stripped (codes "Cont;") word)
 
 -- b
 abbrev pub backward : List ℕ → GdbRequest

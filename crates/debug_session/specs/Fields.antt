@@ -43,6 +43,6 @@ abbrev pub two_numbers : List ℕ → Option (ℕ × ℕ)
 two_numbers word = numbers_in (parted_at 44 word)
 
 -- what stands after a prefix
-abbrev pub behind_prefix : List ℕ → List ℕ → Option (List ℕ)
-behind_prefix prefix word =
+abbrev pub stripped : List ℕ → List ℕ → Option (List ℕ)
+stripped prefix word =
     if bytes_eq (take (length prefix) word) prefix then Some (drop (length prefix) word) else None

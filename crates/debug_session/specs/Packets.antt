@@ -37,16 +37,16 @@ value_of c =
     (if nat_le 65 c && nat_le c 70 then Some (c - 55) else None))
 
 -- bytes, and then that payload
-abbrev pub behind : List ℕ → Option (List ℕ) → Option (List ℕ)
-behind front None = None
-behind front (Some payload) = Some (front ++ payload)
+abbrev pub led_by : List ℕ → Option (List ℕ) → Option (List ℕ)
+led_by front None = None
+led_by front (Some payload) = Some (front ++ payload)
 
 -- the payload that a body spells, after an escape or not: none where it ends with an escape
 abbrev pub spelled_by : Bool → List ℕ → Option (List ℕ)
 spelled_by true [] = None
 spelled_by false [] = Some []
-spelled_by true (b ∷ more) = behind (toggled b ∷ []) (spelled_by false more)
-spelled_by false (b ∷ more) = if b == 125 then spelled_by true more else behind (b ∷ []) (spelled_by false more)
+spelled_by true (b ∷ more) = led_by (toggled b ∷ []) (spelled_by false more)
+spelled_by false (b ∷ more) = if b == 125 then spelled_by true more else led_by (b ∷ []) (spelled_by false more)
 
 -- two digits write that sum
 abbrev pub says_sum : Option ℕ → Option ℕ → ℕ → Bool

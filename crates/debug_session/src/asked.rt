@@ -3,7 +3,7 @@
 ghost use Rattle.std.specs.Prelude.{◌≡◌};
 ghost use Rattle.debug_session.specs.Asked.{alone, backward, by_letter, by_number, by_numbers, choice, chosen, chosen_thread, is_any, is_point, is_write, looked, moved, part, placed, plain_query, point, point_at, query, request_of, setting, talk, transfer, unchosen, verbose, watching};
 
-use crate::fields::{behind, is_text, number, two_numbers};
+use crate::fields::{is_text, number, strip_prefix, two_numbers};
 use crate::requests::{GdbLook, GdbRequest, Move, Object, Watching};
 
 /// What has nothing after it.
@@ -120,7 +120,7 @@ fn point(sets: bool, rest: &[u8]) -> GdbRequest
     let Some((kind, rest)) = rest.split_first() else {
         return GdbRequest::Look(GdbLook::Unknown);
     };
-    match behind(rest, b",") {
+    match strip_prefix(rest, b",") {
         None => GdbRequest::Look(GdbLook::Unknown),
         Some(place) => placed(sets, *kind, place),
     }
@@ -140,13 +140,13 @@ fn part(object: Object, place: &[u8]) -> GdbRequest
 fn transfer(object: &[u8]) -> GdbRequest
     ensures { result ≡ transfer object.now }
 {
-    if let Some(place) = behind(object, b"features:read:target.xml:") {
+    if let Some(place) = strip_prefix(object, b"features:read:target.xml:") {
         return part(Object::Description, place);
     }
-    if let Some(place) = behind(object, b"memory-map:read::") {
+    if let Some(place) = strip_prefix(object, b"memory-map:read::") {
         return part(Object::MemoryMap, place);
     }
-    match behind(object, b"threads:read::") {
+    match strip_prefix(object, b"threads:read::") {
         None => GdbRequest::Look(GdbLook::Unknown),
         Some(place) => part(Object::Threads, place),
     }
@@ -165,7 +165,7 @@ fn plain_query(word: &[u8]) -> GdbRequest
     if is_text(word, b"sThreadInfo") {
         return GdbRequest::Look(GdbLook::MoreThreads);
     }
-    match behind(word, b"Attached") {
+    match strip_prefix(word, b"Attached") {
         None => GdbRequest::Look(GdbLook::Unknown),
         Some(_) => GdbRequest::Look(GdbLook::IsAttached),
     }
@@ -175,13 +175,13 @@ fn plain_query(word: &[u8]) -> GdbRequest
 fn query(word: &[u8]) -> GdbRequest
     ensures { result ≡ query word.now }
 {
-    if let Some(_) = behind(word, b"Supported") {
+    if let Some(_) = strip_prefix(word, b"Supported") {
         return GdbRequest::Look(GdbLook::Supports);
     }
-    if let Some(object) = behind(word, b"Xfer:") {
+    if let Some(object) = strip_prefix(word, b"Xfer:") {
         return transfer(object);
     }
-    match behind(word, b"Rcmd,") {
+    match strip_prefix(word, b"Rcmd,") {
         None => plain_query(word),
         Some(_) => GdbRequest::Move(Move::Monitor),
     }
@@ -194,10 +194,10 @@ fn verbose(word: &[u8]) -> GdbRequest
     if is_text(word, b"Cont?") {
         return GdbRequest::Look(GdbLook::Actions);
     }
-    if let Some(_) = behind(word, b"Cont;") {
+    if let Some(_) = strip_prefix(word, b"Cont;") {
         return GdbRequest::Move(Move::Resume);
     }
-    match behind(word, b"Kill") {
+    match strip_prefix(word, b"Kill") {
         None => GdbRequest::Look(GdbLook::Unknown),
         Some(_) => GdbRequest::Look(GdbLook::Detach),
     }

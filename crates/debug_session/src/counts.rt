@@ -90,9 +90,9 @@ fn turn_in(line: &Line, left: u64) -> Result<(HartId, u32), u64>
 }
 
 /// The turn that came after `turns` others: its hart, its line, and how many turns of the line stand before it.
-pub(crate) fn turn_behind(lines: &[Line], turns: u64) -> Option<(HartId, usize, u32)>
+pub(crate) fn turn_after(lines: &[Line], turns: u64) -> Option<(HartId, usize, u32)>
     ensures place { IfSome result (λ p. IsPlace p.0 p.1 p.2 lines.now) }
-    ensures behind { IfSome result (λ p. turns_made (take p.1 lines.now) + p.2 ≡ turns) }
+    ensures others { IfSome result (λ p. turns_made (take p.1 lines.now) + p.2 ≡ turns) }
     ensures none { IfNone result (turns_made lines.now ≤ turns) }
 {
     let mut left = turns;

@@ -3,7 +3,7 @@
 ghost use Rattle.std.specs.Prelude.{◌≡◌, ◌<◌, Some, IfSome, bytes_eq};
 ghost use Rattle.std.specs.Option.{option_map};
 ghost use Rattle.debug_session.specs.Packets.{value_of};
-ghost use Rattle.debug_session.specs.Fields.{behind_prefix, number_of, parted_at, shifted, two_numbers};
+ghost use Rattle.debug_session.specs.Fields.{number_of, parted_at, shifted, stripped, two_numbers};
 
 use crate::digits::value;
 
@@ -68,8 +68,8 @@ pub(crate) fn is_text(word: &[u8], text: &[u8]) -> bool
 }
 
 /// What stands after a prefix.
-pub fn behind<'a>(word: &'a [u8], prefix: &[u8]) -> Option<&'a [u8]>
-    ensures { option_map (λ rest. rest.now) result ≡ behind_prefix prefix.now word.now }
+pub fn strip_prefix<'a>(word: &'a [u8], prefix: &[u8]) -> Option<&'a [u8]>
+    ensures { option_map (λ rest. rest.now) result ≡ stripped prefix.now word.now }
 {
     if word.len() < prefix.len() || &word[..prefix.len()] != prefix {
         return None;

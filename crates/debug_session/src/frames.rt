@@ -3,7 +3,7 @@
 ghost use Rattle.std.specs.Prelude.{◌≡◌, ◌∷◌, ◌++◌, ℕ, List, false, IfOk, OnOk};
 ghost use Rattle.std.specs.Option.{option_map};
 ghost use Rattle.debug_session.specs.Replies.{pair_of};
-ghost use Rattle.debug_session.specs.Packets.{is_special, toggled, escaped, body_of, sum_of, framed_of, behind, spelled_by, payload_read};
+ghost use Rattle.debug_session.specs.Packets.{is_special, toggled, escaped, body_of, sum_of, framed_of, led_by, spelled_by, payload_read};
 
 use crate::bytes::put_pair;
 use crate::digits::value;
@@ -87,10 +87,10 @@ pub fn framed(alloc: Global, payload: &[u8]) -> Result<Vec<u8>, AllocError>
 }
 
 /// Reads a byte of a body, after an escape or not: whether the next one stands after one.
-#[tactic(auto, using(crate::proofs::Spelled::behind_both))]
+#[tactic(auto, using(crate::proofs::Spelled::led_both))]
 fn spell(byte: u8, after_escape: bool, out: &mut Vec<u8>) -> Result<bool, AllocError>
-    ensures { IfOk result (λ next. (more : List ℕ) → behind out.new.items (spelled_by next more)
-        ≡ behind out.old.items (spelled_by after_escape (byte ∷ more))) }
+    ensures { IfOk result (λ next. (more : List ℕ) → led_by out.new.items (spelled_by next more)
+        ≡ led_by out.old.items (spelled_by after_escape (byte ∷ more))) }
 {
     if after_escape {
         out.push(toggled(byte))?;

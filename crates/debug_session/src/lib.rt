@@ -52,7 +52,7 @@ pub use bench_report::{LiveBench, TurnRow};
 pub use bytes::put_hex;
 pub use decoder::Decoder;
 pub use digits::{digit, value};
-pub use fields::{behind, number, parted, two_numbers};
+pub use fields::{number, parted, strip_prefix, two_numbers};
 pub use frames::{body, checksum, framed, payload_of};
 pub use halts::{HaltReason, Stop};
 pub use heard::{PacketEvent, PacketPlace};

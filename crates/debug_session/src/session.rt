@@ -19,7 +19,7 @@ ghost use Rattle.script_lang.specs.Scripts.{script_of};
 ghost use Rattle.script_lang.specs.Spellings.{IsWritable};
 
 use crate::back::{TurnPlace, Way, place_back};
-use crate::counts::turn_behind;
+use crate::counts::turn_after;
 use crate::forth::watched_turn;
 use crate::halts::{HaltReason, Stop};
 use crate::orders::ScriptOrder;
@@ -431,7 +431,7 @@ impl<'a, C: Crew> Session<'a, C> {
         ensures rest { KeepsRest self.old self.new }
         ensures begins { begins_of self.new ≡ begins_of self.old }
     {
-        let Some(found) = turn_behind(self.timeline.lines(), turns) else {
+        let Some(found) = turn_after(self.timeline.lines(), turns) else {
             return Ok(false);
         };
         self.timeline

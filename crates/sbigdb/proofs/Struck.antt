@@ -10,7 +10,7 @@ use Rattle.report_lines.specs.declared.printed.Answer.{Answer}
 use Rattle.bench_report.specs.{Agree.OffIs, Bench.{Bench, bench_with}, Happens.off, Steps.Moves, Views.fault_state, Lives.Shows}
 use Rattle.bench_report.{proofs.RunLines.run_more, specs.declared.live.LiveBench.LiveBench}
 use Rattle.debug_session.specs.Pasts.{some_turns}
-use Rattle.sbigdb.specs.Strikes.{ArmedBehind, RanTo, StopsBefore, StopsIn, count_in, hart_in, is_armed}
+use Rattle.sbigdb.specs.Strikes.{ArmedAfter, RanTo, StopsBefore, StopsIn, count_in, hart_in, is_armed}
 use Rattle.sbigdb.proofs.Partings.{split_here, take_here}
 
 -- ---- a run of lines
@@ -34,7 +34,7 @@ told_armed true FaultArmed is = refl
 told_armed true CutArmed is = refl
 
 pub armed_of : (size : Size) (start : List (List ℕ)) (those : List Line) (first last : LiveBench) (disk : SimDisk) (armed : Bool) → Shows size (bench_with start) first → RanTo size those first last
-    → ((z : Size) (b : Bench) → Shows z b last → OffIs z (off b) disk) → ((armed ≡ false) ↔ ((fault_state disk).armed ≡ Unarmed)) → ArmedBehind armed size start those
+    → ((z : Size) (b : Bench) → Shows z b last → OffIs z (off b) disk) → ((armed ≡ false) ↔ ((fault_state disk).armed ≡ Unarmed)) → ArmedAfter armed size start those
 armed_of size start those first last disk armed shows ran left is =
     let did = ran (bench_with start) shows in
     let at = left size did.1 did.3 in
@@ -54,10 +54,10 @@ row_ranged size all p next h n within is row many ranges =
     subst (IsLineInRange size) (sym is ∙ row_is next h n row many) (All-get_or (IsLineInRange size) all p next within ranges)
 
 -- after the line too
-pub struck_next : (size : Size) (start : List (List ℕ)) (all : List Line) (p : ℕ) (next : Line) → p < length all → next ≡ get_or all p next → ArmedBehind false size start (take (p + 1) all)
-    → ArmedBehind false size start (take p all ++ next ∷ [])
+pub struck_next : (size : Size) (start : List (List ℕ)) (all : List Line) (p : ℕ) (next : Line) → p < length all → next ≡ get_or all p next → ArmedAfter false size start (take (p + 1) all)
+    → ArmedAfter false size start (take p all ++ next ∷ [])
 struck_next size start all p next within is struck =
-    let P : List Line → Type 0 = λ xs. ArmedBehind false size start xs in subst P (rw add-one (take_here all p next within is)) struck
+    let P : List Line → Type 0 = λ xs. ArmedAfter false size start xs in subst P (rw add-one (take_here all p next within is)) struck
 
 stops_there : (size : Size) (start : List (List ℕ)) (all stop : List Line) (p : ℕ) (next : Line) → p < length all → next ≡ get_or all p next → StopsIn size start (take p all) next (hart_in next) stop
     → StopsBefore size start all stop
@@ -71,14 +71,14 @@ stops_there size start all stop p next within is stops = record {
 
 -- it strikes within a line that is no row of turns
 pub stops_line : (size : Size) (start : List (List ℕ)) (all stop : List Line) (p : ℕ) (next : Line) → p < length all → next ≡ get_or all p next → hart_in next ≡ None → stop ≡ take p all
-    → ArmedBehind true size start (take p all) → ArmedBehind false size start (take (p + 1) all) → StopsBefore size start all stop
+    → ArmedAfter true size start (take p all) → ArmedAfter false size start (take (p + 1) all) → StopsBefore size start all stop
 stops_line size start all stop p next within is none stands armed struck =
     let P : Option ℕ → Type 0 = λ hart. StopsIn size start (take p all) next hart stop in
     stops_there size start all stop p next within is (subst P (sym none) (stands, armed, struck_next size start all p next within is struck))
 
 -- it strikes within a turn of a row
 pub stops_turn : (size : Size) (start : List (List ℕ)) (all stop : List Line) (p : ℕ) (next : Line) (h n k : ℕ) → p < length all → next ≡ get_or all p next → hart_in next ≡ Some h → n ≡ count_in next → k < n
-    → stop ≡ take p all ++ some_turns h k → ArmedBehind true size start (take p all ++ some_turns h k) → ArmedBehind false size start (take p all ++ lines.Turn h (k + 1) ∷ []) → StopsBefore size start all stop
+    → stop ≡ take p all ++ some_turns h k → ArmedAfter true size start (take p all ++ some_turns h k) → ArmedAfter false size start (take p all ++ lines.Turn h (k + 1) ∷ []) → StopsBefore size start all stop
 stops_turn size start all stop p next h n k within is row many less stands armed struck =
     let P : Option ℕ → Type 0 = λ x. StopsIn size start (take p all) next x stop in
     stops_there size start all stop p next within is (subst P (sym row) (k, subst (λ (x : ℕ). k < x) many less, stands, armed, struck))

@@ -25,7 +25,7 @@ use Rattle.debug_session.specs.declared.session.Session.{Session}
 use Rattle.debug_session.specs.declared.stops.Stops.{Stops}
 use Rattle.debug_session.specs.Ats.{Ran}
 use Rattle.debug_session.specs.declared.timeline.Timeline.{Timeline}
-use Rattle.debug_session.specs.Fields.{behind_prefix}
+use Rattle.debug_session.specs.Fields.{stripped}
 use Rattle.sbigdb.specs.declared.asked.VCont.{VCont}
 use Rattle.sbigdb.specs.declared.asked.VCont.TheVariants as asked
 use Rattle.sbigdb.specs.declared.acts.Course.{Course}
@@ -136,7 +136,7 @@ LineRan (Some line) size old new said = (answer : Answer) × Ran size line answe
 abbrev pub ended_text : ℕ → List ℕ → List ℕ
 ended_text lines text =
     if nat_lt 65535 lines
-    then (text ++ codes "\n") ++ codes "# this is longer than a script may be: 65,535 lines behind the board line\n"
+    then (text ++ codes "\n") ++ codes "# this is longer than a script may be: 65,535 lines after the board line\n"
     else text ++ codes "\n"
 
 abbrev pub script_text : Size → List (List ℕ) → List Line → List ℕ
@@ -144,7 +144,7 @@ script_text size begins past = ended_text (length past) (history_text size begin
 
 -- the number of turns to which `goto` is to go, where a text says one
 abbrev pub goto_in : List ℕ → Option ℕ
-goto_in text = option_and_then number_of (behind_prefix (codes "goto ") text)
+goto_in text = option_and_then number_of (stripped (codes "goto ") text)
 
 -- All harts went on until the history had n turns, or to the first halt before. What the turns report is said, and where the
 -- history stands then.
@@ -197,9 +197,9 @@ MovedBy moves.StepBack packet old new told text =
     IsTold old new text × WentBack (runs_in old) (last_in new) (session_in old) (session_in new)
 MovedBy moves.GoBack packet old new told text =
     IsTold old new text × WentFarBack (runs_in old) (last_in new) (session_in old) (session_in new)
-MovedBy moves.Resume packet old new told text = ResumedBy (behind_prefix (codes "vCont;") packet) old new text
+MovedBy moves.Resume packet old new told text = ResumedBy (stripped (codes "vCont;") packet) old new text
 MovedBy moves.Monitor packet old new told text =
-    IsUntold old new × MonitoredBy (behind_prefix (codes "qRcmd,") packet) (size_of (session_in old)) (stops_of (session_in old)) (selected_in old)
+    IsUntold old new × MonitoredBy (stripped (codes "qRcmd,") packet) (size_of (session_in old)) (stops_of (session_in old)) (selected_in old)
     (timeline_of (session_in old)) (timeline_of (session_in new)) told text
 
 -- What looks changes neither the bench nor its history. What moves the board tells the console first, and its stop last.

@@ -55,15 +55,15 @@ pub record AnswersAll {I C : Type 0} (gives : I → Option PacketEvent → I →
   pub ended : (is_over_in new ≡ true) ⊎ ((after : I) × gives last None after)
 
 -- and so after one of them, unless it ended the talk
-abbrev pub AnswersBehind : {I C : Type 0} → (I → Option PacketEvent → I → Type 0) → I → Talk C → Talk C → List ℕ → Type 0
-AnswersBehind gives from mid new rest =
+abbrev pub AnswersAfter : {I C : Type 0} → (I → Option PacketEvent → I → Type 0) → I → Talk C → Talk C → List ℕ → Type 0
+AnswersAfter gives from mid new rest =
     ((is_over_in mid ≡ true) × (new ≡ mid) × (rest ≡ [])) ⊎ ((is_over_in mid ≡ false) × AnswersAll gives from mid new rest)
 
 -- The first thing that was heard, if there was one, is acknowledged already. It is answered, and whatever an iterator gives after it.
 abbrev pub AnswersFrom : {I C : Type 0} → Option PacketEvent → (I → Option PacketEvent → I → Type 0) → I → Talk C → Talk C → List ℕ → Type 0
 AnswersFrom None gives from old new sent = (new ≡ old) × (sent ≡ [])
 AnswersFrom {I} {C} (Some what) gives from old new sent =
-    (mid : Talk C) × (said : List ℕ) × (rest : List ℕ) × Says what old mid said × AnswersBehind gives from mid new rest
+    (mid : Talk C) × (said : List ℕ) × (rest : List ℕ) × Says what old mid said × AnswersAfter gives from mid new rest
     × (sent ≡ said ++ rest)
 
 -- A talk that begins: about the board that these lines leave, with no breakpoint, and hart 0 is shown and selected.

@@ -20,8 +20,8 @@ is_armed CutArmed = true
 
 -- These lines run from a blank disk on, with these payloads in the slots. After the last of them a fault is armed that has not struck,
 -- or none is.
-abbrev pub ArmedBehind : Bool → Size → List (List ℕ) → List Line → Type 0
-ArmedBehind armed size start those =
+abbrev pub ArmedAfter : Bool → Size → List (List ℕ) → List Line → Type 0
+ArmedAfter armed size start those =
     (answers : List Answer) × (b : Bench) × Run size (bench_with start) those answers b × (is_armed b.fault_state.armed ≡ armed)
 
 -- these lines ran, from any bench for which the one before stood
@@ -42,10 +42,10 @@ count_in line = 0
 -- in the one after them.
 abbrev pub StopsIn : Size → List (List ℕ) → List Line → Line → Option ℕ → List Line → Type 0
 StopsIn size start front next None stop =
-    (stop ≡ front) × ArmedBehind true size start front × ArmedBehind false size start (front ++ next ∷ [])
+    (stop ≡ front) × ArmedAfter true size start front × ArmedAfter false size start (front ++ next ∷ [])
 StopsIn size start front next (Some h) stop =
-    (k : ℕ) × (k < count_in next) × (stop ≡ front ++ some_turns h k) × ArmedBehind true size start (front ++ some_turns h k)
-    × ArmedBehind false size start (front ++ lines.Turn h (k + 1) ∷ [])
+    (k : ℕ) × (k < count_in next) × (stop ≡ front ++ some_turns h k) × ArmedAfter true size start (front ++ some_turns h k)
+    × ArmedAfter false size start (front ++ lines.Turn h (k + 1) ∷ [])
 
 -- Lines of a script up to where what it arms strikes: those in front of the line within which it does, and of a row of turns those before
 -- the turn.

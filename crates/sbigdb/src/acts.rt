@@ -6,7 +6,7 @@ ghost use Rattle.debug_session.specs.Sessions.{size_of, timeline_of, KeepsRest};
 ghost use Rattle.sbigdb.specs.Kept.{IsTalk, StaysOpen};
 ghost use Rattle.sbigdb.specs.Moved.{IsTold, MovedBy, ResumedBy, Took};
 ghost use Rattle.sbigdb.specs.Talks.{runs_in};
-ghost use Rattle.debug_session.specs.Fields.{behind_prefix};
+ghost use Rattle.debug_session.specs.Fields.{stripped};
 
 use crate::answers::PacketPayloads;
 use crate::asked::VCont;
@@ -146,7 +146,7 @@ impl<'a, C: Crew> Talk<'a, C> {
         requires at { IsAt (size_of self.old.session) (timeline_of self.old.session) }
         ensures at { OnOk result (IsAt (size_of self.new.session) (timeline_of self.new.session)) }
         ensures rest { KeepsRest self.old.session self.new.session }
-        ensures moved { IfOk result (λ v. ResumedBy (behind_prefix (codes "vCont;") packet.now) self.old self.new v.items) }
+        ensures moved { IfOk result (λ v. ResumedBy (stripped (codes "vCont;") packet.now) self.old self.new v.items) }
         ensures talk { IsTalk self.new.last self.old.runner self.old.takes_swbreak self.old.acknowledges self.old.is_over self.new }
     {
         let asked = asked_by(self.alloc(), self.session.setting().shape, packet)?;

@@ -12,7 +12,7 @@ use crate::replies::{hart_of, text_of};
 use crate::talk::Talk;
 use board_model::HartId;
 use crew::Crew;
-use debug_session::{GdbLook, WatchKind, Watching, Watchpoint, behind, parts};
+use debug_session::{GdbLook, WatchKind, Watching, Watchpoint, parts, strip_prefix};
 use std::alloc::AllocError;
 
 /// The watchpoint that a packet names. A watch on writes sees changes.
@@ -161,7 +161,7 @@ impl<'a, C: Crew> Talk<'a, C> {
         ensures hart { self.new.hart ≡ self.old.hart }
         ensures selected { self.new.selected ≡ self.old.selected }
     {
-        if let Some(offers) = behind(packet, b"qSupported:") {
+        if let Some(offers) = strip_prefix(packet, b"qSupported:") {
             let offers = parts(self.alloc(), offers)?;
             self.takes_swbreak = offers.iter().any(|w| *w == b"swbreak+".as_slice());
         }

@@ -9,7 +9,7 @@ ghost use Rattle.sbigdb.specs.Moved.{GotoOr, LineRan, MonitoredBy, TextSaid, Wen
 ghost use Rattle.sbigdb.specs.Texts.{when_text};
 ghost use Rattle.report_lines.specs.Texts.{report_text};
 ghost use Rattle.debug_session.specs.Turns.{turns_made};
-ghost use Rattle.debug_session.specs.Fields.{behind_prefix};
+ghost use Rattle.debug_session.specs.Fields.{stripped};
 ghost use Rattle.script_lang.specs.Lines.{IsLineInRange};
 
 use crate::answers::PacketPayloads;
@@ -17,7 +17,7 @@ use crate::talk::Talk;
 use crate::texts::{answer_text, harts_text, report_text, tell, when_text};
 use board_model::{HartId, Refusal, Shape, command_lines};
 use crew::Crew;
-use debug_session::{Session, behind};
+use debug_session::{Session, strip_prefix};
 use hex::FromHexError;
 use report_lines::Answer;
 use script_lang::{Line, board_line, number, parse_script};
@@ -39,7 +39,7 @@ Beside them:
   script    the history as a script, which sbibench runs to the same reports
   harts     what each hart stands at
   when      how many lives, lines and turns the history has, and the hart that is selected
-  goto N    back to before the turn that came behind N others; or on, to N turns
+  goto N    back to before the turn that came after N others; or on, to N turns
   help      this text
 After a line that moves the board, `maintenance flush register-cache` (flushregs) shows it.
 ",
@@ -115,7 +115,7 @@ fn end_script(script: &mut String, lines: usize) -> Result<(), AllocError>
     script.push_str("\n")?;
     if MOST_LINES < lines {
         script.push_str(
-            "# this is longer than a script may be: 65,535 lines behind the board line\n",
+            "# this is longer than a script may be: 65,535 lines after the board line\n",
         )
     } else {
         Ok(())
@@ -136,7 +136,7 @@ fn script_said<C: Crew>(session: &Session<'_, C>) -> Result<String, AllocError>
 fn goto_in(text: &[u8]) -> Option<u64>
     ensures { result ≡ goto_in text.now }
 {
-    number(behind(text, b"goto ")?)
+    number(strip_prefix(text, b"goto ")?)
 }
 
 /// A report of lines, and where the history stands.
@@ -265,14 +265,14 @@ impl<'a, C: Crew> Talk<'a, C> {
         requires none { out.old.items ≡ [] }
         ensures at { OnOk result (IsAt (size_of self.new.session) (timeline_of self.new.session)) }
         ensures rest { KeepsRest self.old.session self.new.session }
-        ensures moved { IfOk result (λ v. MonitoredBy (behind_prefix (codes "qRcmd,") packet.now) (size_of self.old.session)
+        ensures moved { IfOk result (λ v. MonitoredBy (stripped (codes "qRcmd,") packet.now) (size_of self.old.session)
             (stops_of self.old.session) self.old.selected
             (timeline_of self.old.session) (timeline_of self.new.session) (map (λ v. v.items) out.new.items) v.items) }
         ensures hart { self.new.hart ≡ self.old.hart }
         ensures selected { self.new.selected ≡ self.old.selected }
         ensures talk { StaysOpen self.old self.new }
     {
-        let Some(word) = behind(packet, b"qRcmd,") else {
+        let Some(word) = strip_prefix(packet, b"qRcmd,") else {
             return self.said(b"");
         };
         let Some(line) = unhex(self.alloc(), word)? else {

@@ -3,11 +3,11 @@
 ghost use Rattle.std.specs.Prelude.{◌≡◌, ◌<◌, ◌+◌, false, map, codes, IfOk, IfNone, IfSome};
 ghost use Rattle.sbigdb.specs.Resumes.{goers_by, is_going, steps, IsAskedBy, IsAskedIn, NoneSteps};
 ghost use Rattle.debug_session.specs.Actions.{first_asked};
-ghost use Rattle.debug_session.specs.Fields.{behind_prefix};
+ghost use Rattle.debug_session.specs.Fields.{stripped};
 
 use crate::asked::VCont;
 use board_model::Shape;
-use debug_session::{ResumeAction, action_for, are_known, behind, parts};
+use debug_session::{ResumeAction, action_for, are_known, parts, strip_prefix};
 use std::alloc::{AllocError, Global};
 
 /// The step that a hart is to make, if it is to make one.
@@ -80,9 +80,9 @@ fn asked_in(shape: &Shape, words: &[&[u8]]) -> VCont
 
 /// What the packet of a `vCont` asks.
 pub(crate) fn asked_by(alloc: Global, shape: &Shape, packet: &[u8]) -> Result<VCont, AllocError>
-    ensures { IfOk result (IsAskedBy shape.now (behind_prefix (codes "vCont;") packet.now)) }
+    ensures { IfOk result (IsAskedBy shape.now (stripped (codes "vCont;") packet.now)) }
 {
-    let Some(actions) = behind(packet, b"vCont;") else {
+    let Some(actions) = strip_prefix(packet, b"vCont;") else {
         return Ok(VCont::Nothing);
     };
     let words = parts(alloc, actions)?;

@@ -7,7 +7,7 @@ ghost use Rattle.script_lang.specs.declared.line.Line.TheVariants as lines;
 ghost use Rattle.bench_report.specs.Lives.{IsSound};
 ghost use Rattle.debug_session.specs.Pasts.{some_turns};
 ghost use Rattle.bench_report.specs.Views.{fault_state};
-ghost use Rattle.sbigdb.specs.Strikes.{ArmedBehind, RanTo, StopsBefore, count_in, hart_in};
+ghost use Rattle.sbigdb.specs.Strikes.{ArmedAfter, RanTo, StopsBefore, count_in, hart_in};
 
 use bench_report::{LiveBench, Setting, lane_by_lane};
 use bench_schedules::run_line;
@@ -48,13 +48,13 @@ fn is_armed_on(disk: &SimDisk) -> Result<bool, AllocError>
 
 /// Runs lines from a blank disk on, with these payloads in the slots. Answers whether a cut or a failure is armed then that has not
 /// struck.
-fn is_armed_behind<C: Crew>(
+fn is_armed_after<C: Crew>(
     setting: &Setting<'_, C>,
     payloads: &Payloads,
     lines: &[Line],
 ) -> Result<bool, AllocError>
     requires ranges { All (IsLineInRange setting.now.shape.now) lines.now }
-    ensures told { IfOk result (λ armed. ArmedBehind armed setting.now.shape.now payloads.now lines.now) }
+    ensures told { IfOk result (λ armed. ArmedAfter armed setting.now.shape.now payloads.now lines.now) }
 {
     let mut live = LiveBench::blank(setting.alloc, setting.shape, payloads)?;
     match run_lines(setting, lines, &mut live) {
@@ -90,23 +90,23 @@ fn struck_line<C: Crew>(
 ) -> Result<usize, AllocError>
     requires ranges { All (IsLineInRange setting.now.shape.now) lines.now }
     ensures within { IfOk result (λ place. place < length lines.now) }
-    ensures armed { IfOk result (λ place. ArmedBehind true setting.now.shape.now payloads.now (take place lines.now)) }
-    ensures struck { IfOk result (λ place. ArmedBehind false setting.now.shape.now payloads.now (take (place + 1) lines.now)) }
+    ensures armed { IfOk result (λ place. ArmedAfter true setting.now.shape.now payloads.now (take place lines.now)) }
+    ensures struck { IfOk result (λ place. ArmedAfter false setting.now.shape.now payloads.now (take (place + 1) lines.now)) }
 {
     let mut low = place_armed(lines);
     let mut high = lines.len();
     if high <= low {
         return Err(AllocError);
     }
-    if !is_armed_behind(setting, payloads, &lines[..low])? {
+    if !is_armed_after(setting, payloads, &lines[..low])? {
         return Err(AllocError);
     }
-    if is_armed_behind(setting, payloads, lines)? {
+    if is_armed_after(setting, payloads, lines)? {
         return Err(AllocError);
     }
     while low + 1 < high {
         let middle = low + (high - low) / 2;
-        if is_armed_behind(setting, payloads, &lines[..middle])? {
+        if is_armed_after(setting, payloads, &lines[..middle])? {
             low = middle;
         } else {
             high = middle;
@@ -125,13 +125,13 @@ fn is_armed_in<C: Crew>(
 ) -> Result<bool, AllocError>
     requires ranges { All (IsLineInRange setting.now.shape.now) front.old.items }
     requires row { IsLineInRange setting.now.shape.now (lines.Turn hart count) }
-    ensures told { IfOk result (λ armed. ArmedBehind armed setting.now.shape.now payloads.now
+    ensures told { IfOk result (λ armed. ArmedAfter armed setting.now.shape.now payloads.now
         (front.old.items ++ lines.Turn hart count ∷ [])) }
     ensures same { OnOk result (front.new.items ≡ front.old.items) }
 {
     let count_before = front.len();
     front.push(Line::Turn(hart, count))?;
-    let armed = is_armed_behind(setting, payloads, front)?;
+    let armed = is_armed_after(setting, payloads, front)?;
     front.truncate(count_before);
     Ok(armed)
 }
@@ -147,11 +147,11 @@ fn struck_turn<C: Crew>(
 ) -> Result<u32, AllocError>
     requires ranges { All (IsLineInRange setting.now.shape.now) front.old.items }
     requires row { IsLineInRange setting.now.shape.now (lines.Turn hart count) }
-    requires armed { ArmedBehind true setting.now.shape.now payloads.now front.old.items }
-    requires struck { ArmedBehind false setting.now.shape.now payloads.now (front.old.items ++ lines.Turn hart count ∷ []) }
+    requires armed { ArmedAfter true setting.now.shape.now payloads.now front.old.items }
+    requires struck { ArmedAfter false setting.now.shape.now payloads.now (front.old.items ++ lines.Turn hart count ∷ []) }
     ensures within { IfOk result (λ k. k < count) }
-    ensures armed { IfOk result (λ k. ArmedBehind true setting.now.shape.now payloads.now (front.old.items ++ some_turns hart k)) }
-    ensures struck { IfOk result (λ k. ArmedBehind false setting.now.shape.now payloads.now
+    ensures armed { IfOk result (λ k. ArmedAfter true setting.now.shape.now payloads.now (front.old.items ++ some_turns hart k)) }
+    ensures struck { IfOk result (λ k. ArmedAfter false setting.now.shape.now payloads.now
         (front.old.items ++ lines.Turn hart (k + 1) ∷ [])) }
     ensures same { OnOk result (front.new.items ≡ front.old.items) }
 {

@@ -2,7 +2,7 @@ use Rattle.std.proofs.Common.{◌≡◌, ◌∙◌, ◌<◌, ◌+◌, ◌++◌, 
 use Rattle.script_lang.specs.declared.line.Line.{Line}
 use Rattle.script_lang.specs.declared.line.Line.TheVariants as lines
 use Rattle.debug_session.specs.Pasts.{some_turns}
-use Rattle.sbigdb.{specs.Strikes.{ArmedBehind, count_in, hart_in}, proofs.Struck.{stop_ranged, stops_line, stops_turn}}
+use Rattle.sbigdb.{specs.Strikes.{ArmedAfter, count_in, hart_in}, proofs.Struck.{stop_ranged, stops_line, stops_turn}}
 use Rattle.sbigdb.proofs.strikes.lines_before.Goals as goal
 
 pub returns-in-None-clause-stops : goal.returns-in-None-clause-stops
@@ -15,8 +15,8 @@ returns-in-None-clause-stops g c =
     let same : c.deref.result.now ≡ all = c.deref.ensures.value in
     let within : p < length all = subst (λ (xs : List Line). p < length xs) same c.in_ok-place.ensures.within in
     let is : next ≡ get_or all p next = c.index-next.ensures in
-    let armed = subst (λ (xs : List Line). ArmedBehind true size start (take p xs)) same c.in_ok-place.ensures.armed in
-    let struck = subst (λ (xs : List Line). ArmedBehind false size start (take (p + 1) xs)) same c.in_ok-place.ensures.struck in
+    let armed = subst (λ (xs : List Line). ArmedAfter true size start (take p xs)) same c.in_ok-place.ensures.armed in
+    let struck = subst (λ (xs : List Line). ArmedAfter false size start (take (p + 1) xs)) same c.in_ok-place.ensures.struck in
     stops_line size start all c.truncate.new.self.items p next within is (sym c.hart_in-hart.ensures ∙ c.in-None.is) c.truncate.ensures.items armed struck
 
 pub returns-in_ok-add_turns-in-Some-clause-stops : goal.returns-in_ok-add_turns-in-Some-clause-stops
@@ -38,8 +38,8 @@ returns-in_ok-add_turns-in-Some-clause-stops g c =
     let front : c.truncate.new.self.items ≡ take p all = c.truncate.ensures.items in
     let stands : c.add_turns.new.lines.items ≡ take p all ++ some_turns h k =
     c.in_ok-add_turns-in-Some.ensures.added ∙ ap (λ (xs : List Line). xs ++ some_turns h k) (turn.same ∙ front) in
-    let armed = subst (λ (xs : List Line). ArmedBehind true size start (xs ++ some_turns h k)) front turn.armed in
-    let struck = subst (λ (xs : List Line). ArmedBehind false size start (xs ++ lines.Turn h (k + 1) ∷ [])) front turn.struck in
+    let armed = subst (λ (xs : List Line). ArmedAfter true size start (xs ++ some_turns h k)) front turn.armed in
+    let struck = subst (λ (xs : List Line). ArmedAfter false size start (xs ++ lines.Turn h (k + 1) ∷ [])) front turn.struck in
     stops_turn size start all c.add_turns.new.lines.items p next h n k within is row many turn.within stands armed struck
 
 pub returns-in_ok-add_turns-in-Some-clause-ranges : goal.returns-in_ok-add_turns-in-Some-clause-ranges

@@ -7,7 +7,7 @@ pub returns-clause-went : goal.returns-clause-went
 returns-clause-went g c =
     let p = c.in-Some.found in
     let P : List Line → Type 0 = λ xs. turns_made (take p.1 xs) + p.2 ≡ c.args.turns in
-    went_to p.0 p.1 p.2 c.args.turns c.args.self.now.timeline c.go_back.new.self (subst P c.lines.ensures c.in-Some.ensures.behind) c.in_ok-go_back.ensures.history c.in_ok-go_back.ensures.back
+    went_to p.0 p.1 p.2 c.args.turns c.args.self.now.timeline c.go_back.new.self (subst P c.lines.ensures c.in-Some.ensures.others) c.in_ok-go_back.ensures.history c.in_ok-go_back.ensures.back
 
 pub returns-in_default-clause-at : goal.returns-in_default-clause-at
 returns-in_default-clause-at g c = c.requires.at

@@ -1,6 +1,6 @@
 use Rattle.std.proofs.lemmas.Result.{IfOk-weaker}
 use Rattle.sbigdb.proofs.Struck.{armed_of}
-use Rattle.sbigdb.proofs.strikes.is_armed_behind.Goals as goal
+use Rattle.sbigdb.proofs.strikes.is_armed_after.Goals as goal
 
 pub returns-in-Ok : goal.returns-in-Ok
 returns-in-Ok g c = record {

@@ -1,6 +1,6 @@
 use Rattle.std.proofs.Common.{rules, ◌<◌, ◌∙◌, length, sym}
 use Rattle.debug_session.proofs.Histories.{place_at}
-use Rattle.debug_session.proofs.counts.turn_behind.Goals as goal
+use Rattle.debug_session.proofs.counts.turn_after.Goals as goal
 
 pub returns-in-Ok-clause-place : goal.returns-in-Ok-clause-place
 returns-in-Ok-clause-place c =
@@ -15,5 +15,5 @@ returns-in-Ok-clause-none c = tt
 pub returns-clause-place : goal.returns-clause-place
 returns-clause-place c = tt
 
-pub returns-clause-behind : goal.returns-clause-behind
-returns-clause-behind c = tt
+pub returns-clause-others : goal.returns-clause-others
+returns-clause-others c = tt
