@@ -253,29 +253,39 @@ fn compare_stories<R: thread::Threads + Sync>(folder: Folder<'_>) -> anyhow::Res
     Ok(compare_told(rt, LISTS, "seen", &seen, &wanted)?)
 }
 
-/// Compares the scripts of the folder and of its `cases`, tries its malformed lines, makes its `runs`, checks the kernels of its
-/// `checks`, has its `sessions`, and does what the lists of its `stories` ask. Answers whether all is well.
+/// Compares the scripts of the folder and of its `cases`, and tries its malformed lines. Answers whether all is well.
+fn compare_scripts<A: Crew, B: Crew>(
+    rt: &HostRuntime,
+    turns: &A,
+    threads: &B,
+    folder: &str,
+) -> io::Result<bool> {
+    let cases = format!(in rt.alloc(); "{folder}/{CASES}")?;
+    Ok(
+        compare_all(rt, turns, threads, folder)?
+            && compare_all(rt, turns, threads, &cases)?
+            && try_malformed(rt, folder)?,
+    )
+}
+
+/// Compares the scripts of the folder, makes its `runs`, checks the kernels of its `checks`, has its `sessions`, and does what the lists
+/// of its `stories` ask. Answers whether all is well.
 fn compare_folder<R: thread::Threads + Wait + Sync>(
     rt: &HostRuntime,
     threads: &R,
     folder: &str,
 ) -> anyhow::Result<bool> {
     let crews = (Sequential::<R>::new([0, 1, 2, 3])?, Threads::new(threads));
-    let cases = format!(in rt.alloc(); "{folder}/{CASES}")?;
     let runs = format!(in rt.alloc(); "{folder}/{RUNS}")?;
     let checks = format!(in rt.alloc(); "{folder}/{CHECKS}")?;
-    let checked = Folder {
-        rt,
-        path: checks.as_str(),
-    };
-    let is_well = compare_all(rt, &crews.0, &crews.1, folder)?
-        && compare_all(rt, &crews.0, &crews.1, &cases)?
-        && try_malformed(rt, folder)?
-        && compare_runs(threads, Folder { rt, path: folder }, &runs)?
-        && compare_checks(threads, checked)?
-        && compare_sessions(threads, Folder { rt, path: folder })?
-        && compare_stories::<R>(Folder { rt, path: folder })?;
-    Ok(is_well)
+    let (path, checked) = (folder, checks.as_str());
+    Ok(
+        compare_scripts(rt, &crews.0, &crews.1, folder)?
+            && compare_runs(threads, Folder { rt, path }, &runs)?
+            && compare_checks(threads, Folder { rt, path: checked })?
+            && compare_sessions(threads, Folder { rt, path })?
+            && compare_stories::<R>(Folder { rt, path })?,
+    )
 }
 
 fn main(rt: HostRuntime) -> anyhow::Result<ExitCode> {

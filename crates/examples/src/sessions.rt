@@ -177,7 +177,7 @@ fn examined(files: &SessionFiles<'_>, words: &[&str], asked: &Asked<'_>) -> io::
     })
 }
 
-/// Writes the lines of a text, each behind that mark.
+/// Writes the lines of a text, each after that mark.
 fn tell_lines(out: &mut Vec<u8>, mark: &str, text: &str) -> io::Result<()> {
     for line in text.lines() {
         writeln!(out, "{mark}{line}")?;
@@ -210,6 +210,26 @@ fn tell_streams(out: &mut Vec<u8>, came: &Came) -> io::Result<()> {
     }
 }
 
+/// What comes of the run that a part asks for, over a file of these bytes.
+fn come_of<R: Threads + Wait + Sync>(
+    threads: &R,
+    folder: Folder<'_>,
+    disk: &[u8],
+    asked: &Asked<'_>,
+) -> io::Result<Came> {
+    let words: Vec<&str> = asked.line.split(' ').collect(folder.rt.alloc())?;
+    let files = SessionFiles {
+        payloads: folder,
+        disk,
+        failing: asked.world.failing,
+    };
+    if asked.line.starts_with("sbidisk ") {
+        examined(&files, words.as_slice(), asked)
+    } else {
+        operated(threads, &files, words.as_slice(), asked)
+    }
+}
+
 /// Makes the run that a part asks for, over a file of these bytes, and writes the part anew. The bytes that are left.
 fn rerun<R: Threads + Wait + Sync>(
     threads: &R,
@@ -218,19 +238,8 @@ fn rerun<R: Threads + Wait + Sync>(
     part: &str,
     out: &mut Vec<u8>,
 ) -> io::Result<Vec<u8>> {
-    let alloc = folder.rt.alloc();
-    let asked = asked_by(alloc, part)?;
-    let words: Vec<&str> = asked.line.split(' ').collect(alloc)?;
-    let files = SessionFiles {
-        payloads: folder,
-        disk,
-        failing: asked.world.failing,
-    };
-    let came = if asked.line.starts_with("sbidisk ") {
-        examined(&files, words.as_slice(), &asked)?
-    } else {
-        operated(threads, &files, words.as_slice(), &asked)?
-    };
+    let asked = asked_by(folder.rt.alloc(), part)?;
+    let came = come_of(threads, folder, disk, &asked)?;
     tell_given(out, part)?;
     if !asked.world.is_status_alone {
         tell_streams(out, &came)?;
