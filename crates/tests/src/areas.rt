@@ -72,9 +72,9 @@ fn a_lane_ends_at_its_failure_and_the_others_go_on(rt: HostRuntime) {
 }
 
 /// All places that are in use.
-fn places(counts: LaneCounts) -> u64 {
+fn places(counts: &LaneCounts) -> u64 {
     let mut places = 0u64;
-    for count in counts {
+    for &count in counts {
         places = places.saturating_add(u64::from(count));
     }
     places
@@ -86,6 +86,6 @@ fn a_memory_of_any_size_is_written(rt: HostRuntime) {
     for k in 0..52u64 {
         let pages = 5 * k + 1;
         let counts = counts_by(&rt, rt.alloc(), [1, 3, 0, 2], pages, k % 4 + 1);
-        same(&rt, places(counts.expect(&rt, "a write")), pages);
+        same(&rt, places(&counts.expect(&rt, "a write")), pages);
     }
 }
